@@ -1,2 +1,9 @@
+pub mod Calls
+pub mod Counter
+pub mod CountingDraw
 pub mod Faults
+pub mod MemoryClock
+pub mod MemoryDraw
+pub mod MemorySink
+pub mod MemorySource
 pub mod Streams

@@ -4,6 +4,10 @@ ghost use Rattle.pol_wire.specs.Streams.{GivesNext};
 
 use crate::Failed;
 
+mod counter;
+pub(crate) mod counting;
+pub(crate) mod memory;
+
 /// Where words come from, as from a generator of random numbers.
 pub trait Draw {
     // The words that it will give from now on, where the object tells.

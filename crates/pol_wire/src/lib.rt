@@ -2,16 +2,23 @@
 //! words, each with forms in memory for tests and an adapter of the real one.
 #![tactic(auto)]
 
+mod calls;
 mod clock;
 mod draw;
 mod failed;
+mod faults;
 mod link;
 mod sink;
 mod source;
 
+pub use clock::memory::MemoryClock;
 pub use clock::{Clock, LAST_MOMENT};
 pub use draw::Draw;
+pub use draw::counting::CountingDraw;
+pub use draw::memory::MemoryDraw;
 pub use failed::Failed;
 pub use link::Link;
 pub use sink::Sink;
+pub use sink::memory::MemorySink;
 pub use source::Source;
+pub use source::memory::MemorySource;

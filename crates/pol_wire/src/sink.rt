@@ -5,6 +5,8 @@ ghost use Rattle.pol_wire.specs.Faults.{CountsFaults};
 
 use crate::Failed;
 
+pub(crate) mod memory;
+
 /// Where bytes go, as to a connection.
 pub trait Sink {
     // The bytes that it was given, where the object tells.

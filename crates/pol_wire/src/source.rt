@@ -5,6 +5,8 @@ ghost use Rattle.pol_wire.specs.Faults.{CountsFaults};
 
 use crate::Failed;
 
+pub(crate) mod memory;
+
 /// Bytes that come in, as from a connection.
 pub trait Source {
     // The bytes that are left to take, where the object tells.
