@@ -1,4 +1,5 @@
 pub mod Calls
+pub mod Counted
 pub mod Counter
 pub mod CountingDraw
 pub mod Faults

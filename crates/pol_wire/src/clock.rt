@@ -2,6 +2,7 @@ ghost use Rattle.std.specs.Prelude.{ℕ, ◌≤◌, [], ◌∷◌, Option, None}
 ghost use Rattle.pol_wire.specs.Streams.{IsShifted};
 
 pub(crate) mod memory;
+pub(crate) mod wall;
 
 /// The last moment that a clock answers, in milliseconds.
 pub const LAST_MOMENT: u64 = 1 << 62;

@@ -6,6 +6,7 @@ use crate::Failed;
 
 mod counter;
 pub(crate) mod counting;
+pub(crate) mod file;
 pub(crate) mod memory;
 
 /// Where words come from, as from a generator of random numbers.

@@ -12,13 +12,17 @@ mod sink;
 mod source;
 
 pub use clock::memory::MemoryClock;
+pub use clock::wall::WallClock;
 pub use clock::{Clock, LAST_MOMENT};
 pub use draw::Draw;
 pub use draw::counting::CountingDraw;
+pub use draw::file::FileDraw;
 pub use draw::memory::MemoryDraw;
 pub use failed::Failed;
 pub use link::Link;
 pub use sink::Sink;
 pub use sink::memory::MemorySink;
+pub use sink::writer::StdSink;
 pub use source::Source;
 pub use source::memory::MemorySource;
+pub use source::reader::StdSource;

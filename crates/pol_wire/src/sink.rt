@@ -6,6 +6,7 @@ ghost use Rattle.pol_wire.specs.Faults.{CountsFaults};
 use crate::Failed;
 
 pub(crate) mod memory;
+pub(crate) mod writer;
 
 /// Where bytes go, as to a connection.
 pub trait Sink {

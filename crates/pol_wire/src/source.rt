@@ -6,6 +6,7 @@ ghost use Rattle.pol_wire.specs.Faults.{CountsFaults};
 use crate::Failed;
 
 pub(crate) mod memory;
+pub(crate) mod reader;
 
 /// Bytes that come in, as from a connection.
 pub trait Source {
