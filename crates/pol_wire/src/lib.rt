@@ -10,6 +10,8 @@ mod faults;
 mod link;
 mod sink;
 mod source;
+#[cfg(test)]
+mod tests;
 
 pub use clock::memory::MemoryClock;
 pub use clock::wall::WallClock;
