@@ -1,0 +1,4 @@
+pub mod Laws
+pub mod Name
+pub mod Namespace
+pub mod Plain
