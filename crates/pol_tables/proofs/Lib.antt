@@ -1,0 +1,4 @@
+pub mod FactsLemmas
+pub mod RisingLemmas
+pub mod SameLemmas
+pub mod TableLemmas

@@ -1,0 +1,5 @@
+pub mod Changes
+pub mod Facts
+pub mod Rising
+pub mod Same
+pub mod Table

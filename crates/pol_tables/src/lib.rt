@@ -1,0 +1,13 @@
+//! Tables of rows by id, sets of facts, and the difference of two tables as a list of changes.
+#![tactic(auto)]
+
+mod fact;
+mod facts;
+mod keyed;
+pub mod laws;
+mod table;
+
+pub use fact::Fact;
+pub use facts::Facts;
+pub use keyed::Keyed;
+pub use table::Table;
