@@ -8,6 +8,7 @@ use Rattle.std.proofs.lemmas.Map.Keys.{IsDistinct-head, IsDistinct-tail}
 use Rattle.indexmap.specs.IndexSet.{insert_key, remove_key}
 use Rattle.pol_tables.specs.Same.{same}
 use Rattle.pol_tables.specs.Facts.{holds, facts_with, facts_without}
+use Rattle.pol_tables.proofs.ListLemmas.{each-weaken, filter-every}
 use Rattle.pol_tables.proofs.SameLemmas.{same-true, same-exact}
 
 module _ {T : Type 0} (code : Coded T) where
@@ -20,9 +21,9 @@ module _ {T : Type 0} (code : Coded T) where
   facts_with-new fact facts new = rw new refl
 
   -- a filter without a fact that isn't there keeps all
-  pub filter-absent : (fact : T) (facts : List T) → AllByRecursion (λ kept. same code fact kept ≡ false) facts → filter (λ kept. not (same code fact kept)) facts ≡ facts
-  filter-absent fact [] none = refl
-  filter-absent fact (kept ∷ facts) none = rw none.0 (ap (λ rest. kept ∷ rest) (filter-absent fact facts none.1))
+  pub filter-lacks : (fact : T) (facts : List T) → AllByRecursion (λ kept. same code fact kept ≡ false) facts → filter (λ kept. not (same code fact kept)) facts ≡ facts
+  filter-lacks fact facts none =
+      filter-every (λ kept. not (same code fact kept)) facts (each-weaken (λ kept. same code fact kept ≡ false) (λ kept. not (same code fact kept) ≡ true) facts (λ kept no_. ap not no_) none)
 
   remove-distinct : (fact : T) (facts : List T) → IsDistinct (same code) facts → remove_key (same code fact) facts ≡ facts_without code fact facts
   unfolding facts_without
@@ -30,7 +31,7 @@ module _ {T : Type 0} (code : Coded T) where
   remove-distinct fact (kept ∷ facts) differ =
       let rest = remove-distinct fact facts (IsDistinct-tail (same code) kept facts differ) in
       elim (cases_Bool (same code fact kept)) [
-        inl here ↦ rw here (sym (filter-absent fact facts (subst (λ other. AllByRecursion (λ later. same code other later ≡ false) facts) (sym (same-true code fact kept here)) (IsDistinct-head (same code) kept facts differ))))
+        inl here ↦ rw here (sym (filter-lacks fact facts (subst (λ other. AllByRecursion (λ later. same code other later ≡ false) facts) (sym (same-true code fact kept here)) (IsDistinct-head (same code) kept facts differ))))
       | inr other ↦ rw other (ap (λ later. kept ∷ later) rest)
       ]
 

@@ -1,4 +1,7 @@
+pub mod ChangesLemmas
 pub mod FactsLemmas
+pub mod ListLemmas
+pub mod ReplayLemmas
 pub mod RisingLemmas
 pub mod SameLemmas
 pub mod TableLemmas

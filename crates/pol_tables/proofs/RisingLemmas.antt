@@ -5,35 +5,8 @@ use Rattle.std.proofs.lemmas.Bool.{cases_Bool, eqb-true, ne_eqb}
 use Rattle.std.proofs.lemmas.Map.Keys.{IsDistinct-cons}
 use Rattle.pol_tables.specs.Rising.{KeysBelow, KeysAbove, KeysRise}
 use Rattle.pol_tables.specs.Table.{has_id, knows, rows_with, rows_without, IdsDiffer}
+use Rattle.pol_tables.proofs.ListLemmas.{each-push, each-filter, each-map, each-weaken}
 use Rattle.pol_tables.proofs.TableLemmas.{rows_with-known, rows_with-new}
-
--- what holds of each of a list's items holds after a push, a filter and a map
-module _ {X : Type 0} (P : X → Type 0) where
-  pub each-push : (xs : List X) (x : X) → AllByRecursion P xs → P x → AllByRecursion P (xs ++ x ∷ [])
-  each-push [] x all here = (here, tt)
-  each-push (y ∷ xs) x all here = (all.0, each-push xs x all.1 here)
-
-  pub each-append : (xs ys : List X) → AllByRecursion P xs → AllByRecursion P ys → AllByRecursion P (xs ++ ys)
-  each-append [] ys all more = more
-  each-append (x ∷ xs) ys all more = (all.0, each-append xs ys all.1 more)
-
-  pub each-filter : (p : X → Bool) (xs : List X) → AllByRecursion P xs → AllByRecursion P (filter p xs)
-  each-filter p [] all = tt
-  each-filter p (x ∷ xs) all =
-      let rest = each-filter p xs all.1 in
-      elim (p x) as (λ b. AllByRecursion P (cond b (x ∷ filter p xs) (filter p xs))) [ true ↦ (all.0, rest) | false ↦ rest ]
-
-  pub each-map : {Y : Type 0} (f : Y → X) (ys : List Y) → AllByRecursion (λ y. P (f y)) ys → AllByRecursion P (map f ys)
-  each-map f [] all = tt
-  each-map f (y ∷ ys) all = (all.0, each-map f ys all.1)
-
-  pub each-all : (xs : List X) → ((x : X) → P x) → AllByRecursion P xs
-  each-all [] every = tt
-  each-all (x ∷ xs) every = (every x, each-all xs every)
-
-pub each-weaken : {X : Type 0} (P Q : X → Type 0) (xs : List X) → ((x : X) → P x → Q x) → AllByRecursion P xs → AllByRecursion Q xs
-each-weaken P Q [] so all = tt
-each-weaken P Q (x ∷ xs) so all = (so x all.0, each-weaken P Q xs so all.1)
 
 module _ {R : Type 0} (key : R → ℕ) where
   pub KeysRise-nil : KeysRise key []

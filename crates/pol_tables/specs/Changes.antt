@@ -1,13 +1,14 @@
 -- The difference of two tables, and of two sets of facts, as a list of changes.
-use Rattle.std.specs.Prelude.{ℕ, Bool, true, false, not, if◌then◌else◌, List, [], ◌∷◌, ◌++◌, map, filter}
+use Rattle.std.specs.Prelude.{◌≡◌, ℕ, Bool, false, not, if◌then◌else◌, List, [], ◌∷◌, ◌++◌, map, filter}
 use Rattle.std.specs.Coded.{Coded}
-use Rattle.std.specs.List.{list_any, fold}
-use Rattle.pol_tables.specs.Same.{same}
-use Rattle.pol_tables.specs.Table.{knows}
+use Rattle.std.specs.List.{AllByRecursion}
+use Rattle.pol_tables.specs.Facts.{holds}
+use Rattle.pol_tables.specs.Rising.{KeysBelow}
+use Rattle.pol_tables.specs.Table.{knows, rows_with, rows_without}
 
 -- the rows of the new list that the old one hasn't as they are, in their order
 unfoldable pub new_rows : {R : Type 0} → Coded R → List R → List R → List R
-new_rows code old new = filter (λ row. not (list_any (same code row) old)) new
+new_rows code old new = filter (λ row. not (holds code row old)) new
 
 -- the ids of the old list that no row of the new one has, in their order
 unfoldable pub gone_ids : {R : Type 0} → (R → ℕ) → List R → List R → List ℕ
@@ -31,3 +32,12 @@ in_order before (fact ∷ facts) = placed before fact (in_order before facts)
 unfoldable pub fact_changes : {T Change : Type 0} → Coded T → (T → T → Bool) → (T → Change) → (T → Change) → List T → List T → List Change
 fact_changes code before put drop old new =
     map put (in_order before (new_rows code old new)) ++ map drop (in_order before (new_rows code new old))
+
+-- each row of the new list whose id the old one doesn't know is above all of the old one's
+abbrev pub NewAreAbove : {R : Type 0} → (R → ℕ) → List R → List R → Type 0
+NewAreAbove key old new = AllByRecursion (λ row. knows key (key row) old ≡ false → KeysBelow key (key row) old) new
+
+-- a change acts on the rows that a state has: a put puts its row, and a drop takes the row of its id away
+pub record ActsOnRows {S R Change : Type 0} (key : R → ℕ) (put : R → Change) (drop : ℕ → Change) (act : S → Change → S) (rows_in : S → List R) : Type 0 where
+  pub puts : (state : S) (row : R) → rows_in (act state (put row)) ≡ rows_with key row (rows_in state)
+  pub drops : (state : S) (id : ℕ) → rows_in (act state (drop id)) ≡ rows_without key id (rows_in state)
