@@ -9,7 +9,7 @@ use Rattle.pol_tables.specs.Same.{same}
 use Rattle.pol_tables.specs.Table.{has_id, knows, row_of, rows_with, rows_without, IdsDiffer}
 use Rattle.pol_tables.specs.Facts.{holds}
 use Rattle.pol_tables.specs.Changes.{new_rows, gone_ids, table_changes}
-use Rattle.pol_tables.proofs.ListLemmas.{each-append, each-push, each-filter, each-map, each-all, each-weaken, each-join, filter-every, filter-none, filter-alike}
+use Rattle.pol_tables.proofs.ListLemmas.{or_false, or_true, each-append, each-push, each-filter, each-map, each-all, each-weaken, each-join, filter-every, filter-none, filter-alike}
 use Rattle.pol_tables.proofs.SameLemmas.{same-refl, same-true, same-differ}
 use Rattle.pol_tables.proofs.RisingLemmas.{key-replaced}
 use Rattle.pol_tables.proofs.TableLemmas.{Lacks, replaced, is_some-row_of, knows-map, key-row_of, filter-only, lacks-unknown, rows_with-same, knows-lacks, filter-lacks, map-lacks, differ_head, differ_past, lacks_past, rows_with-known, rows_with-new}
@@ -21,10 +21,6 @@ module _ {R : Type 0} (code : Coded R) where
 
   pub holds-later : (row first : R) (rows : List R) → holds code row rows ≡ true → holds code row (first ∷ rows) ≡ true
   holds-later row first rows there = rw there (or_true (same code row first))
-    where
-      or_true : (b : Bool) → (b || true) ≡ true
-      or_true true = refl
-      or_true false = refl
 
   -- a list holds each of its rows, whatever follows them
   pub each_held : (rows more : List R) → AllByRecursion (λ row. holds code row (rows ++ more) ≡ true) rows
@@ -77,10 +73,6 @@ module _ {R : Type 0} (code : Coded R) where
     each_known (row ∷ rows) more =
         (rw (eq-eqb (key row) (key row) refl) refl,
          each-weaken (λ kept. knows key (key kept) (rows ++ more) ≡ true) (λ kept. knows key (key kept) (row ∷ (rows ++ more)) ≡ true) rows (λ kept there. rw there (or_true (has_id key (key kept) row))) (each_known rows more))
-      where
-        or_true : (b : Bool) → (b || true) ≡ true
-        or_true true = refl
-        or_true false = refl
 
     -- where the new list knows each id of the old one, none is gone
     pub gone_ids-none : (old new : List R) → AllByRecursion (λ row. knows key (key row) new ≡ true) old → gone_ids key old new ≡ []
@@ -116,10 +108,6 @@ module _ {R : Type 0} (code : Coded R) where
          each-join (λ row. has_id key (key first) row ≡ false) (λ row. (new : R) → key new ≡ key row → holds code new rows ≡ same code new row) (λ row. (new : R) → key new ≡ key row → holds code new (first ∷ rows) ≡ same code new row) rows
            (λ row other alone new is. rw (same-differ code new first (λ same_. true≢false (sym (eq-eqb (key first) (key row) (sym (ap key same_) ∙ is)) ∙ other))) (alone new is))
            (differ_head key first rows differ) (each_alone rows (differ_past key first rows differ)))
-      where
-        or_false : (b : Bool) → (b || false) ≡ b
-        or_false true = refl
-        or_false false = refl
 
     pub new_rows-map : (alter : R → R) → ((row : R) → key (alter row) ≡ key row) → (rows : List R) → IdsDiffer key rows → new_rows code rows (map alter rows) ≡ map alter (filter (λ row. not (same code (alter row) row)) rows)
     unfolding new_rows

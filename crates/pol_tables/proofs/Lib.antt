@@ -1,4 +1,5 @@
 pub mod ChangesLemmas
+pub mod FactChangesLemmas
 pub mod FactsLemmas
 pub mod ListLemmas
 pub mod ReplayLemmas

@@ -10,15 +10,11 @@ use Rattle.pol_tables.specs.Table.{has_id, knows, row_of, rows_with, rows_withou
 use Rattle.pol_tables.specs.Rising.{KeysBelow, KeysAbove, KeysRise}
 use Rattle.pol_tables.specs.Facts.{holds}
 use Rattle.pol_tables.specs.Changes.{new_rows, gone_ids, table_changes, NewAreAbove, ActsOnRows}
-use Rattle.pol_tables.proofs.ListLemmas.{each-filter, each-join, each-weaken}
+use Rattle.pol_tables.proofs.ListLemmas.{and_false, or_false, each-filter, each-join, each-weaken}
 use Rattle.pol_tables.proofs.SameLemmas.{same-true, same-differ}
 use Rattle.pol_tables.proofs.TableLemmas.{some_is, replaced, IdsDiffer-filter, knows-map, key-row_of, lacks-unknown, Lacks, is_some-row_of, knows-lacks, differ_head, differ_past, lacks_past, rows_with-known, rows_with-new}
 use Rattle.pol_tables.proofs.RisingLemmas.{KeysBelow-map, KeysBelow-push, KeysRise-filter, KeysRise-rows_with, KeysRise-rows_without, IdsDiffer-rising, rise_head, rise_tail, key-replaced, knows-above}
 use Rattle.pol_tables.proofs.ChangesLemmas.{holds-unknown}
-
-and_false : (b : Bool) → (b && false) ≡ false
-and_false true = refl
-and_false false = refl
 
 none_unknown : {A : Type 0} (found : Option A) → is_some found ≡ false → found ≡ None
 none_unknown None no_ = refl
@@ -248,10 +244,6 @@ module _ {R : Type 0} (key : R → ℕ) where
             let other = same-differ code row first (λ is. true≢false (sym (eq-eqb (key row) (key first) (ap key is)) ∙ apart)) in
             rw apart (rest (sym (ap (λ b. b || holds code row rows) other) ∙ held))
         ]
-      where
-        or_false : (b : Bool) → (b || false) ≡ b
-        or_false true = refl
-        or_false false = refl
 
     -- the old rows with all that is new put and all that is gone taken away
     abbrev rebuilt : List R → List R → List R

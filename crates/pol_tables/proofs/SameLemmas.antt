@@ -40,6 +40,12 @@ module _ {T : Type 0} (code : Coded T) where
   pub same-differ : (x y : T) → (x ≡ y → ⊥) → same code x y ≡ false
   same-differ x y differ = false_from_ne_true (same code x y) (λ so. differ (same-true x y so))
 
+  pub same-symmetric : (x y : T) → same code x y ≡ same code y x
+  same-symmetric x y = elim (cases_Bool (same code x y)) [
+      inl is ↦ is ∙ sym (ap (same code y) (same-true x y is) ∙ same-refl y)
+    | inr differ ↦ differ ∙ sym (same-differ y x (λ is. same-false x y differ (sym is)))
+    ]
+
   -- every exact test of equality is this one
   pub same-exact : (equal : T → T → Bool) → ((x y : T) → equal x y ≡ true → x ≡ y) → ((x : T) → equal x x ≡ true) → equal ≡ same code
   same-exact equal exact reflexive = λ i x y. by x y i

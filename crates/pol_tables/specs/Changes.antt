@@ -2,7 +2,9 @@
 use Rattle.std.specs.Prelude.{◌≡◌, ℕ, Bool, false, not, if◌then◌else◌, List, [], ◌∷◌, ◌++◌, map, filter}
 use Rattle.std.specs.Coded.{Coded}
 use Rattle.std.specs.List.{AllByRecursion}
-use Rattle.pol_tables.specs.Facts.{holds}
+use Rattle.std.specs.Ordering.{is_lt}
+use Rattle.std.specs.declared.cmp.Ordering.{Ordering}
+use Rattle.pol_tables.specs.Facts.{holds, facts_with, facts_without}
 use Rattle.pol_tables.specs.Rising.{KeysBelow}
 use Rattle.pol_tables.specs.Table.{knows, rows_with, rows_without}
 
@@ -18,20 +20,20 @@ gone_ids key old new = map key (filter (λ row. not (knows key (key row) new)) o
 unfoldable pub table_changes : {R Change : Type 0} → Coded R → (R → ℕ) → (R → Change) → (ℕ → Change) → List R → List R → List Change
 table_changes code key put drop old new = map put (new_rows code old new) ++ map drop (gone_ids key old new)
 
--- the list with this one put before the first that it comes before
-unfoldable pub placed : {T : Type 0} → (T → T → Bool) → T → List T → List T
-placed before fact [] = fact ∷ []
-placed before fact (next ∷ facts) = if before fact next then fact ∷ next ∷ facts else next ∷ placed before fact facts
+-- the list with the fact before the first that it is less than
+unfoldable pub placed : {T : Type 0} → (T → T → Ordering) → T → List T → List T
+placed cmp fact [] = fact ∷ []
+placed cmp fact (next ∷ facts) = if is_lt (cmp fact next) then fact ∷ next ∷ facts else next ∷ placed cmp fact facts
 
 -- the facts in rising order
-unfoldable pub in_order : {T : Type 0} → (T → T → Bool) → List T → List T
-in_order before [] = []
-in_order before (fact ∷ facts) = placed before fact (in_order before facts)
+unfoldable pub in_order : {T : Type 0} → (T → T → Ordering) → List T → List T
+in_order cmp [] = []
+in_order cmp (fact ∷ facts) = placed cmp fact (in_order cmp facts)
 
 -- a put for each fact that is new, and then a drop for each that is gone, each in rising order
-unfoldable pub fact_changes : {T Change : Type 0} → Coded T → (T → T → Bool) → (T → Change) → (T → Change) → List T → List T → List Change
-fact_changes code before put drop old new =
-    map put (in_order before (new_rows code old new)) ++ map drop (in_order before (new_rows code new old))
+unfoldable pub fact_changes : {T Change : Type 0} → Coded T → (T → T → Ordering) → (T → Change) → (T → Change) → List T → List T → List Change
+fact_changes code cmp put drop old new =
+    map put (in_order cmp (new_rows code old new)) ++ map drop (in_order cmp (new_rows code new old))
 
 -- each row of the new list whose id the old one doesn't know is above all of the old one's
 abbrev pub NewAreAbove : {R : Type 0} → (R → ℕ) → List R → List R → Type 0
@@ -41,3 +43,8 @@ NewAreAbove key old new = AllByRecursion (λ row. knows key (key row) old ≡ fa
 pub record ActsOnRows {S R Change : Type 0} (key : R → ℕ) (put : R → Change) (drop : ℕ → Change) (act : S → Change → S) (rows_in : S → List R) : Type 0 where
   pub puts : (state : S) (row : R) → rows_in (act state (put row)) ≡ rows_with key row (rows_in state)
   pub drops : (state : S) (id : ℕ) → rows_in (act state (drop id)) ≡ rows_without key id (rows_in state)
+
+-- a change acts on the facts that a state has: a put puts its fact, and a drop takes its fact away
+pub record ActsOnFacts {S T Change : Type 0} (code : Coded T) (put drop : T → Change) (act : S → Change → S) (facts_in : S → List T) : Type 0 where
+  pub puts : (state : S) (fact : T) → facts_in (act state (put fact)) ≡ facts_with code fact (facts_in state)
+  pub drops : (state : S) (fact : T) → facts_in (act state (drop fact)) ≡ facts_without code fact (facts_in state)
