@@ -1,4 +1,4 @@
-ghost use Rattle.std.specs.Prelude.{◌≡◌, ◌↔◌, ◌<◌, ◌≤◌, ◌+◌, [], length, true, false, IsTrue, OnOk};
+ghost use Rattle.std.specs.Prelude.{◌≡◌, ◌↔◌, ◌<◌, ◌≤◌, ◌+◌, [], length, true, false, IsTrue, IsOk, OnOk};
 ghost use Rattle.std.specs.Slice.Iter.{iter_rest};
 ghost use Rattle.std.specs.List.{IsDistinct};
 ghost use Rattle.pol_tables.specs.Same.{same};
@@ -70,6 +70,7 @@ impl<T: Fact> Facts<T> {
     pub fn reserve(&mut self, more: usize) -> Result<(), OutOfMemory>
         ensures facts { self.new.facts ≡ self.old.facts }
         ensures reserved { OnOk result (more ≤ self.new.room) }
+        ensures succeeds { more ≤ self.old.room → IsOk result }
         ensures room { self.old.room ≤ self.new.room }
     {
         Ok(self.set.reserve(more)?)
@@ -102,8 +103,7 @@ impl<T: Fact> Clone for Facts<T> {
     ghost is_clone = { λ source clone. clone.facts ≡ source.facts };
 
     fn clone(&self) -> Result<Self, AllocError> {
-        Ok(Facts {
-            set: self.set.clone()?,
-        })
+        let set = self.set.clone()?;
+        Ok(Facts { set })
     }
 }

@@ -11,3 +11,6 @@ pub use fact::Fact;
 pub use facts::Facts;
 pub use keyed::Keyed;
 pub use table::Table;
+
+#[cfg(test)]
+mod tests;

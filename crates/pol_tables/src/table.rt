@@ -1,4 +1,4 @@
-ghost use Rattle.std.specs.Prelude.{◌≡◌, ◌↔◌, ◌<◌, ◌≤◌, ◌+◌, [], length, true, false, IsTrue, IfSome, OnOk, option_copied};
+ghost use Rattle.std.specs.Prelude.{◌≡◌, ◌↔◌, ◌<◌, ◌≤◌, ◌+◌, [], length, true, false, IsTrue, IsOk, IfSome, OnOk, option_copied};
 ghost use Rattle.std.specs.Cmp.Lexicographic.{pointwise, lists_equiv, lists_per};
 ghost use Rattle.std.specs.Slice.Iter.{iter_rest};
 ghost use Rattle.pol_tables.specs.Table.{knows, row_of, rows_with, rows_without, IdsDiffer};
@@ -69,6 +69,7 @@ impl<R: Keyed> Table<R> {
     pub fn reserve(&mut self, more: usize) -> Result<(), OutOfMemory>
         ensures rows { self.new.rows ≡ self.old.rows }
         ensures reserved { OnOk result (more ≤ self.new.room) }
+        ensures succeeds { more ≤ self.old.room → IsOk result }
         ensures room { self.old.room ≤ self.new.room }
     {
         Ok(self.by_id.reserve(more)?)
@@ -103,9 +104,8 @@ impl<R: Keyed> Clone for Table<R> {
     ghost is_clone = { λ source clone. clone.rows ≡ source.rows };
 
     fn clone(&self) -> Result<Self, AllocError> {
-        Ok(Table {
-            by_id: self.by_id.clone()?,
-        })
+        let by_id = self.by_id.clone()?;
+        Ok(Table { by_id })
     }
 }
 

@@ -7,8 +7,8 @@ use Rattle.pol_tables.proofs.table.TableClone.clone.Given as given
 use Rattle.pol_tables.proofs.table.TableClone.clone.Goals as goal
 
 -- the copy has the entries of its source
-copied : (g : given.Over) (c : goal.In_ok-clone g) → c.in_ok-clone.field-0.entries ≡ c.self.inside.by_id.entries
-copied g c = entries_from_clone _ g.R.Clone.is_clone (λ x y e. search rules) g.met.R.Exact.clones_exactly _ _ c.in_ok-clone.ensures.cases
+copied : (g : given.Over) (c : goal.In_ok-by_id g) → c.in_ok-by_id.by_id.entries ≡ c.self.inside.by_id.entries
+copied g c = entries_from_clone _ g.R.Clone.is_clone (λ x y e. search rules) g.met.R.Exact.clones_exactly _ _ c.in_ok-by_id.ensures.cases
 
 pub invariant_of-result : goal.invariant_of-result
 invariant_of-result g c =
