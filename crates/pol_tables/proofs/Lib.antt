@@ -2,6 +2,7 @@ pub mod ChangesLemmas
 pub mod FactChangesLemmas
 pub mod FactsLemmas
 pub mod ListLemmas
+pub mod OrderLemmas
 pub mod ReplayLemmas
 pub mod RisingLemmas
 pub mod SameLemmas

@@ -5,11 +5,13 @@ mod fact;
 mod facts;
 mod keyed;
 pub mod laws;
+mod order;
 mod table;
 
 pub use fact::Fact;
 pub use facts::Facts;
 pub use keyed::Keyed;
+pub use order::sorted_facts;
 pub use table::Table;
 
 #[cfg(test)]

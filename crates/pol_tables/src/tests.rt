@@ -27,7 +27,7 @@ impl Keyed for Page {
     }
 }
 
-#[derive(Clone, Debug, Drop, PartialEq, Eq, Hash)]
+#[derive(Clone, Debug, Drop, PartialEq, Eq, PartialOrd, Ord, Hash)]
 struct Member {
     principal: u64,
     role: u64,
@@ -134,5 +134,25 @@ fn facts_stand_once_in_their_order(rt: HostRuntime) -> Result<(), Fail> {
     assert_eq!(rt; copy.len(), 2);
     assert!(rt; copy.contains(&Member { principal: 2, role: 1 }));
     assert!(rt; !copy.contains(&Member { principal: 2, role: 2 }));
+    Ok(())
+}
+
+#[test]
+fn facts_are_sorted_field_by_field(rt: HostRuntime) -> Result<(), Fail> {
+    let mut facts = Facts::new(rt.alloc());
+    for (principal, role) in [(2, 1), (1, 9), (10, 0), (1, 3)] {
+        facts.reserve(1)?;
+        facts.put(Member { principal, role });
+    }
+    let mut sorted = Vec::new(rt.alloc());
+    for member in facts.facts() {
+        sorted.push(member.clone()?)?;
+    }
+    let sorted = sorted_facts(sorted)?;
+    let pairs: Vec<(u64, u64)> = sorted
+        .iter()
+        .map(|member| (member.principal, member.role))
+        .collect(rt.alloc())?;
+    assert_eq!(rt; pairs.as_slice(), [(1, 3), (1, 9), (2, 1), (10, 0)].as_slice());
     Ok(())
 }
