@@ -1,18 +1,17 @@
 -- The difference of two tables whose rows' ids differ: of equal ones, and after a push, a replacement and a filter.
-use Rattle.std.proofs.Common.{◌≡◌, ℕ, Bool, true, false, not, cond, ◌||◌, List, [], ◌∷◌, ◌++◌, map, filter, Option, None, Some, is_some, nat_eq, refl, sym, ap, subst, ◌∙◌, inl, inr, true≢false, append-nil}
+use Rattle.std.proofs.Common.{◌≡◌, ℕ, Bool, true, false, not, cond, ◌||◌, List, [], ◌∷◌, ◌++◌, map, filter, Some, is_some, refl, sym, ap, subst, ◌∙◌, inl, inr, true≢false, append-nil}
 use Rattle.std.specs.Coded.{Coded}
 use Rattle.std.specs.List.{AllByRecursion}
-use Rattle.std.proofs.lemmas.Bool.{cases_Bool, eqb-true, eq-eqb, ne_eqb}
+use Rattle.std.proofs.lemmas.Bool.{cases_Bool, eq-eqb, ne_eqb}
 use Rattle.std.proofs.lemmas.List.Elements.{filter-append}
-use Rattle.std.proofs.lemmas.List.Folds.{list_any-append}
 use Rattle.pol_tables.specs.Same.{same}
 use Rattle.pol_tables.specs.Table.{has_id, knows, row_of, rows_with, rows_without, IdsDiffer}
 use Rattle.pol_tables.specs.Facts.{holds}
 use Rattle.pol_tables.specs.Changes.{new_rows, gone_ids, table_changes}
-use Rattle.pol_tables.proofs.ListLemmas.{or_false, or_true, each-append, each-push, each-filter, each-map, each-all, each-weaken, each-join, filter-every, filter-none, filter-alike}
-use Rattle.pol_tables.proofs.SameLemmas.{same-refl, same-true, same-differ}
+use Rattle.pol_tables.proofs.ListLemmas.{or_false, or_true, each-filter, each-all, each-weaken, each-join, filter-every, filter-none, filter-alike}
+use Rattle.pol_tables.proofs.SameLemmas.{same-refl, same-differ}
 use Rattle.pol_tables.proofs.RisingLemmas.{key-replaced}
-use Rattle.pol_tables.proofs.TableLemmas.{Lacks, replaced, is_some-row_of, knows-map, key-row_of, filter-only, lacks-unknown, rows_with-same, knows-lacks, filter-lacks, map-lacks, differ_head, differ_past, lacks_past, rows_with-known, rows_with-new}
+use Rattle.pol_tables.proofs.TableLemmas.{Lacks, replaced, is_some-row_of, knows-map, key-row_of, filter-only, lacks-unknown, rows_with-same, knows-lacks, filter-lacks, differ_head, differ_past, lacks_past, rows_with-known, rows_with-new}
 
 module _ {R : Type 0} (code : Coded R) where
   -- a row that stands first, and one that stands later
@@ -25,9 +24,10 @@ module _ {R : Type 0} (code : Coded R) where
   -- a list holds each of its rows, whatever follows them
   pub each_held : (rows more : List R) → AllByRecursion (λ row. holds code row (rows ++ more) ≡ true) rows
   each_held [] more = tt
-  each_held (row ∷ rows) more =
-      (holds-first row (rows ++ more),
-       each-weaken (λ kept. holds code kept (rows ++ more) ≡ true) (λ kept. holds code kept (row ∷ (rows ++ more)) ≡ true) rows (λ kept there. holds-later kept row (rows ++ more) there) (each_held rows more))
+  each_held (row ∷ rows) more = (
+    holds-first row (rows ++ more),
+    each-weaken (λ kept. holds code kept (rows ++ more) ≡ true) (λ kept. holds code kept (row ∷ (rows ++ more)) ≡ true) rows (λ kept there. holds-later kept row (rows ++ more) there) (each_held rows more),
+  )
 
   pub each_held_itself : (rows : List R) → AllByRecursion (λ row. holds code row rows ≡ true) rows
   each_held_itself rows = subst (λ all. AllByRecursion (λ row. holds code row all ≡ true) rows) (append-nil rows) (each_held rows [])
@@ -63,16 +63,17 @@ module _ {R : Type 0} (code : Coded R) where
     pub holds-unknown : (row : R) (rows : List R) → knows key (key row) rows ≡ false → holds code row rows ≡ false
     holds-unknown row [] unknown = refl
     holds-unknown row (first ∷ rows) unknown = elim (cases_Bool (has_id key (key row) first)) [
-        inl here ↦ absurd (true≢false (sym (ap (λ b. b || knows key (key row) rows) here) ∙ unknown))
+      | inl here ↦ absurd (true≢false (sym (ap (λ b. b || knows key (key row) rows) here) ∙ unknown))
       | inr other ↦ rw (same-differ code row first (λ is. true≢false (sym (eq-eqb (key row) (key first) (ap key is)) ∙ other))) (holds-unknown row rows (sym (ap (λ b. b || knows key (key row) rows) other) ∙ unknown))
-      ]
+    ]
 
     -- a list knows the id of each of its rows, whatever follows them
     pub each_known : (rows more : List R) → AllByRecursion (λ row. knows key (key row) (rows ++ more) ≡ true) rows
     each_known [] more = tt
-    each_known (row ∷ rows) more =
-        (rw (eq-eqb (key row) (key row) refl) refl,
-         each-weaken (λ kept. knows key (key kept) (rows ++ more) ≡ true) (λ kept. knows key (key kept) (row ∷ (rows ++ more)) ≡ true) rows (λ kept there. rw there (or_true (has_id key (key kept) row))) (each_known rows more))
+    each_known (row ∷ rows) more = (
+      rw (eq-eqb (key row) (key row) refl) refl,
+      each-weaken (λ kept. knows key (key kept) (rows ++ more) ≡ true) (λ kept. knows key (key kept) (row ∷ (rows ++ more)) ≡ true) rows (λ kept there. rw there (or_true (has_id key (key kept) row))) (each_known rows more),
+    )
 
     -- where the new list knows each id of the old one, none is gone
     pub gone_ids-none : (old new : List R) → AllByRecursion (λ row. knows key (key row) new ≡ true) old → gone_ids key old new ≡ []
@@ -103,11 +104,12 @@ module _ {R : Type 0} (code : Coded R) where
     -- where ids differ, a row is held exactly where it is the one under its id
     pub each_alone : (rows : List R) → IdsDiffer key rows → AllByRecursion (λ row. (new : R) → key new ≡ key row → holds code new rows ≡ same code new row) rows
     each_alone [] differ = tt
-    each_alone (first ∷ rows) differ =
-        (λ new is. rw (holds-unknown new rows (knows-lacks key (key new) rows (subst (λ id. Lacks key id rows) (sym is) (differ_head key first rows differ)))) (or_false (same code new first)),
-         each-join (λ row. has_id key (key first) row ≡ false) (λ row. (new : R) → key new ≡ key row → holds code new rows ≡ same code new row) (λ row. (new : R) → key new ≡ key row → holds code new (first ∷ rows) ≡ same code new row) rows
-           (λ row other alone new is. rw (same-differ code new first (λ same_. true≢false (sym (eq-eqb (key first) (key row) (sym (ap key same_) ∙ is)) ∙ other))) (alone new is))
-           (differ_head key first rows differ) (each_alone rows (differ_past key first rows differ)))
+    each_alone (first ∷ rows) differ = (
+      λ new is. rw (holds-unknown new rows (knows-lacks key (key new) rows (subst (λ id. Lacks key id rows) (sym is) (differ_head key first rows differ)))) (or_false (same code new first)),
+      each-join (λ row. has_id key (key first) row ≡ false) (λ row. (new : R) → key new ≡ key row → holds code new rows ≡ same code new row) (λ row. (new : R) → key new ≡ key row → holds code new (first ∷ rows) ≡ same code new row) rows
+          (λ row other alone new is. rw (same-differ code new first (λ same_. true≢false (sym (eq-eqb (key first) (key row) (sym (ap key same_) ∙ is)) ∙ other))) (alone new is))
+          (differ_head key first rows differ) (each_alone rows (differ_past key first rows differ)),
+    )
 
     pub new_rows-map : (alter : R → R) → ((row : R) → key (alter row) ≡ key row) → (rows : List R) → IdsDiffer key rows → new_rows code rows (map alter rows) ≡ map alter (filter (λ row. not (same code (alter row) row)) rows)
     unfolding new_rows
@@ -118,15 +120,17 @@ module _ {R : Type 0} (code : Coded R) where
     pub each_kept : (keep : R → Bool) (rows : List R) → IdsDiffer key rows → AllByRecursion (λ row. knows key (key row) (filter keep rows) ≡ keep row) rows
     each_kept keep [] differ = tt
     each_kept keep (first ∷ rows) differ =
-        let lacks = each-filter (λ row. has_id key (key first) row ≡ false) keep rows (differ_head key first rows differ) in
-        (by (keep first) (knows-lacks key (key first) (filter keep rows) lacks),
-         each-join (λ row. has_id key (key first) row ≡ false) (λ row. knows key (key row) (filter keep rows) ≡ keep row) (λ row. knows key (key row) (cond (keep first) (first ∷ filter keep rows) (filter keep rows)) ≡ keep row) rows
-           (λ row other kept. later (keep first) row other kept)
-           (differ_head key first rows differ) (each_kept keep rows (differ_past key first rows differ)))
+        let lacks = each-filter (λ row. has_id key (key first) row ≡ false) keep rows (differ_head key first rows differ) in (
+          by (keep first) (knows-lacks key (key first) (filter keep rows) lacks),
+          each-join (λ row. has_id key (key first) row ≡ false) (λ row. knows key (key row) (filter keep rows) ≡ keep row) (λ row. knows key (key row) (cond (keep first) (first ∷ filter keep rows) (filter keep rows)) ≡ keep row) rows
+              (λ row other kept. later (keep first) row other kept)
+              (differ_head key first rows differ) (each_kept keep rows (differ_past key first rows differ)),
+        )
       where
         by : (b : Bool) → knows key (key first) (filter keep rows) ≡ false → knows key (key first) (cond b (first ∷ filter keep rows) (filter keep rows)) ≡ b
         by true unknown = rw (eq-eqb (key first) (key first) refl) refl
         by false unknown = unknown
+
         later : (b : Bool) (row : R) → has_id key (key first) row ≡ false → knows key (key row) (filter keep rows) ≡ keep row → knows key (key row) (cond b (first ∷ filter keep rows) (filter keep rows)) ≡ keep row
         later true row other kept = rw (ne_eqb (key row) (key first) (λ is. true≢false (sym (eq-eqb (key first) (key row) (sym is)) ∙ other))) kept
         later false row other kept = kept
@@ -150,11 +154,11 @@ module _ {R : Type 0} (code : Coded R) where
     altered-one new old (row ∷ rows) differ found other =
         let rest = altered-one new old rows (differ_past key row rows differ) in
         elim (cases_Bool (has_id key (key new) row)) [
-          inl here ↦
-            let is : row ≡ old = some_is row old (sym (ap (λ b. cond b (Some row) (row_of key (key new) rows)) here) ∙ found) in
-            rw here (rw (ap (same code new) is ∙ other) (rw (altered-lacks new rows (lacks_past key (key new) row rows differ here)) (rw here refl)))
-        | inr apart ↦
-            rw apart (rw (same-refl code row) (rest (sym (ap (λ b. cond b (Some row) (row_of key (key new) rows)) apart) ∙ found) other))
+          | inl here ↦
+              let is : row ≡ old = some_is row old (sym (ap (λ b. cond b (Some row) (row_of key (key new) rows)) here) ∙ found) in
+              rw here (rw (ap (same code new) is ∙ other) (rw (altered-lacks new rows (lacks_past key (key new) row rows differ here)) (rw here refl)))
+          | inr apart ↦
+              rw apart (rw (same-refl code row) (rest (sym (ap (λ b. cond b (Some row) (row_of key (key new) rows)) apart) ∙ found) other))
         ]
       where
         some_is : (left right : R) → Some left ≡ Some right → left ≡ right

@@ -1,5 +1,5 @@
 -- The difference of two sets of facts: of equal ones, after a put, an append and a filter, and the way back.
-use Rattle.std.proofs.Common.{◌≡◌, Bool, true, false, not, cond, ◌||◌, ◌&&◌, List, [], ◌∷◌, ◌++◌, map, filter, refl, sym, ap, subst, ◌∙◌, inl, inr, append-nil, true≢false}
+use Rattle.std.proofs.Common.{◌≡◌, Bool, true, false, not, cond, ◌||◌, ◌&&◌, List, [], ◌∷◌, ◌++◌, map, filter, refl, sym, ap, subst, ◌∙◌, inl, inr, append-nil}
 use Rattle.std.specs.Coded.{Coded}
 use Rattle.std.specs.List.{AllByRecursion, IsDistinct, list_any, fold}
 use Rattle.std.specs.Ordering.{is_lt}
@@ -10,8 +10,8 @@ use Rattle.std.proofs.lemmas.Map.Keys.{IsDistinct-head, IsDistinct-tail}
 use Rattle.pol_tables.specs.Same.{same}
 use Rattle.pol_tables.specs.Facts.{holds, facts_with, facts_without}
 use Rattle.pol_tables.specs.Changes.{new_rows, placed, in_order, fact_changes, ActsOnFacts}
-use Rattle.pol_tables.proofs.ListLemmas.{and_false, and_true, or_swapped, each-all, each-weaken, filter-every, filter-none, filter-alike}
-use Rattle.pol_tables.proofs.SameLemmas.{same-refl, same-true, same-symmetric}
+use Rattle.pol_tables.proofs.ListLemmas.{and_false, and_true, or_swapped, each-all, each-weaken, filter-none, filter-alike}
+use Rattle.pol_tables.proofs.SameLemmas.{same-true, same-symmetric}
 use Rattle.pol_tables.proofs.FactsLemmas.{facts_with-known, facts_with-new}
 use Rattle.pol_tables.proofs.ChangesLemmas.{each_held, each_held_itself, new_rows-none, new_rows-itself, new_rows-append, new_rows-filter}
 
@@ -47,25 +47,26 @@ module _ {T : Type 0} (code : Coded T) where
   holds-filter fact keep (first ∷ facts) =
       let rest = holds-filter fact keep facts in
       elim (cases_Bool (same code fact first)) [
-        inl here ↦ rw here (ap (λ other. holds code fact (cond (keep other) (first ∷ filter keep facts) (filter keep facts))) (sym (same-true code fact first here)) ∙ at_here (keep fact) here rest)
-      | inr apart ↦ rw apart (elsewhere (keep first) apart ∙ rest)
+        | inl here ↦ rw here (ap (λ other. holds code fact (cond (keep other) (first ∷ filter keep facts) (filter keep facts))) (sym (same-true code fact first here)) ∙ at_here (keep fact) here rest)
+        | inr apart ↦ rw apart (elsewhere (keep first) apart ∙ rest)
       ]
     where
       at_here : (b : Bool) → same code fact first ≡ true → holds code fact (filter keep facts) ≡ (b && holds code fact facts) → holds code fact (cond b (first ∷ filter keep facts) (filter keep facts)) ≡ (b && true)
       at_here true here rest = rw here refl
       at_here false here rest = rest
+
       elsewhere : (b : Bool) → same code fact first ≡ false → holds code fact (cond b (first ∷ filter keep facts) (filter keep facts)) ≡ holds code fact (filter keep facts)
       elsewhere true apart = rw apart refl
       elsewhere false apart = refl
 
   pub holds-facts_with : (fact new : T) (facts : List T) → holds code fact (facts_with code new facts) ≡ (same code fact new || holds code fact facts)
   holds-facts_with fact new facts = elim (cases_Bool (holds code new facts)) [
-      inl known ↦ rw (facts_with-known code new facts known) (elim (cases_Bool (same code fact new)) [
-        inl is ↦ rw is (ap (λ other. holds code other facts) (same-true code fact new is) ∙ known)
+    | inl known ↦ rw (facts_with-known code new facts known) (elim (cases_Bool (same code fact new)) [
+      | inl is ↦ rw is (ap (λ other. holds code other facts) (same-true code fact new is) ∙ known)
       | inr apart ↦ rw apart refl
-      ])
+    ])
     | inr unknown ↦ rw (facts_with-new code new facts unknown) (pushed facts)
-    ]
+  ]
     where
       pushed : (held : List T) → holds code fact (held ++ new ∷ []) ≡ (same code fact new || holds code fact held)
       pushed [] = refl
@@ -85,9 +86,9 @@ module _ {T : Type 0} (code : Coded T) where
   unfolding new_rows
   new_rows-left_out keep facts =
       filter-alike (λ fact. not (holds code fact (filter keep facts))) (λ fact. not (keep fact)) facts
-        (each-weaken (λ fact. holds code fact facts ≡ true) (λ fact. not (holds code fact (filter keep facts)) ≡ not (keep fact)) facts
-          (λ fact held. ap not (holds-filter fact keep facts ∙ ap (λ b. keep fact && b) held ∙ and_true (keep fact)))
-          (each_held_itself code facts))
+      (each-weaken (λ fact. holds code fact facts ≡ true) (λ fact. not (holds code fact (filter keep facts)) ≡ not (keep fact)) facts
+      (λ fact held. ap not (holds-filter fact keep facts ∙ ap (λ b. keep fact && b) held ∙ and_true (keep fact)))
+      (each_held_itself code facts))
 
   -- where facts differ, each stands once
   filter-only : (fact : T) (facts : List T) → IsDistinct (same code) facts → holds code fact facts ≡ true → filter (λ kept. not (not (same code fact kept))) facts ≡ fact ∷ []
@@ -95,11 +96,11 @@ module _ {T : Type 0} (code : Coded T) where
   filter-only fact (first ∷ facts) differ held =
       let rest = filter-only fact facts (IsDistinct-tail (same code) first facts differ) in
       elim (cases_Bool (same code fact first)) [
-        inl here ↦
-          let is = same-true code fact first here in
-          let apart = subst (λ other. AllByRecursion (λ later. same code other later ≡ false) facts) (sym is) (IsDistinct-head (same code) first facts differ) in
-          rw here (λ i. sym is i ∷ none apart i)
-      | inr apart ↦ rw apart (rest (sym (ap (λ b. b || holds code fact facts) apart) ∙ held))
+        | inl here ↦
+            let is = same-true code fact first here in
+            let apart = subst (λ other. AllByRecursion (λ later. same code other later ≡ false) facts) (sym is) (IsDistinct-head (same code) first facts differ) in
+            rw here (λ i. sym is i ∷ none apart i)
+        | inr apart ↦ rw apart (rest (sym (ap (λ b. b || holds code fact facts) apart) ∙ held))
       ]
     where
       none : AllByRecursion (λ later. same code fact later ≡ false) facts → filter (λ kept. not (not (same code fact kept))) facts ≡ []

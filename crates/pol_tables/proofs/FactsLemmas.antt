@@ -1,5 +1,5 @@
 -- The facts of a set, put and taken.
-use Rattle.std.proofs.Common.{◌≡◌, Bool, true, false, not, cond, List, [], ◌∷◌, ◌++◌, filter, refl, sym, ap, subst, ◌∙◌, inl, inr}
+use Rattle.std.proofs.Common.{◌≡◌, Bool, true, false, not, List, [], ◌∷◌, ◌++◌, filter, refl, sym, ap, subst, ◌∙◌, inl, inr}
 use Rattle.std.specs.Coded.{Coded}
 use Rattle.std.specs.List.{AllByRecursion, IsDistinct, list_any}
 use Rattle.std.specs.Cmp.{IsEquivalence}
@@ -31,8 +31,8 @@ module _ {T : Type 0} (code : Coded T) where
   remove-distinct fact (kept ∷ facts) differ =
       let rest = remove-distinct fact facts (IsDistinct-tail (same code) kept facts differ) in
       elim (cases_Bool (same code fact kept)) [
-        inl here ↦ rw here (sym (filter-lacks fact facts (subst (λ other. AllByRecursion (λ later. same code other later ≡ false) facts) (sym (same-true code fact kept here)) (IsDistinct-head (same code) kept facts differ))))
-      | inr other ↦ rw other (ap (λ later. kept ∷ later) rest)
+        | inl here ↦ rw here (sym (filter-lacks fact facts (subst (λ other. AllByRecursion (λ later. same code other later ≡ false) facts) (sym (same-true code fact kept here)) (IsDistinct-head (same code) kept facts differ))))
+        | inr other ↦ rw other (ap (λ later. kept ∷ later) rest)
       ]
 
   -- a set whose keys are told apart by an exact test of equality

@@ -1,5 +1,5 @@
 -- A list in order that has the same facts as often as another is that list in rising order.
-use Rattle.std.proofs.Common.{◌≡◌, ℕ, suc, ◌+◌, ◌<◌, ◌≤◌, Bool, true, false, cond, List, [], ◌∷◌, refl, sym, ap, subst, ◌∙◌, inl, inr, true≢false, arith, length}
+use Rattle.std.proofs.Common.{◌≡◌, ℕ, suc, ◌+◌, ◌<◌, Bool, true, false, cond, List, [], ◌∷◌, refl, sym, ap, ◌∙◌, inl, inr, true≢false, arith}
 use Rattle.std.specs.Coded.{Coded}
 use Rattle.std.specs.Cmp.{IsStrictWeakOrder, IsTotalOrder}
 use Rattle.std.specs.List.{AllByRecursion, sum_by}
@@ -14,7 +14,7 @@ use Rattle.std.proofs.lemmas.List.Sums.{sum_by-cons}
 use Rattle.pol_tables.specs.Same.{same}
 use Rattle.pol_tables.specs.Changes.{placed, in_order}
 use Rattle.pol_tables.proofs.ListLemmas.{each-weaken}
-use Rattle.pol_tables.proofs.SameLemmas.{same-refl, same-true, same-differ}
+use Rattle.pol_tables.proofs.SameLemmas.{same-refl, same-differ}
 
 module _ {T : Type 0} (code : Coded T) (cmp : T → T → Ordering) (total : IsTotalOrder cmp) (ties : (left right : T) → cmp left right ≡ Equal → left ≡ right) where
   abbrev less : T → T → Bool
@@ -43,9 +43,10 @@ module _ {T : Type 0} (code : Coded T) (cmp : T → T → Ordering) (total : IsT
   -- a list in order by places is so fact by fact
   Ordered-from : (facts : List T) → IsSorted cmp facts → Ordered facts
   Ordered-from [] sorted = tt
-  Ordered-from (fact ∷ facts) sorted =
-      (recursion_from_All (λ later. less later fact ≡ false) facts (λ k d within. sorted_far less weak (fact ∷ facts) sorted 0 (suc k) d (omega arith) (omega arith)),
-       Ordered-from facts (λ k d low within. sorted_far less weak (fact ∷ facts) sorted (suc k) (suc (k + 1)) d (omega arith) (omega arith)))
+  Ordered-from (fact ∷ facts) sorted = (
+    recursion_from_All (λ later. less later fact ≡ false) facts (λ k d within. sorted_far less weak (fact ∷ facts) sorted 0 (suc k) d (omega arith) (omega arith)),
+    Ordered-from facts (λ k d low within. sorted_far less weak (fact ∷ facts) sorted (suc k) (suc (k + 1)) d (omega arith) (omega arith)),
+  )
 
   NoneLess-placed : (first fact : T) (facts : List T) → less fact first ≡ false → NoneLess first facts → NoneLess first (placed cmp fact facts)
   unfolding placed
@@ -53,8 +54,8 @@ module _ {T : Type 0} (code : Coded T) (cmp : T → T → Ordering) (total : IsT
   NoneLess-placed first fact (next ∷ facts) over none =
       let rest = NoneLess-placed first fact facts over none.1 in
       elim (less fact next) as (λ b. NoneLess first (cond b (fact ∷ next ∷ facts) (next ∷ placed cmp fact facts))) [
-        true ↦ (over, none)
-      | false ↦ (none.0, rest)
+        | true ↦ (over, none)
+        | false ↦ (none.0, rest)
       ]
 
   Ordered-placed : (fact : T) (facts : List T) → Ordered facts → Ordered (placed cmp fact facts)
@@ -63,10 +64,10 @@ module _ {T : Type 0} (code : Coded T) (cmp : T → T → Ordering) (total : IsT
   Ordered-placed fact (next ∷ facts) ordered =
       let rest = Ordered-placed fact facts ordered.1 in
       elim (cases_Bool (less fact next)) [
-        inl before ↦
-          let apart = weak.one_way fact next before in
-          rw before ((apart, each-weaken (λ later. less later next ≡ false) (λ later. less later fact ≡ false) facts (λ later over. weak.chain later next fact over apart) ordered.0), ordered)
-      | inr over ↦ rw over (NoneLess-placed next fact facts over ordered.0, rest)
+        | inl before ↦
+            let apart = weak.one_way fact next before in
+            rw before ((apart, each-weaken (λ later. less later next ≡ false) (λ later. less later fact ≡ false) facts (λ later over. weak.chain later next fact over apart) ordered.0), ordered)
+        | inr over ↦ rw over (NoneLess-placed next fact facts over ordered.0, rest)
       ]
 
   Ordered-in_order : (facts : List T) → Ordered (in_order cmp facts)
@@ -87,8 +88,8 @@ module _ {T : Type 0} (code : Coded T) (cmp : T → T → Ordering) (total : IsT
   often-placed fact new (next ∷ facts) =
       let rest = often-placed fact new facts in
       elim (less new next) as (λ b. often fact (cond b (new ∷ next ∷ facts) (next ∷ placed cmp new facts)) ≡ one fact new + often fact (next ∷ facts)) [
-        true ↦ sum_by-cons (one fact) new (next ∷ facts)
-      | false ↦ omega (arith, sum_by-cons (one fact) next (placed cmp new facts), sum_by-cons (one fact) next facts, rest)
+        | true ↦ sum_by-cons (one fact) new (next ∷ facts)
+        | false ↦ omega (arith, sum_by-cons (one fact) next (placed cmp new facts), sum_by-cons (one fact) next facts, rest)
       ]
 
   often-in_order : (fact : T) (facts : List T) → often fact (in_order cmp facts) ≡ often fact facts
@@ -111,9 +112,9 @@ module _ {T : Type 0} (code : Coded T) (cmp : T → T → Ordering) (total : IsT
 
   irreflexive : (fact : T) → less fact fact ≡ false
   irreflexive fact = elim (cases_Bool (less fact fact)) [
-      inl so ↦ weak.one_way fact fact so
+    | inl so ↦ weak.one_way fact fact so
     | inr no_ ↦ no_
-    ]
+  ]
 
   -- a fact that is less than the first of a list in order isn't in it
   absent : (fact first : T) (facts : List T) → less fact first ≡ true → Ordered (first ∷ facts) → often fact (first ∷ facts) ≡ 0
@@ -126,12 +127,12 @@ module _ {T : Type 0} (code : Coded T) (cmp : T → T → Ordering) (total : IsT
   same-order (fact ∷ left) (other ∷ right) first second alike =
       let rest = same-order left right first.1 second.1 in
       elim (cases_Bool (less fact other)) [
-        inl before ↦ absurd (omega (arith, often-first fact left, alike fact, absent fact other right before second))
-      | inr over ↦ elim (cases_Bool (less other fact)) [
-          inl after ↦ absurd (omega (arith, often-first other right, alike other, absent other fact left after first))
-        | inr under ↦
-            let is = tie fact other over under in
-            λ i. is i ∷ rest (λ each. omega (arith, alike each, sum_by-cons (one each) fact left, sum_by-cons (one each) other right, ap (one each) is)) i
+        | inl before ↦ absurd (omega (arith, often-first fact left, alike fact, absent fact other right before second))
+        | inr over ↦ elim (cases_Bool (less other fact)) [
+          | inl after ↦ absurd (omega (arith, often-first other right, alike other, absent other fact left after first))
+          | inr under ↦
+              let is = tie fact other over under in
+              λ i. is i ∷ rest (λ each. omega (arith, alike each, sum_by-cons (one each) fact left, sum_by-cons (one each) other right, ap (one each) is)) i
         ]
       ]
 
@@ -139,4 +140,4 @@ module _ {T : Type 0} (code : Coded T) (cmp : T → T → Ordering) (total : IsT
   pub in_order-sorted : (facts sorted : List T) → IsPermutation facts sorted → IsSorted cmp sorted → sorted ≡ in_order cmp facts
   in_order-sorted facts sorted moved is_sorted =
       same-order sorted (in_order cmp facts) (Ordered-from sorted is_sorted) (Ordered-in_order facts)
-        (λ fact. sum_by-IsPermutation (one fact) facts sorted moved ∙ sym (often-in_order fact facts))
+      (λ fact. sum_by-IsPermutation (one fact) facts sorted moved ∙ sym (often-in_order fact facts))

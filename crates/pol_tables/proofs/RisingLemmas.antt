@@ -1,8 +1,7 @@
 -- Lists of rows whose keys rise, pushed to, filtered and replaced in.
-use Rattle.std.proofs.Common.{◌≡◌, ℕ, ◌<◌, ◌≤◌, Bool, true, false, not, cond, List, [], ◌∷◌, ◌++◌, map, filter, nat_eq, refl, sym, ap, subst, ◌∙◌, inl, inr, ◌⊎◌, arith}
-use Rattle.std.specs.List.{AllByRecursion, IsDistinct}
+use Rattle.std.proofs.Common.{◌≡◌, ℕ, ◌<◌, ◌≤◌, Bool, true, false, not, cond, List, [], ◌∷◌, ◌++◌, map, filter, nat_eq, refl, inl, inr, arith}
+use Rattle.std.specs.List.{IsDistinct}
 use Rattle.std.proofs.lemmas.Bool.{cases_Bool, eqb-true, ne_eqb}
-use Rattle.std.proofs.lemmas.Map.Keys.{IsDistinct-cons}
 use Rattle.pol_tables.specs.Rising.{KeysBelow, KeysAbove, KeysRise}
 use Rattle.pol_tables.specs.Table.{has_id, knows, rows_with, rows_without, IdsDiffer}
 use Rattle.pol_tables.proofs.ListLemmas.{each-push, each-filter, each-map, each-weaken}
@@ -49,8 +48,8 @@ module _ {R : Type 0} (key : R → ℕ) where
   KeysRise-filter keep (row ∷ rows) rise =
       let rest = KeysRise-filter keep rows rise.1 in
       elim (keep row) as (λ b. KeysRise key (cond b (row ∷ filter keep rows) (filter keep rows))) [
-        true ↦ (each-filter (λ kept. key row < key kept) keep rows rise.0, rest)
-      | false ↦ rest
+        | true ↦ (each-filter (λ kept. key row < key kept) keep rows rise.0, rest)
+        | false ↦ rest
       ]
 
   -- rows may be altered where they keep their keys
@@ -72,16 +71,16 @@ module _ {R : Type 0} (key : R → ℕ) where
   -- a replacement under an id keeps each key
   pub key-replaced : (row kept : R) → key (cond (has_id key (key row) kept) row kept) ≡ key kept
   key-replaced row kept = elim (cases_Bool (has_id key (key row) kept)) [
-      inl here ↦ rw here (eqb-true (key row) (key kept) here)
+    | inl here ↦ rw here (eqb-true (key row) (key kept) here)
     | inr other ↦ rw other refl
-    ]
+  ]
 
   -- a known id's row may be put, and a new one's above all others
   pub KeysRise-rows_with : (row : R) (rows : List R) → KeysRise key rows → (knows key (key row) rows ≡ false → KeysBelow key (key row) rows) → KeysRise key (rows_with key row rows)
   KeysRise-rows_with row rows rise below = elim (cases_Bool (knows key (key row) rows)) [
-      inl known ↦ rw (rows_with-known key row rows known) (KeysRise-map (λ kept. cond (has_id key (key row) kept) row kept) (key-replaced row) rows rise)
+    | inl known ↦ rw (rows_with-known key row rows known) (KeysRise-map (λ kept. cond (has_id key (key row) kept) row kept) (key-replaced row) rows rise)
     | inr new ↦ rw (rows_with-new key row rows new) (KeysRise-push row rows rise (below new))
-    ]
+  ]
 
   pub KeysRise-rows_without : (id : ℕ) (rows : List R) → KeysRise key rows → KeysRise key (rows_without key id rows)
   unfolding rows_without
@@ -91,9 +90,10 @@ module _ {R : Type 0} (key : R → ℕ) where
   pub IdsDiffer-rising : (rows : List R) → KeysRise key rows → IdsDiffer key rows
   unfolding KeysRise IsDistinct
   IdsDiffer-rising [] rise = tt
-  IdsDiffer-rising (row ∷ rows) rise =
-      (each-map (λ id. nat_eq (key row) id ≡ false) key rows (each-weaken (λ later. key row < key later) (λ later. nat_eq (key row) (key later) ≡ false) rows (λ later above. ne_eqb (key row) (key later) (λ is. omega arith)) rise.0),
-       IdsDiffer-rising rows rise.1)
+  IdsDiffer-rising (row ∷ rows) rise = (
+    each-map (λ id. nat_eq (key row) id ≡ false) key rows (each-weaken (λ later. key row < key later) (λ later. nat_eq (key row) (key later) ≡ false) rows (λ later above. ne_eqb (key row) (key later) (λ is. omega arith)) rise.0),
+    IdsDiffer-rising rows rise.1,
+  )
 
   -- an id above all is unknown
   pub knows-below : (id : ℕ) (rows : List R) → KeysBelow key id rows → knows key id rows ≡ false

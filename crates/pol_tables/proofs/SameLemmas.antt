@@ -1,5 +1,5 @@
 -- Equality by code is equality.
-use Rattle.std.proofs.Common.{◌≡◌, Bool, true, false, ◌&&◌, refl, ap, sym, ◌∙◌, true≢false, inl, inr}
+use Rattle.std.proofs.Common.{◌≡◌, Bool, true, false, refl, ap, sym, ◌∙◌, true≢false, inl, inr}
 use Rattle.std.specs.Coded.{Coded}
 use Rattle.std.proofs.lemmas.Bool.{eqb-true, eq-eqb, and_parts, and_from, false_from_ne_true, cases_Bool}
 use base.Stored.{Gv, gnil, gnum, gcons}
@@ -42,9 +42,9 @@ module _ {T : Type 0} (code : Coded T) where
 
   pub same-symmetric : (x y : T) → same code x y ≡ same code y x
   same-symmetric x y = elim (cases_Bool (same code x y)) [
-      inl is ↦ is ∙ sym (ap (same code y) (same-true x y is) ∙ same-refl y)
+    | inl is ↦ is ∙ sym (ap (same code y) (same-true x y is) ∙ same-refl y)
     | inr differ ↦ differ ∙ sym (same-differ y x (λ is. same-false x y differ (sym is)))
-    ]
+  ]
 
   -- every exact test of equality is this one
   pub same-exact : (equal : T → T → Bool) → ((x y : T) → equal x y ≡ true → x ≡ y) → ((x : T) → equal x x ≡ true) → equal ≡ same code
@@ -52,6 +52,6 @@ module _ {T : Type 0} (code : Coded T) where
     where
       by : (x y : T) → equal x y ≡ same code x y
       by x y = elim (cases_Bool (equal x y)) [
-          inl yes_ ↦ yes_ ∙ sym (ap (same code x) (sym (exact x y yes_)) ∙ same-refl x)
+        | inl yes_ ↦ yes_ ∙ sym (ap (same code x) (sym (exact x y yes_)) ∙ same-refl x)
         | inr no_ ↦ no_ ∙ sym (same-differ x y (λ is. true≢false (sym (reflexive x) ∙ ap (equal x) is ∙ no_)))
-        ]
+      ]

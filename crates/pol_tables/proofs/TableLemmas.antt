@@ -1,8 +1,8 @@
 -- The rows of a table, found, put and taken, and the entries of the map that holds them.
-use Rattle.std.proofs.Common.{◌≡◌, ℕ, Bool, true, false, not, cond, ◌||◌, List, [], ◌∷◌, ◌++◌, map, filter, Option, None, Some, is_some, nat_eq, refl, sym, ap, subst, ◌∙◌, inl, inr, true≢false}
+use Rattle.std.proofs.Common.{◌≡◌, ℕ, Bool, true, false, not, cond, ◌||◌, List, [], ◌∷◌, ◌++◌, map, filter, None, Some, is_some, nat_eq, refl, sym, ap, subst, ◌∙◌, inl, inr, true≢false}
 use Rattle.std.specs.List.{AllByRecursion, IsDistinct}
 use Rattle.std.specs.Map.{keys_of, values_of, lookup, remove_entry, set_value}
-use Rattle.std.proofs.lemmas.Bool.{cases_Bool, eqb-true, eq-eqb}
+use Rattle.std.proofs.lemmas.Bool.{cases_Bool, eqb-true}
 use Rattle.std.proofs.lemmas.List.{map-append}
 use Rattle.std.proofs.lemmas.Map.Keys.{IsDistinct-cons, IsDistinct-head, IsDistinct-tail}
 use Rattle.pol_tables.proofs.ListLemmas.{each-filter, each-map, each-weaken, filter-every, filter-none}
@@ -72,8 +72,8 @@ module _ {R : Type 0} (key : R → ℕ) where
   remove-under_ids id (row ∷ rows) differ =
       let rest = remove-under_ids id rows (differ_past row rows differ) in
       elim (cases_Bool (has_id key id row)) [
-        inl here ↦ rw here (ap (λ kept. under_ids key kept) (sym (filter-lacks id rows (lacks_past id row rows differ here))))
-      | inr other ↦ rw other (ap (λ kept. (key row, row) ∷ kept) rest)
+        | inl here ↦ rw here (ap (λ kept. under_ids key kept) (sym (filter-lacks id rows (lacks_past id row rows differ here))))
+        | inr other ↦ rw other (ap (λ kept. (key row, row) ∷ kept) rest)
       ]
 
   -- writing a known id's row in the map writes it in the rows
@@ -82,8 +82,8 @@ module _ {R : Type 0} (key : R → ℕ) where
   replace-under_ids id new is (row ∷ rows) differ =
       let rest = replace-under_ids id new is rows (differ_past row rows differ) in
       elim (cases_Bool (has_id key id row)) [
-        inl here ↦ rw here (λ i. ((sym (eqb-true id (key row) here) ∙ is) i, new) ∷ ap (λ kept. under_ids key kept) (sym (map-lacks id new rows (lacks_past id row rows differ here))) i)
-      | inr other ↦ rw other (ap (λ kept. (key row, row) ∷ kept) rest)
+        | inl here ↦ rw here (λ i. ((sym (eqb-true id (key row) here) ∙ is) i, new) ∷ ap (λ kept. under_ids key kept) (sym (map-lacks id new rows (lacks_past id row rows differ here))) i)
+        | inr other ↦ rw other (ap (λ kept. (key row, row) ∷ kept) rest)
       ]
 
   pub rows_with-known : (row : R) (rows : List R) → knows key (key row) rows ≡ true → rows_with key row rows ≡ map (λ kept. cond (has_id key (key row) kept) row kept) rows
@@ -116,8 +116,8 @@ module _ {R : Type 0} (key : R → ℕ) where
       let rest = IdsDiffer-filter keep rows (differ_past row rows differ) in
       let lacks = each-filter (λ later. has_id key (key row) later ≡ false) keep rows (differ_head row rows differ) in
       elim (keep row) as (λ b. IdsDiffer key (cond b (row ∷ filter keep rows) (filter keep rows))) [
-        true ↦ IdsDiffer-cons row (filter keep rows) lacks rest
-      | false ↦ rest
+        | true ↦ IdsDiffer-cons row (filter keep rows) lacks rest
+        | false ↦ rest
       ]
 
   -- altering rows under their own ids leaves the ids that are known
@@ -135,10 +135,10 @@ module _ {R : Type 0} (key : R → ℕ) where
   rows_with-same new (row ∷ rows) differ found =
       let rest = rows_with-same new rows (differ_past row rows differ) in
       elim (cases_Bool (has_id key (key new) row)) [
-        inl here ↦
-          let is : row ≡ new = some_is row new (sym (ap (λ b. cond b (Some row) (row_of key (key new) rows)) here) ∙ found) in
-          rw here (λ i. sym is i ∷ map-lacks (key new) new rows (lacks_past (key new) row rows differ here) i)
-      | inr apart ↦ rw apart (ap (λ kept. row ∷ kept) (rest (sym (ap (λ b. cond b (Some row) (row_of key (key new) rows)) apart) ∙ found)))
+        | inl here ↦
+            let is : row ≡ new = some_is row new (sym (ap (λ b. cond b (Some row) (row_of key (key new) rows)) here) ∙ found) in
+            rw here (λ i. sym is i ∷ map-lacks (key new) new rows (lacks_past (key new) row rows differ here) i)
+        | inr apart ↦ rw apart (ap (λ kept. row ∷ kept) (rest (sym (ap (λ b. cond b (Some row) (row_of key (key new) rows)) apart) ∙ found)))
       ]
 
   -- the row of an id has it
@@ -147,10 +147,10 @@ module _ {R : Type 0} (key : R → ℕ) where
   key-row_of id row (first ∷ rows) found =
       let rest = key-row_of id row rows in
       elim (cases_Bool (has_id key id first)) [
-        inl here ↦
-          let is : first ≡ row = some_is first row (sym (ap (λ b. cond b (Some first) (row_of key id rows)) here) ∙ found) in
-          eqb-true id (key first) here ∙ ap key is
-      | inr apart ↦ rest (sym (ap (λ b. cond b (Some first) (row_of key id rows)) apart) ∙ found)
+        | inl here ↦
+            let is : first ≡ row = some_is first row (sym (ap (λ b. cond b (Some first) (row_of key id rows)) here) ∙ found) in
+            eqb-true id (key first) here ∙ ap key is
+        | inr apart ↦ rest (sym (ap (λ b. cond b (Some first) (row_of key id rows)) apart) ∙ found)
       ]
 
   -- where ids differ, the row of an id is the only one that has it
@@ -159,10 +159,10 @@ module _ {R : Type 0} (key : R → ℕ) where
   filter-only id row (first ∷ rows) differ found =
       let rest = filter-only id row rows (differ_past first rows differ) in
       elim (cases_Bool (has_id key id first)) [
-        inl here ↦
-          let is : first ≡ row = some_is first row (sym (ap (λ b. cond b (Some first) (row_of key id rows)) here) ∙ found) in
-          rw here (λ i. is i ∷ none (lacks_past id first rows differ here) i)
-      | inr apart ↦ rw apart (rest (sym (ap (λ b. cond b (Some first) (row_of key id rows)) apart) ∙ found))
+        | inl here ↦
+            let is : first ≡ row = some_is first row (sym (ap (λ b. cond b (Some first) (row_of key id rows)) here) ∙ found) in
+            rw here (λ i. is i ∷ none (lacks_past id first rows differ here) i)
+        | inr apart ↦ rw apart (rest (sym (ap (λ b. cond b (Some first) (row_of key id rows)) apart) ∙ found))
       ]
     where
       none : Lacks id rows → filter (λ kept. not (not (has_id key id kept))) rows ≡ []
@@ -172,9 +172,9 @@ module _ {R : Type 0} (key : R → ℕ) where
   pub lacks-unknown : (id : ℕ) (rows : List R) → knows key id rows ≡ false → Lacks id rows
   lacks-unknown id [] unknown = tt
   lacks-unknown id (row ∷ rows) unknown = elim (cases_Bool (has_id key id row)) [
-      inl here ↦ absurd (true≢false (sym (ap (λ b. b || knows key id rows) here) ∙ unknown))
+    | inl here ↦ absurd (true≢false (sym (ap (λ b. b || knows key id rows) here) ∙ unknown))
     | inr other ↦ (other, lacks-unknown id rows (sym (ap (λ b. b || knows key id rows) other) ∙ unknown))
-    ]
+  ]
 
   -- the entries are rows under their ids, and these are the rows
   pub record Holds (entries : List (ℕ × R)) (rows : List R) : Type 0 where

@@ -1,5 +1,5 @@
 -- Tables of rows by id: what contracts see of one, and the rows after each call.
-use Rattle.std.specs.Prelude.{ℕ, nat_eq, Bool, not, cond, if◌then◌else◌, List, [], ◌∷◌, ◌++◌, map, filter, Option}
+use Rattle.std.specs.Prelude.{ℕ, nat_eq, Bool, not, if◌then◌else◌, List, [], ◌∷◌, ◌++◌, map, filter, Option}
 use Rattle.std.specs.List.{find, list_any, IsDistinct}
 
 -- the rows of a table in their order, and how many more of them need no memory

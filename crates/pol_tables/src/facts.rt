@@ -66,7 +66,8 @@ impl<T: Fact> Facts<T> {
         self.set.contains(fact)
     }
 
-    /// Makes room for `more` facts, so that putting as many takes no memory.
+    /// Makes room for `more` facts, so that putting as many takes no memory. On an error the facts stay, and the room
+    /// does not shrink.
     pub fn reserve(&mut self, more: usize) -> Result<(), OutOfMemory>
         ensures facts { self.new.facts ≡ self.old.facts }
         ensures reserved { OnOk result (more ≤ self.new.room) }

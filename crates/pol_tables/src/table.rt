@@ -1,5 +1,5 @@
-ghost use Rattle.std.specs.Prelude.{◌≡◌, ◌↔◌, ◌<◌, ◌≤◌, ◌+◌, [], length, true, false, IsTrue, IsOk, IfSome, OnOk, option_copied};
-ghost use Rattle.std.specs.Cmp.Lexicographic.{pointwise, lists_equiv, lists_per};
+ghost use Rattle.std.specs.Prelude.{◌≡◌, ◌↔◌, ◌<◌, ◌≤◌, ◌+◌, [], length, true, false, IsTrue, IsOk, OnOk, option_copied};
+ghost use Rattle.std.specs.Cmp.Lexicographic.{pointwise, lists_per};
 ghost use Rattle.std.specs.Slice.Iter.{iter_rest};
 ghost use Rattle.pol_tables.specs.Table.{knows, row_of, rows_with, rows_without, IdsDiffer};
 
@@ -65,7 +65,8 @@ impl<R: Keyed> Table<R> {
         self.by_id.get(&id)
     }
 
-    /// Makes room for `more` rows, so that putting as many takes no memory.
+    /// Makes room for `more` rows, so that putting as many takes no memory. On an error the rows stay, and the room
+    /// does not shrink.
     pub fn reserve(&mut self, more: usize) -> Result<(), OutOfMemory>
         ensures rows { self.new.rows ≡ self.old.rows }
         ensures reserved { OnOk result (more ≤ self.new.room) }

@@ -104,7 +104,10 @@ fn rows_are_found_and_copied(rt: HostRuntime) -> Result<(), Fail> {
     copy.put(Page { id: 3, visits: 5 });
     assert!(rt; copy != table);
     assert_eq!(rt; copy.take(4), Some(Page { id: 4, visits: 1 }));
-    assert_eq!(rt; pages(rt.alloc(), &table)?.as_slice(), [(4, 1), (3, 2)].as_slice());
+    assert_eq!(rt;
+        pages(rt.alloc(), &table)?.as_slice(),
+        [(4, 1), (3, 2)].as_slice()
+    );
     Ok(())
 }
 
@@ -132,8 +135,18 @@ fn facts_stand_once_in_their_order(rt: HostRuntime) -> Result<(), Fail> {
     }
     let copy = facts.clone()?;
     assert_eq!(rt; copy.len(), 2);
-    assert!(rt; copy.contains(&Member { principal: 2, role: 1 }));
-    assert!(rt; !copy.contains(&Member { principal: 2, role: 2 }));
+    assert!(rt;
+        copy.contains(&Member {
+            principal: 2,
+            role: 1
+        })
+    );
+    assert!(rt;
+        !copy.contains(&Member {
+            principal: 2,
+            role: 2
+        })
+    );
     Ok(())
 }
 
@@ -153,6 +166,9 @@ fn facts_are_sorted_field_by_field(rt: HostRuntime) -> Result<(), Fail> {
         .iter()
         .map(|member| (member.principal, member.role))
         .collect(rt.alloc())?;
-    assert_eq!(rt; pairs.as_slice(), [(1, 3), (1, 9), (2, 1), (10, 0)].as_slice());
+    assert_eq!(rt;
+        pairs.as_slice(),
+        [(1, 3), (1, 9), (2, 1), (10, 0)].as_slice()
+    );
     Ok(())
 }

@@ -1,7 +1,7 @@
-use Rattle.std.proofs.Common.{◌≡◌, ap, sym, ◌∙◌, arith, nat_eq, true≢false}
+use Rattle.std.proofs.Common.{ap, sym, ◌∙◌, arith, nat_eq, true≢false}
 use Rattle.indexmap.specs.IndexMap.{insert_entry, values}
 use Rattle.indexmap.proofs.CallerLemmas.{insert_entry-new}
-use Rattle.pol_tables.specs.Table.{knows, rows_with}
+use Rattle.pol_tables.specs.Table.{rows_with}
 use Rattle.pol_tables.proofs.TableLemmas.{Holds, Holds-set, Holds-push, known, unknown}
 use Rattle.pol_tables.proofs.table.Table.put.Given as given
 use Rattle.pol_tables.proofs.table.Table.put.Goals as goal

@@ -1,11 +1,12 @@
 use Rattle.std.proofs.Common.{◌∙◌}
-use Rattle.pol_tables.proofs.TableLemmas.{Holds, Holds-remove, lookup-entries}
+use Rattle.pol_tables.proofs.TableLemmas.{Holds-remove, lookup-entries}
 use Rattle.pol_tables.proofs.table.Table.take.Goals as goal
 
 pub invariant_of-self : goal.invariant_of-self
-invariant_of-self g c =
-    ((Holds-remove g.R.Keyed.key _ _ c.self.invariant.0 c.self.invariant.1 c.args.id c.shift_remove.ensures.entries).stands,
-     c.shift_remove.ensures.unique)
+invariant_of-self g c = (
+  (Holds-remove g.R.Keyed.key _ _ c.self.invariant.0 c.self.invariant.1 c.args.id c.shift_remove.ensures.entries).stands,
+  c.shift_remove.ensures.unique,
+)
 
 pub returns-clause-taken : goal.returns-clause-taken
 returns-clause-taken g c =
