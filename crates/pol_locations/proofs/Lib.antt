@@ -1,0 +1,6 @@
+pub mod Joins
+pub mod Lengths
+pub mod Members
+pub mod Prefixes
+pub mod Segments
+pub mod Texts

@@ -1,0 +1,13 @@
+//! Locations of tables, as lists of segments, and sets of locations of which no two overlap.
+#![tactic(auto)]
+
+pub mod laws;
+mod location;
+mod location_set;
+mod refused;
+mod steps;
+
+pub use location::{Location, covers, overlaps};
+pub use location_set::{LocationSet, Member};
+pub use refused::LocationRefused;
+pub use steps::Steps;

@@ -1,0 +1,120 @@
+ghost use Rattle.std.specs.Prelude.{◌≡◌, ◌≢◌, ◌≤◌, ◌<◌, ◌+◌, ◌↔◌, [], false, not, true, All, Any, IsTrue, MatchOption, OnErr, OnOk};
+ghost use Rattle.std.specs.List.{list_any};
+ghost use Rattle.pol_locations.specs.Location.{Overlaps, is_overlap};
+ghost use Rattle.pol_locations.specs.declared.location_set.Member.{Member};
+ghost use Rattle.pol_locations.specs.LocationSet.{AreApart, Gains, clash_of, is_clash};
+
+use crate::{Location, overlaps};
+use pol_types::OutOfMemory;
+use std::alloc::Global;
+use std::marker::Model;
+
+/// A member of a set: a location and the id of its owner.
+#[derive(Clone, Debug, Drop, PartialEq, Eq)]
+pub struct Member {
+    pub owner: u64,
+    pub location: Location,
+}
+
+/// Locations with their owners. No two members have one owner, and no two locations overlap. Contracts see the
+/// members, in no promised order, and for how many more there is a place.
+#[derive(Debug, Drop)]
+pub struct LocationSet {
+    members: Vec<Member>,
+}
+
+impl Model for LocationSet {
+    ghost use Rattle.std.specs.Prelude.{◌-◌, vec_capacity, vec_len};
+    ghost use Rattle.pol_locations.specs.LocationSet.{AreApart, Held};
+
+    ghost Value = { Held };
+
+    ghost view = { λ set. record { members = set.members.items; spare = vec_capacity set.members - vec_len set.members } };
+
+    ghost invariant = { λ set. AreApart set.members.items };
+}
+
+impl LocationSet {
+    pub fn new(alloc: Global) -> Self
+        ensures { result.members ≡ [] }
+    {
+        LocationSet {
+            members: Vec::new(alloc),
+        }
+    }
+
+    /// The members, in no promised order.
+    pub fn members(&self) -> &[Member]
+        ensures value { result.now ≡ self.now.members }
+        ensures apart { AreApart self.now.members }
+    {
+        self.members.as_slice()
+    }
+
+    /// The least owner outside `except` whose location overlaps the wanted one.
+    pub fn clash(&self, wanted: &Location, except: &[u64]) -> Option<u64>
+        ensures { result ≡ clash_of self.now.members wanted.now except.now }
+    {
+        self.members
+            .iter()
+            .filter(|member| is_clash(member, wanted, except))
+            .map(|member| member.owner)
+            .min()
+    }
+
+    /// Whether no member overlaps the wanted location.
+    pub fn is_free(&self, wanted: &Location) -> bool
+        ensures test { result ≡ not (list_any (λ member. is_overlap member.location wanted.now) self.now.members) }
+        ensures free { IsTrue result ↔ All (λ member. ¬ (Overlaps member.location wanted.now)) self.now.members }
+    {
+        !overlaps_any(self.members.as_slice(), wanted)
+    }
+
+    /// Makes at least so many places.
+    pub fn reserve(&mut self, more: usize) -> Result<(), OutOfMemory>
+        ensures members { self.new.members ≡ self.old.members }
+        ensures places { OnOk result (more ≤ self.new.spare) }
+        ensures kept { self.old.spare ≤ self.new.spare }
+    {
+        self.members.reserve(more)?;
+        Ok(())
+    }
+
+    /// Adds a member in a spare place, without memory.
+    pub fn insert(&mut self, owner: u64, location: Location)
+        requires place { 0 < self.old.spare }
+        requires new_owner { All (λ member. member.owner ≢ owner) self.old.members }
+        requires free { All (λ member. is_overlap member.location location ≡ false) self.old.members }
+        ensures member { Gains self.old.members self.new.members (record { owner = owner; location = location }) }
+        ensures spare { self.new.spare + 1 ≡ self.old.spare }
+    {
+        self.members.push_reserved(Member { owner, location });
+    }
+
+    /// Takes the member of this owner, and tells whether there was one. Its place is spare then.
+    pub fn remove(&mut self, owner: u64) -> bool
+        ensures there { IsTrue result ↔ Any (λ member. member.owner ≡ owner) self.old.members }
+        ensures taken { result ≡ true → (member : Member) × (member.owner ≡ owner) × Gains self.new.members self.old.members member × (self.new.spare ≡ self.old.spare + 1) }
+        ensures absent { result ≡ false → self.new ≡ self.old }
+    {
+        let Some(place) = self.members.iter().position(|member| member.owner == owner) else {
+            return false;
+        };
+        self.members.remove(place);
+        true
+    }
+}
+
+fn is_clash(member: &Member, wanted: &Location, except: &[u64]) -> bool
+    ensures { result ≡ is_clash wanted.now except.now member.now }
+{
+    overlaps(&member.location, wanted) && !except.contains(&member.owner)
+}
+
+fn overlaps_any(members: &[Member], wanted: &Location) -> bool
+    ensures { result ≡ list_any (λ member. is_overlap member.location wanted.now) members.now }
+{
+    members
+        .iter()
+        .any(|member| overlaps(&member.location, wanted))
+}
