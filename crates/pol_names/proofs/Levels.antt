@@ -61,16 +61,6 @@ pub record HaveRead (levels names rest : List (List ℕ)) : Type 0 where
   pub split : names ++ rest ≡ levels
   pub named : All IsName names
 
--- the level at a place is the first of those that are left there
-pub next_level : (levels : List (Bor (List ℕ))) (place : ℕ) (level : Bor (List ℕ)) → place < length levels → level ≡ get_or levels place level →
-    texts (drop place levels) ≡ level.now ∷ texts (drop (place + 1) levels)
-next_level levels place level inside is =
-    ap texts (drop_more levels place level inside) ∙ ap (λ (first : Bor (List ℕ)). first.now ∷ texts (drop (place + 1) levels)) (sym is)
-
-pub have_read_more : (levels names rest : List (List ℕ)) (level : List ℕ) → HaveRead levels names (level ∷ rest) → IsName level → HaveRead levels (names ++ level ∷ []) rest
-have_read_more levels names rest level before named =
-    record { split = append_assoc names (level ∷ []) rest ∙ before.split; named = All-push IsName names level before.named named }
-
 -- a list that is not empty has a level
 pub has_levels : (levels : List (List ℕ)) → IsNamespace levels → 0 < length levels
 has_levels [] namespace = absurd (namespace.filled refl)
