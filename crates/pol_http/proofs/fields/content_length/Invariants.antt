@@ -1,0 +1,11 @@
+use Rattle.std.proofs.Common.{◌≡◌, map, take, length, codes}
+use Rattle.std.specs.Option.{option_to_list, option_map, IfSome}
+use Rattle.httparse.specs.Spans.{header_bytes, span_bytes, IsWithin}
+use Rattle.pol_http.specs.Fields.{values_of}
+use Rattle.pol_http.proofs.fields.content_length.Given as goal
+
+abbrev pub invariant-loop-field : goal.invariant-loop-field
+invariant-loop-field l =
+    (values_of (codes "content-length") (map (header_bytes l.bytes) (take l.field-index l.fields))
+    ≡ option_to_list (option_map (span_bytes l.bytes) l.found))
+    × IfSome l.found (IsWithin (length l.bytes))

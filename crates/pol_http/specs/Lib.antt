@@ -1,0 +1,6 @@
+pub mod Fields
+pub mod Head
+pub mod Message
+pub mod Next
+pub mod Reading
+pub mod Text

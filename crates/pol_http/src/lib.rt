@@ -1,0 +1,11 @@
+//! HTTP/1.1 messages (RFC 9112): the reader of requests out of the bytes of a connection, and the
+//! writer of answers.
+#![tactic(auto)]
+
+mod fields;
+mod head;
+mod next;
+mod target;
+
+pub use head::{BODY_LIMIT, FIELD_LIMIT, HEAD_LIMIT, Head, HeadRefused};
+pub use next::{Next, missing_bytes, next_message};
