@@ -5,3 +5,4 @@ pub mod HeadLemmas
 pub mod FrontLemmas
 pub mod MessageLemmas
 pub mod NextLemmas
+pub mod CutLemmas

@@ -2,12 +2,12 @@
 use Rattle.std.proofs.Common.{◌≡◌, ℕ, ◌+◌, ◌-◌, ◌<◌, ◌≤◌, Bool, true, false, List, [], ◌∷◌, ◌++◌, length, take, drop, cond, Ok, Err, All, refl, sym, ap, ◌∙◌, subst, inl, inr, arith, append_assoc, append-nil, length-append}
 use Rattle.std.proofs.lemmas.Bool.{cases_lt}
 use Rattle.std.proofs.lemmas.Bool.Decides.{nat_tests}
-use Rattle.std.proofs.lemmas.List.{take_at, drop_at}
+use Rattle.std.proofs.lemmas.List.{take_at, drop_at, take-append-le}
 use Rattle.std.proofs.lemmas.List.Elements.{All-head, All-tail}
 use lib.Seq.{take-add}
 use Rattle.std.specs.List.{flat_map}
-use Rattle.httparse.specs.Grammar.{RequestHead, print_request, ReadsRequest}
-use Rattle.httparse.proofs.GrammarLemmas.{request_unique}
+use Rattle.httparse.specs.Grammar.{RequestHead, print_request, ReadsRequest, HasNoRequest}
+use Rattle.httparse.proofs.GrammarLemmas.{request_unique, ReadsRequest-append}
 use Rattle.pol_http.specs.declared.head.HeadRefused.{HeadRefused}
 use Rattle.pol_http.specs.declared.head.HeadRefused.TheVariants.{BadHead}
 use Rattle.pol_http.specs.declared.head.TheConstants.{HEAD_LIMIT}
@@ -150,3 +150,22 @@ refused_unique bytes a b (inl (bad, none)) (inl (bad', none')) = bad ∙ sym bad
 refused_unique bytes a b (inr (h, rest, reads, refused)) other = cc (refused, refused_head_is bytes h rest b reads other)
 refused_unique bytes a b (inl (bad, none)) (inr (h, rest, reads, refused)) =
     cc (refused, refused_head_is bytes h rest a reads (inl (bad, none)))
+
+-- what is refused stays so, whatever follows
+pub refused_stays : (bytes more : List ℕ) (why : HeadRefused) → IsRefusedAs bytes why → IsRefusedAs (bytes ++ more) why
+refused_stays bytes more why (inl (bad, inl never)) =
+    inl (
+      bad,
+      inl (λ further h rest reads.
+          never (more ++ further) h rest (subst (λ t. ReadsRequest t h rest) (append_assoc bytes more further) reads)),
+    )
+refused_stays bytes more why (inl (bad, inr (over, none))) =
+    inl (
+      bad,
+      inr (
+        omega (arith, length-append bytes more),
+        subst HasNoRequest (sym (take-append-le HEAD_LIMIT bytes more (omega arith))) none,
+      ),
+    )
+refused_stays bytes more why (inr (h, rest, reads, refused)) =
+    inr (h, rest ++ more, ReadsRequest-append bytes h rest more reads, refused)

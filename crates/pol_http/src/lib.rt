@@ -2,10 +2,15 @@
 //! writer of answers.
 #![tactic(auto)]
 
+mod answer;
+mod cut;
 mod fields;
 mod head;
+pub mod laws;
 mod next;
 mod target;
 
+pub use answer::{Answer, Body, CONTINUE, INSUFFICIENT_STORAGE, write_answer};
+pub use cut::cut_messages;
 pub use head::{BODY_LIMIT, FIELD_LIMIT, HEAD_LIMIT, Head, HeadRefused};
 pub use next::{Next, missing_bytes, next_message};
