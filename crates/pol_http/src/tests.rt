@@ -1,0 +1,457 @@
+ghost use Rattle.std.specs.Prelude.{◌≡◌, ◌≤◌, length, vec_len, IfOk, IfSome};
+ghost use Rattle.pol_http.specs.Next.{IsUnfinished};
+ghost use Rattle.pol_http.specs.Answer.{answer_text};
+ghost use Rattle.pol_http.specs.declared.tests.Told.TheVariants.{Partial};
+
+use super::*;
+use pol_types::{Bytes, OutOfMemory};
+use std::alloc::{AllocError, Global};
+use std::test::Fail;
+
+/// An answer of the reader without its ranges.
+#[derive(Clone, Copy, Debug, PartialEq, Eq)]
+enum Told {
+    Whole { closes: bool, asks: bool },
+    Continue,
+    Partial,
+    Refused(HeadRefused),
+}
+
+const WHOLE: Told = Told::Whole {
+    closes: false,
+    asks: false,
+};
+
+const CLOSING: Told = Told::Whole {
+    closes: true,
+    asks: false,
+};
+
+const ASKING: Told = Told::Whole {
+    closes: false,
+    asks: true,
+};
+
+/// What is told of the bytes, and how many of them it takes.
+fn reading(bytes: &[u8]) -> (Told, usize)
+    ensures { result.0 ≡ Partial → IsUnfinished bytes.now }
+{
+    match next_message(bytes) {
+        Next::Whole { head, taken, .. } => {
+            let (closes, asks) = (head.closes, head.asks);
+            (Told::Whole { closes, asks }, taken)
+        }
+        Next::Continue { taken } => (Told::Continue, taken),
+        Next::Partial => (Told::Partial, 0),
+        Next::Refused(why) => (Told::Refused(why), 0),
+    }
+}
+
+/// The first cut of the input at which the reader answers otherwise than this: more bytes are
+/// needed up to `settled` bytes, or the sender waits once its head of `asks_from` bytes is there,
+/// and from then on the answer is `last`.
+fn first_difference(input: &[u8], asks_from: usize, last: Told, settled: usize) -> Option<usize>
+    ensures { IfSome result (λ cut. cut ≤ length input.now) }
+{
+    for cut in 0..=input.len() {
+        let wanted = if cut >= settled {
+            let taken = if let Told::Whole { .. } = last {
+                settled
+            } else {
+                0
+            };
+            (last, taken)
+        } else if asks_from > 0 && cut >= asks_from {
+            (Told::Continue, asks_from)
+        } else {
+            (Told::Partial, 0)
+        };
+        if reading(&input[..cut]) != wanted {
+            return Some(cut);
+        }
+    }
+    None
+}
+
+/// The input, the length of its head where it asks (else 0), the last answer, and after how many
+/// bytes that is given.
+const INPUTS: [(&[u8], usize, Told, usize); 34] = [
+    // HTTP/1.1
+    (b"GET / HTTP/1.1\r\n\r\n", 0, WHOLE, 18),
+    // HTTP/1.0 closes
+    (
+        b"GET / HTTP/1.0\r\nConnection: keep-alive\r\n\r\n",
+        0,
+        CLOSING,
+        42,
+    ),
+    // close is a member of the list, in any case
+    (
+        b"GET / HTTP/1.1\r\nConnection: keep-alive, Close\r\n\r\n",
+        0,
+        CLOSING,
+        49,
+    ),
+    // close in a second field
+    (
+        b"GET / HTTP/1.1\r\nconnection: keep-alive\r\nCONNECTION:close\r\n\r\n",
+        0,
+        CLOSING,
+        60,
+    ),
+    // a word that holds close is another
+    (
+        b"GET / HTTP/1.1\r\nconnection: closed, keep-close\r\n\r\n",
+        0,
+        WHOLE,
+        50,
+    ),
+    // Expect with a body
+    (
+        b"POST / HTTP/1.1\r\nExpect: 100-Continue\r\ncontent-length: 2\r\n\r\nab",
+        60,
+        ASKING,
+        62,
+    ),
+    // Expect without a body
+    (
+        b"POST / HTTP/1.1\r\nexpect: 100-continue\r\n\r\n",
+        0,
+        WHOLE,
+        41,
+    ),
+    // Expect with a body of no bytes
+    (
+        b"POST / HTTP/1.1\r\nexpect: 100-continue\r\ncontent-length: 0\r\n\r\n",
+        0,
+        WHOLE,
+        60,
+    ),
+    // Expect of HTTP/1.0
+    (
+        b"POST / HTTP/1.0\r\nexpect: 100-continue\r\ncontent-length: 1\r\n\r\na",
+        0,
+        CLOSING,
+        61,
+    ),
+    // leading zeros
+    (
+        b"POST / HTTP/1.1\r\ncontent-length: 0003\r\n\r\nabc",
+        0,
+        WHOLE,
+        44,
+    ),
+    // white space around the number
+    (
+        b"POST / HTTP/1.1\r\ncontent-length:\t2 \r\n\r\nab",
+        0,
+        WHOLE,
+        41,
+    ),
+    // an empty line before
+    (b"\r\nGET / HTTP/1.1\r\n\r\n", 0, WHOLE, 20),
+    // LF alone ends a line
+    (b"GET / HTTP/1.1\na:b\n\n", 0, WHOLE, 20),
+    // a target past ASCII
+    (b"GET /\xc3\xa9 HTTP/1.1\r\n\r\n", 0, WHOLE, 20),
+    // content-length b'+5'
+    (
+        b"POST / HTTP/1.1\r\ncontent-length: +5\r\n\r\n",
+        0,
+        Told::Refused(HeadRefused::BadHead),
+        39,
+    ),
+    // content-length b''
+    (
+        b"POST / HTTP/1.1\r\ncontent-length: \r\n\r\n",
+        0,
+        Told::Refused(HeadRefused::BadHead),
+        37,
+    ),
+    // content-length b'5 5'
+    (
+        b"POST / HTTP/1.1\r\ncontent-length: 5 5\r\n\r\n",
+        0,
+        Told::Refused(HeadRefused::BadHead),
+        40,
+    ),
+    // content-length b'0x5'
+    (
+        b"POST / HTTP/1.1\r\ncontent-length: 0x5\r\n\r\n",
+        0,
+        Told::Refused(HeadRefused::BadHead),
+        40,
+    ),
+    // content-length b'5,5'
+    (
+        b"POST / HTTP/1.1\r\ncontent-length: 5,5\r\n\r\n",
+        0,
+        Told::Refused(HeadRefused::BadHead),
+        40,
+    ),
+    // two of them
+    (
+        b"POST / HTTP/1.1\r\ncontent-length: 5\r\nContent-Length: 5\r\n\r\n",
+        0,
+        Told::Refused(HeadRefused::BadHead),
+        57,
+    ),
+    // one over the limit
+    (
+        b"POST / HTTP/1.1\r\ncontent-length: 16777217\r\n\r\n",
+        0,
+        Told::Refused(HeadRefused::BodyTooLong),
+        45,
+    ),
+    // 40 digits
+    (
+        b"POST / HTTP/1.1\r\ncontent-length: 9999999999999999999999999999999999999999\r\n\r\n",
+        0,
+        Told::Refused(HeadRefused::BodyTooLong),
+        77,
+    ),
+    // transfer-encoding
+    (
+        b"POST / HTTP/1.1\r\ntransfer-encoding: chunked\r\n\r\n",
+        0,
+        Told::Refused(HeadRefused::LengthNeeded),
+        47,
+    ),
+    // and a length
+    (
+        b"POST / HTTP/1.1\r\nTransfer-Encoding: chunked\r\ncontent-length: 5\r\n\r\n",
+        0,
+        Told::Refused(HeadRefused::LengthNeeded),
+        66,
+    ),
+    // and a long body
+    (
+        b"POST / HTTP/1.1\r\ncontent-length: 16777217\r\ntransfer-encoding: chunked\r\n\r\n",
+        0,
+        Told::Refused(HeadRefused::LengthNeeded),
+        73,
+    ),
+    // and a bad length
+    (
+        b"POST / HTTP/1.1\r\ncontent-length: 5x\r\ntransfer-encoding: chunked\r\n\r\n",
+        0,
+        Told::Refused(HeadRefused::BadHead),
+        67,
+    ),
+    // a folded line
+    (
+        b"GET / HTTP/1.1\r\na: b\r\n c\r\n\r\n",
+        0,
+        Told::Refused(HeadRefused::BadHead),
+        23,
+    ),
+    // a space before the colon
+    (
+        b"GET / HTTP/1.1\r\na : b\r\n\r\n",
+        0,
+        Told::Refused(HeadRefused::BadHead),
+        18,
+    ),
+    // NUL in a value
+    (
+        b"GET / HTTP/1.1\r\na: b\0c\r\n\r\n",
+        0,
+        Told::Refused(HeadRefused::BadHead),
+        21,
+    ),
+    // 0xff ends no text
+    (
+        b"GET /\xff HTTP/1.1\r\n\r\n",
+        0,
+        Told::Refused(HeadRefused::BadHead),
+        6,
+    ),
+    // unfinished target 0xff
+    (b"GET /a\xff", 0, Told::Refused(HeadRefused::BadHead), 7),
+    // a character cut off by the end of the target
+    (
+        b"GET /\xc3 HTTP/1.1\r\n\r\n",
+        0,
+        Told::Refused(HeadRefused::BadHead),
+        7,
+    ),
+    // overlong
+    (b"GET /\xe0\x80", 0, Told::Refused(HeadRefused::BadHead), 7),
+    // no token
+    (b"\x01", 0, Told::Refused(HeadRefused::BadHead), 1),
+];
+
+/// A head of `22 + padding + 4 * more` bytes, with a long field and so many empty ones.
+fn head_with(alloc: Global, padding: usize, more: usize) -> Result<Vec<u8>, AllocError>
+    ensures { IfOk result (λ head. 2 ≤ vec_len head) }
+{
+    let mut head = Vec::from_slice(alloc, b"GET / HTTP/1.1\r\na:")?;
+    head.extend_from_slice(vec![in alloc; b'x'; padding]?.as_slice())?;
+    head.extend_from_slice(b"\r\n")?;
+    for _ in 0..more {
+        head.extend_from_slice(b"a:\r\n")?;
+    }
+    head.extend_from_slice(b"\r\n")?;
+    Ok(head)
+}
+
+#[test]
+fn inputs_are_answered_alike_however_they_are_cut(rt: HostRuntime) -> Result<(), Fail> {
+    for (input, asks_from, last, settled) in INPUTS {
+        let different = first_difference(input, asks_from, last, settled);
+        assert_eq!(rt; different, None, "at {input:?}");
+    }
+    let bad = Told::Refused(HeadRefused::BadHead);
+    for (padding, more, last, settled) in [
+        (16_362, 0, WHOLE, 16_384),
+        (16_363, 0, bad, 16_385),
+        (0, 63, WHOLE, 274),
+        (0, 64, bad, 278),
+    ] {
+        let input = head_with(rt.alloc(), padding, more)?;
+        assert_eq!(rt; input.len(), settled);
+        let different = first_difference(input.as_slice(), 0, last, settled);
+        assert_eq!(rt; different, None, "at {settled} bytes");
+    }
+    Ok(())
+}
+
+#[test]
+fn parts_are_ranges_of_the_bytes(rt: HostRuntime) -> Result<(), Fail> {
+    let input = b"\r\nPUT /a?b HTTP/1.1\nHost: \t l \r\nContent-Length:4\r\n\r\nPAR1GET ";
+    let Next::Whole { head, body, taken } = next_message(input) else {
+        panic!(rt; "no message");
+    };
+    let part = |span: httparse::spans::Span| input.get(span.start..span.end);
+    assert_eq!(rt; part(head.method), Some(b"PUT".as_slice()));
+    assert_eq!(rt; part(head.target), Some(b"/a?b".as_slice()));
+    assert_eq!(rt; (head.minor, head.count, taken), (1, 2, 56));
+    assert_eq!(rt; part(head.fields[0].name), Some(b"Host".as_slice()));
+    assert_eq!(rt; part(head.fields[0].value), Some(b"l".as_slice()));
+    assert_eq!(rt; part(head.fields[1].value), Some(b"4".as_slice()));
+    assert_eq!(rt; part(body), Some(b"PAR1".as_slice()));
+
+    assert_eq!(rt; missing_bytes(input), Some(0));
+    assert_eq!(rt; missing_bytes(&input[..53]), Some(3));
+    assert_eq!(rt; missing_bytes(&input[..51]), None);
+    assert_eq!(rt;
+        missing_bytes(b"PUT / HTTP/1.1\r\nTransfer-Encoding: x\r\n\r\n"),
+        None
+    );
+
+    let lengths = cut_messages(rt.alloc(), b"GET / HTTP/1.1\n\nGET / HTTP/1.0\n\n\nGET")?;
+    assert_eq!(rt; lengths.as_slice(), [16, 16].as_slice());
+    Ok(())
+}
+
+/// The text of an answer whose body is made of these bytes.
+fn answered(
+    alloc: Global,
+    status: u16,
+    body: Body,
+    close: bool,
+    head_only: bool,
+) -> Result<Vec<u8>, OutOfMemory>
+    ensures { IfOk result (λ text. text.items
+        ≡ answer_text (record { status = status; body = body; close = close; head_only = head_only })) }
+{
+    let answer = Answer {
+        status,
+        body,
+        close,
+        head_only,
+    };
+    write_answer(alloc, &answer)
+}
+
+fn bytes(alloc: Global, text: &str) -> Result<Bytes, AllocError>
+    ensures { IfOk result (λ bytes. bytes ≡ text.now) }
+{
+    Ok(Bytes::from(Vec::from_slice(alloc, text.as_bytes())?))
+}
+
+const NO_ROUTE: &str = r#"{"error":{"code":404,"message":"No route","type":"NotFoundException"}}"#;
+
+const LENGTH_NEEDED: &str =
+    r#"{"error":{"code":411,"message":"LengthNeeded","type":"BadRequestException"}}"#;
+
+const TOKEN: &str = concat!(
+    r#"{"access_token":"00000000000000000123456789abcdeffedcba9876543210","expires_in":3600,"#,
+    r#""issued_token_type":"urn:ietf:params:oauth:token-type:access_token","token_type":"bearer"}"#
+);
+
+#[test]
+fn answers_have_their_lines_in_order(rt: HostRuntime) -> Result<(), Fail> {
+    let alloc = rt.alloc();
+    for (status, body, close, head_only, head, content) in [
+        (
+            404,
+            Body::Json(bytes(alloc, NO_ROUTE)?),
+            false,
+            false,
+            "HTTP/1.1 404 Not Found\r\ncontent-type: application/json\r\ncontent-length: 70\r\n\r\n",
+            NO_ROUTE,
+        ),
+        (
+            411,
+            Body::Json(bytes(alloc, LENGTH_NEEDED)?),
+            true,
+            false,
+            "HTTP/1.1 411 Length Required\r\ncontent-type: application/json\r\ncontent-length: 76\r\nconnection: close\r\n\r\n",
+            LENGTH_NEEDED,
+        ),
+        (
+            200,
+            Body::Token(bytes(alloc, TOKEN)?),
+            false,
+            false,
+            "HTTP/1.1 200 OK\r\ncontent-type: application/json\r\ncontent-length: 175\r\ncache-control: no-store\r\npragma: no-cache\r\n\r\n",
+            TOKEN,
+        ),
+        (
+            200,
+            Body::Object(bytes(alloc, "PAR1")?),
+            false,
+            false,
+            "HTTP/1.1 200 OK\r\ncontent-type: application/octet-stream\r\ncontent-length: 4\r\n\r\n",
+            "PAR1",
+        ),
+        (
+            200,
+            Body::Length(4),
+            false,
+            true,
+            "HTTP/1.1 200 OK\r\ncontent-length: 4\r\n\r\n",
+            "",
+        ),
+        (
+            201,
+            Body::Nothing,
+            false,
+            false,
+            "HTTP/1.1 201 Created\r\ncontent-length: 0\r\n\r\n",
+            "",
+        ),
+        (
+            204,
+            Body::Nothing,
+            false,
+            false,
+            "HTTP/1.1 204 No Content\r\n\r\n",
+            "",
+        ),
+        (
+            404,
+            Body::Json(bytes(alloc, NO_ROUTE)?),
+            true,
+            true,
+            "HTTP/1.1 404 Not Found\r\nconnection: close\r\n\r\n",
+            "",
+        ),
+    ] {
+        let text = answered(alloc, status, body, close, head_only)?;
+        let rest = text.as_slice().strip_prefix(head.as_bytes());
+        assert_eq!(rt; rest, Some(content.as_bytes()), "at {status}");
+    }
+    Ok(())
+}
