@@ -25,7 +25,7 @@ pub cut_more : (bytes lengths rest : List ℕ) (m : Message) (taken : ℕ) → C
     → CutSoFar bytes (lengths ++ taken ∷ []) (take (length rest - taken) (drop taken rest))
 cut_more bytes lengths rest m taken (messages, all, is, are) reads long = (
   messages ++ m ∷ [],
-  All-push IsMessage messages m all reads.message,
+  All-push IsMessage messages m all reads.whole,
   is ∙ ap (λ t. flat_map print_message messages ++ t) reads.bytes_are
       ∙ sym (append_assoc (flat_map print_message messages) (print_message m) (drop taken rest))
       ∙ (λ k. flat_map_more print_message [] messages m k ++ sym (take_rest rest taken) k),

@@ -6,7 +6,7 @@ use Rattle.std.proofs.lemmas.List.Elements.{All-head, All-tail}
 use Rattle.std.specs.List.{flat_map}
 use Rattle.httparse.specs.declared.spans.HeaderSpan.{HeaderSpan}
 use Rattle.httparse.specs.declared.spans.RequestSpans.{RequestSpans}
-use Rattle.httparse.specs.Grammar.{LineEnd, crlf, lf, print_end, print_blank, print_version, Field, IsField, print_field, print_section, RequestHead, print_request, ReadsRequest, NeverHasRequest}
+use Rattle.httparse.specs.Grammar.{LineEnd, crlf, lf, print_end, print_blank, print_version, Field, IsField, print_field, print_section, RequestHead, print_request, IsRequestHead, ReadsRequest, NeverHasRequest}
 use Rattle.httparse.specs.Spans.{header_bytes, name_and_value, IsRequestAt, IsRequestWithin, RequestExceeds}
 use Rattle.httparse.proofs.GrammarLemmas.{print_request-append, ReadsRequest-append}
 use Rattle.pol_http.specs.declared.head.HeadRefused.TheVariants.{BadHead}
@@ -89,6 +89,19 @@ head_takes h all =
     let from_method : n ≤ length method = longer_by h.method (32 ∷ target) n (omega arith) in
     let whole : n ≤ length (print_blank h.blank ++ method) = longer_by (print_blank h.blank) method n from_method in
     omega (arith, ap length (print_request-append h []), length-append (print_request h) [])
+
+-- a head has some bytes
+pub length-print_request : (h : RequestHead) → IsRequestHead h → 0 < length (print_request h)
+length-print_request h is =
+    let some = is.method.0 in
+    let rest = 32 ∷ (h.target ++ 32 ∷ (print_version h.minor ++ (print_end h.line_end ++ (print_section h.fields h.last ++ [])))) in
+    omega (
+      arith,
+      ap length (print_request-append h []),
+      length-append (print_request h) [],
+      length-append (print_blank h.blank) (h.method ++ rest),
+      length-append h.method rest,
+    )
 
 -- no head within the limit has more fields than the limit has places for
 pub no_more_fields : (front : List ℕ) → length front ≤ HEAD_LIMIT → ¬ (RequestExceeds 5461 front)

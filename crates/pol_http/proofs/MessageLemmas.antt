@@ -3,11 +3,12 @@ use Rattle.std.proofs.Common.{◌≡◌, ℕ, ◌+◌, ◌-◌, ◌<◌, ◌≤�
 use Rattle.std.proofs.lemmas.Bool.{cases_lt}
 use Rattle.std.proofs.lemmas.Bool.Decides.{nat_tests}
 use Rattle.std.proofs.lemmas.List.{take_at, drop_at, take-append-le}
-use Rattle.std.proofs.lemmas.List.Elements.{All-head, All-tail}
+use Rattle.std.proofs.lemmas.List.Elements.{All-nil, All-cons, All-head, All-tail}
 use lib.Seq.{take-add}
 use Rattle.std.specs.List.{flat_map}
 use Rattle.httparse.specs.Grammar.{RequestHead, print_request, ReadsRequest, HasNoRequest}
 use Rattle.httparse.proofs.GrammarLemmas.{request_unique, ReadsRequest-append}
+use Rattle.pol_http.proofs.HeadLemmas.{length-print_request}
 use Rattle.pol_http.specs.declared.head.HeadRefused.{HeadRefused}
 use Rattle.pol_http.specs.declared.head.HeadRefused.TheVariants.{BadHead}
 use Rattle.pol_http.specs.declared.head.TheConstants.{HEAD_LIMIT}
@@ -28,7 +29,7 @@ length-print_message m = length-append (print_request m.head) m.body
 -- a message begins with its head
 pub head_of_message : {bytes : List ℕ} {m : Message} {rest : List ℕ} → ReadsMessage bytes m rest
     → ReadsRequest bytes m.head (m.body ++ rest)
-head_of_message {m} {rest} reads = (reads.message.head, reads.bytes_are ∙ print_message-append m rest)
+head_of_message {m} {rest} reads = (reads.whole.head, reads.bytes_are ∙ print_message-append m rest)
 
 same_front : (a b x y : List ℕ) → length a ≡ length b → a ++ x ≡ b ++ y → (a ≡ b) × (x ≡ y)
 same_front a b x y long same = (
@@ -40,14 +41,14 @@ pub message_unique : (bytes : List ℕ) (m n : Message) (r q : List ℕ) → Rea
     → (m ≡ n) × (r ≡ q)
 message_unique bytes m n r q x y =
     let heads = request_unique bytes m.head n.head (m.body ++ r) (n.body ++ q) (head_of_message x) (head_of_message y) in
-    let lengths = sym x.message.body ∙ ap body_length heads.0 ∙ y.message.body in
+    let lengths = sym x.whole.body ∙ ap body_length heads.0 ∙ y.whole.body in
     let bodies = same_front m.body n.body r q (cc lengths) heads.1 in
     (λ i. record { head = heads.0 i; body = bodies.0 i }, bodies.1)
 
 pub ReadsMessage-append : (bytes : List ℕ) (m : Message) (rest more : List ℕ) → ReadsMessage bytes m rest
     → ReadsMessage (bytes ++ more) m (rest ++ more)
 ReadsMessage-append bytes m rest more reads = record {
-  message = reads.message;
+  whole = reads.whole;
   bytes_are = ap (λ t. t ++ more) reads.bytes_are ∙ append_assoc (print_message m) rest more;
 }
 
@@ -60,12 +61,12 @@ message_prefix_free bytes more m n r q x y =
 pub begins_no_other : (m n : Message) (more : List ℕ) → IsMessage m → IsMessage n → print_message n ≡ print_message m ++ more
     → (m ≡ n) × (more ≡ [])
 begins_no_other m n more is is' same =
-    message_unique (print_message n) m n more [] (record { message = is; bytes_are = same })
-    (record { message = is'; bytes_are = sym (append-nil (print_message n)) })
+    message_unique (print_message n) m n more [] (record { whole = is; bytes_are = same })
+    (record { whole = is'; bytes_are = sym (append-nil (print_message n)) })
 
 first_of : (m : Message) (ms : List Message) (rest : List ℕ) → IsMessage m
     → ReadsMessage (flat_map print_message (m ∷ ms) ++ rest) m (flat_map print_message ms ++ rest)
-first_of m ms rest is = record { message = is; bytes_are = append_assoc (print_message m) (flat_map print_message ms) rest }
+first_of m ms rest is = record { whole = is; bytes_are = append_assoc (print_message m) (flat_map print_message ms) rest }
 
 same_cut : (ms ns : List Message) (r q : List ℕ) → All IsMessage ms → All IsMessage ns → HasNoMessage r → HasNoMessage q
     → flat_map print_message ms ++ r ≡ flat_map print_message ns ++ q → (ms ≡ ns) × (r ≡ q)
@@ -86,6 +87,23 @@ same_cut (m ∷ ms) (n ∷ ns) r q xs ys none none' same =
 pub messages_unique : (bytes : List ℕ) (ms ns : List Message) (r q : List ℕ) → Messages bytes ms r → Messages bytes ns q
     → (ms ≡ ns) × (r ≡ q)
 messages_unique bytes ms ns r q x y = same_cut ms ns r q x.whole y.whole x.last y.last (sym x.bytes_are ∙ y.bytes_are)
+
+-- ---- cuts, message by message
+
+pub Messages-nil : (bytes : List ℕ) → HasNoMessage bytes → Messages bytes [] bytes
+Messages-nil bytes none = record { whole = All-nil IsMessage; bytes_are = refl; last = none }
+
+pub Messages-cons : (bytes rest : List ℕ) (m : Message) (ms : List Message) (last : List ℕ) → ReadsMessage bytes m rest
+    → Messages rest ms last → Messages bytes (m ∷ ms) last
+Messages-cons bytes rest m ms last reads cut = record {
+  whole = All-cons IsMessage m ms reads.whole cut.whole;
+  bytes_are = reads.bytes_are ∙ ap (λ t. print_message m ++ t) cut.bytes_are
+      ∙ sym (append_assoc (print_message m) (flat_map print_message ms) last);
+  last = cut.last;
+}
+
+pub length-message : (m : Message) → IsMessage m → 0 < length (print_message m)
+length-message m is = omega (arith, length-print_message m, length-print_request m.head is.head)
 
 -- ---- one cause
 
@@ -143,7 +161,7 @@ known_not_refused bytes h rest n reads ok why refused = cc (ok, refused_head_is 
 pub message_not_refused : (bytes : List ℕ) (m : Message) (rest : List ℕ) → ReadsMessage bytes m rest → (why : HeadRefused)
     → ¬ (IsRefusedAs bytes why)
 message_not_refused bytes m rest reads =
-    known_not_refused bytes m.head (m.body ++ rest) (length m.body) (head_of_message reads) reads.message.body
+    known_not_refused bytes m.head (m.body ++ rest) (length m.body) (head_of_message reads) reads.whole.body
 
 pub refused_unique : (bytes : List ℕ) (a b : HeadRefused) → IsRefusedAs bytes a → IsRefusedAs bytes b → a ≡ b
 refused_unique bytes a b (inl (bad, none)) (inl (bad', none')) = bad ∙ sym bad'

@@ -13,6 +13,7 @@ use Rattle.pol_http.specs.Head.{body_length, asks}
 use Rattle.pol_http.specs.Message.{Message, print_message, ReadsMessage, HasNoMessage, IsRefusedAs, IsNotRefused}
 use Rattle.pol_http.specs.Next.{is_whole, is_continue, BeginsWithMessage, Awaits, IsUnfinished, Tells, KnowsLength}
 use Rattle.pol_http.specs.Reading.{IsFrontAt, IsOpen}
+use Rattle.pol_http.proofs.HeadLemmas.{length-print_request}
 use Rattle.pol_http.proofs.FrontLemmas.{IsFrontAt-append}
 use Rattle.pol_http.proofs.MessageLemmas.{print_message-append, length-print_message, head_of_message, message_not_refused, known_not_refused, refused_unique}
 
@@ -66,7 +67,7 @@ reads_with_body bytes head taken body h at enough =
     let behind = drop taken bytes in
     let long : length (take body behind) ≡ body = omega (arith, length-take body behind, length-drop taken bytes) in
     record {
-      message = record { head = at.reads.0; body = at.announces ∙ ap Ok (sym long) };
+      whole = record { head = at.reads.0; body = at.announces ∙ ap Ok (sym long) };
       bytes_are = at.reads.1
           ∙ ap (λ t. print_request h ++ t) (sym (take-append-drop body behind) ∙ ap (λ t. take body behind ++ t) (drop-drop body taken bytes))
           ∙ sym (print_message-append (with_body bytes taken body h) (drop (taken + body) bytes));
@@ -91,7 +92,12 @@ tells_whole bytes head taken body h at enough =
           body_is = ap (λ k. take k behind) span;
         },
       ),
-      record { parts = at.ranges; body_range = (omega arith, omega arith); fits = omega arith },
+      record {
+        head_range = at.ranges;
+        body_range = (omega arith, omega arith);
+        some = omega (arith, at.length_is, length-print_request h at.reads.0);
+        fits = omega arith;
+      },
     )
 
 -- a message at the front has the head that was read, and so its body's length
@@ -99,7 +105,7 @@ body_behind : (bytes : List ℕ) (head : Head) (taken body : ℕ) (h : RequestHe
     → (m : Message) (rest : List ℕ) → ReadsMessage bytes m rest → body ≤ length bytes - taken
 body_behind bytes head taken body h at m rest reads =
     let same = request_unique bytes h m.head (drop taken bytes) (m.body ++ rest) at.reads (head_of_message reads) in
-    let lengths = sym at.announces ∙ ap body_length same.0 ∙ reads.message.body in
+    let lengths = sym at.announces ∙ ap body_length same.0 ∙ reads.whole.body in
     let long : body ≡ length m.body = cc lengths in
     omega (arith, long, ap length same.1, length-append m.body rest, length-drop taken bytes)
 

@@ -10,19 +10,19 @@ use Rattle.pol_http.specs.Fields.{lists, announced_length}
 
 -- the head's fields: each name, and its value without the white space around it
 abbrev pub fields_of : RequestHead → List (List ℕ × List ℕ)
-fields_of h = map name_and_value h.fields
+fields_of head = map name_and_value head.fields
 
 -- the head has more bytes or more fields than it may have
 abbrev pub passes_limit : RequestHead → Bool
-passes_limit h = nat_lt HEAD_LIMIT (length (print_request h)) || nat_lt FIELD_LIMIT (length h.fields)
+passes_limit head = nat_lt HEAD_LIMIT (length (print_request head)) || nat_lt FIELD_LIMIT (length head.fields)
 
 -- the length of the body that follows the head, or why the head is refused
 unfoldable pub body_length : RequestHead → Result ℕ HeadRefused
-body_length h = if passes_limit h then Err BadHead else announced_length (fields_of h)
+body_length head = if passes_limit head then Err BadHead else announced_length (fields_of head)
 
 -- the connection ends after the answer: HTTP/1.0, or the option `close`
 unfoldable pub closes : RequestHead → Bool
-closes h = h.minor == 0 || lists (codes "connection") (codes "close") (fields_of h)
+closes head = head.minor == 0 || lists (codes "connection") (codes "close") (fields_of head)
 
 -- there is a body
 abbrev pub has_body : Result ℕ HeadRefused → Bool
@@ -31,20 +31,20 @@ has_body (Err why) = false
 
 -- the sender waits for `100 Continue`: HTTP/1.1, the expectation, and a body
 unfoldable pub asks : RequestHead → Bool
-asks h = h.minor == 1 && lists (codes "expect") (codes "100-continue") (fields_of h) && has_body (body_length h)
+asks head = head.minor == 1 && lists (codes "expect") (codes "100-continue") (fields_of head) && has_body (body_length head)
 
--- the head that was read has the parts of h, as ranges of the bytes
-pub record IsHeadOf (bytes : List ℕ) (head : Head) (h : RequestHead) : Type 0 where
-  pub method : span_bytes bytes head.method ≡ h.method
-  pub target : span_bytes bytes head.target ≡ h.target
-  pub minor : head.minor ≡ h.minor
-  pub fields : AreFieldsAt bytes head.fields head.count h.fields
-  pub closes : head.closes ≡ closes h
-  pub asks : head.asks ≡ asks h
+-- what was read has the parts of the head, as ranges of the bytes
+pub record IsHeadOf (bytes : List ℕ) (read : Head) (head : RequestHead) : Type 0 where
+  pub method : span_bytes bytes read.method ≡ head.method
+  pub target : span_bytes bytes read.target ≡ head.target
+  pub minor : read.minor ≡ head.minor
+  pub fields : AreFieldsAt bytes read.fields read.count head.fields
+  pub closes : read.closes ≡ closes head
+  pub asks : read.asks ≡ asks head
 
--- the ranges of the head lie in the first n bytes
-pub record IsHeadWithin (n : ℕ) (head : Head) : Type 0 where
-  pub method : IsWithin n head.method
-  pub target : IsWithin n head.target
-  pub count : head.count ≤ FIELD_LIMIT
-  pub fields : All (IsHeaderWithin n) (take head.count head.fields)
+-- the ranges of what was read lie in the first taken bytes
+pub record IsHeadWithin (taken : ℕ) (read : Head) : Type 0 where
+  pub method : IsWithin taken read.method
+  pub target : IsWithin taken read.target
+  pub count : read.count ≤ FIELD_LIMIT
+  pub fields : All (IsHeaderWithin taken) (take read.count read.fields)

@@ -10,14 +10,14 @@ CutInOneWay = (bytes : List ℕ) (messages others : List Message) (rest other_re
 
 -- a message that begins with another is that message
 abbrev pub BeginsNoOther : Type 0
-BeginsNoOther = (m n : Message) (more : List ℕ) → IsMessage m → IsMessage n → print_message n ≡ print_message m ++ more
-    → (m ≡ n) × (more ≡ [])
+BeginsNoOther = (message other : Message) (more : List ℕ) → IsMessage message → IsMessage other
+    → print_message other ≡ print_message message ++ more → (message ≡ other) × (more ≡ [])
 
 -- bytes are refused with one cause at most, and not where they begin with a message
 abbrev pub RefusedInOneWay : Type 0
 RefusedInOneWay = (bytes : List ℕ) (why : HeadRefused) → IsRefusedAs bytes why
     → ((other : HeadRefused) → IsRefusedAs bytes other → why ≡ other)
-    × ((m : Message) (rest : List ℕ) → ¬ (ReadsMessage bytes m rest))
+    × ((message : Message) (rest : List ℕ) → ¬ (ReadsMessage bytes message rest))
 
 -- what is refused stays so
 abbrev pub StaysRefused : Type 0

@@ -14,21 +14,21 @@ pub record Message : Type 0 where
 
 -- the bytes of a message
 unfoldable pub print_message : Message → List ℕ
-print_message m = print_request m.head ++ m.body
+print_message message = print_request message.head ++ message.body
 
--- the head is not refused, and the body has the length that it announces
-pub record IsMessage (m : Message) : Type 0 where
-  pub head : IsRequestHead m.head
-  pub body : body_length m.head ≡ Ok (length m.body)
+-- the head is not refused, and the body has the length that it announces (RFC 9112, section 6.3)
+pub record IsMessage (message : Message) : Type 0 where
+  pub head : IsRequestHead message.head
+  pub body : body_length message.head ≡ Ok (length message.body)
 
--- bytes is the message m and then rest
-pub record ReadsMessage (bytes : List ℕ) (m : Message) (rest : List ℕ) : Type 0 where
-  pub message : IsMessage m
-  pub bytes_are : bytes ≡ print_message m ++ rest
+-- bytes is the message and then rest
+pub record ReadsMessage (bytes : List ℕ) (message : Message) (rest : List ℕ) : Type 0 where
+  pub whole : IsMessage message
+  pub bytes_are : bytes ≡ print_message message ++ rest
 
 -- no message stands at the front of bytes
 abbrev pub HasNoMessage : List ℕ → Type 0
-HasNoMessage bytes = (m : Message) (rest : List ℕ) → ¬ (ReadsMessage bytes m rest)
+HasNoMessage bytes = (message : Message) (rest : List ℕ) → ¬ (ReadsMessage bytes message rest)
 
 -- bytes is these messages, and a rest that begins with none
 pub record Messages (bytes : List ℕ) (messages : List Message) (rest : List ℕ) : Type 0 where
@@ -42,7 +42,8 @@ HasNoHead bytes = NeverHasRequest bytes ⊎ ((HEAD_LIMIT < length bytes) × HasN
 
 -- the whole head at the front is refused
 abbrev pub HasRefusedHead : List ℕ → HeadRefused → Type 0
-HasRefusedHead bytes why = (h : RequestHead) × (rest : List ℕ) × ReadsRequest bytes h rest × (body_length h ≡ Err why)
+HasRefusedHead bytes why =
+    (head : RequestHead) × (rest : List ℕ) × ReadsRequest bytes head rest × (body_length head ≡ Err why)
 
 -- bytes is a rest that is refused with that cause
 abbrev pub IsRefusedAs : List ℕ → HeadRefused → Type 0
@@ -52,6 +53,6 @@ IsRefusedAs bytes why = ((why ≡ BadHead) × HasNoHead bytes) ⊎ HasRefusedHea
 abbrev pub IsNotRefused : List ℕ → Type 0
 IsNotRefused bytes = (why : HeadRefused) → ¬ (IsRefusedAs bytes why)
 
--- a whole head at the front waits for `100 Continue`
+-- the whole head at the front waits for `100 Continue`
 abbrev pub HasAskingHead : List ℕ → Type 0
-HasAskingHead bytes = (h : RequestHead) × (rest : List ℕ) × ReadsRequest bytes h rest × IsTrue (asks h)
+HasAskingHead bytes = (head : RequestHead) × (rest : List ℕ) × ReadsRequest bytes head rest × IsTrue (asks head)

@@ -1,5 +1,5 @@
 -- What the reader answers, and what it tells of the bytes.
-use Rattle.std.specs.Prelude.{◌≡◌, ℕ, ◌≤◌, Bool, true, false, IsTrue, List, length, drop, ⊤, Ok}
+use Rattle.std.specs.Prelude.{◌≡◌, ℕ, ◌<◌, ◌≤◌, Bool, true, false, IsTrue, List, length, drop, ⊤, Ok}
 use Rattle.httparse.specs.Grammar.{RequestHead, print_request, ReadsRequest}
 use Rattle.httparse.specs.Spans.{span_bytes, IsWithin}
 use Rattle.httparse.specs.declared.spans.Span.{Span}
@@ -37,16 +37,23 @@ IfContinue (Continue taken) P = P taken
 IfContinue Partial P = ⊤
 IfContinue (Refused why) P = ⊤
 
--- the first taken bytes are the message m, and the ranges cover its parts
-pub record IsMessageAt (bytes : List ℕ) (head : Head) (body : Span) (taken : ℕ) (m : Message) : Type 0 where
-  pub reads : ReadsMessage bytes m (drop taken bytes)
-  pub length_is : taken ≡ length (print_message m)
-  pub head_is : IsHeadOf bytes head m.head
-  pub body_is : span_bytes bytes body ≡ m.body
+-- the first taken bytes are the message, and the ranges cover its parts
+pub record IsMessageAt (bytes : List ℕ) (head : Head) (body : Span) (taken : ℕ) (message : Message) : Type 0 where
+  pub reads : ReadsMessage bytes message (drop taken bytes)
+  pub length_is : taken ≡ length (print_message message)
+  pub head_is : IsHeadOf bytes head message.head
+  pub body_is : span_bytes bytes body ≡ message.body
+
+-- the ranges of a message of taken bytes lie in the bytes, and those of its head before its body
+pub record LiesWithin (bytes : List ℕ) (head : Head) (body : Span) (taken : ℕ) : Type 0 where
+  pub head_range : IsHeadWithin body.start head
+  pub body_range : IsWithin taken body
+  pub some : 0 < taken
+  pub fits : taken ≤ length bytes
 
 -- a message stands at the front of bytes
 abbrev pub BeginsWithMessage : List ℕ → Type 0
-BeginsWithMessage bytes = (m : Message) × (rest : List ℕ) × ReadsMessage bytes m rest
+BeginsWithMessage bytes = (message : Message) × (rest : List ℕ) × ReadsMessage bytes message rest
 
 -- no message is there and none is refused, and a whole head asks
 pub record Awaits (bytes : List ℕ) : Type 0 where
@@ -63,21 +70,17 @@ pub record IsUnfinished (bytes : List ℕ) : Type 0 where
 -- the first taken bytes are a head that asks
 abbrev pub AsksWithin : List ℕ → ℕ → Type 0
 AsksWithin bytes taken =
-    (h : RequestHead) × ReadsRequest bytes h (drop taken bytes) × (taken ≡ length (print_request h)) × IsTrue (asks h)
+    (head : RequestHead) × ReadsRequest bytes head (drop taken bytes) × (taken ≡ length (print_request head)) × IsTrue (asks head)
 
 -- a whole head is there and is not refused, so that the length of the message is known
 abbrev pub KnowsLength : List ℕ → Type 0
-KnowsLength bytes = (h : RequestHead) × (rest : List ℕ) × (n : ℕ) × ReadsRequest bytes h rest × (body_length h ≡ Ok n)
-
--- the ranges of a message of taken bytes lie in the bytes, and those of the head in the head
-pub record LiesWithin (bytes : List ℕ) (head : Head) (body : Span) (taken : ℕ) : Type 0 where
-  pub parts : IsHeadWithin body.start head
-  pub body_range : IsWithin taken body
-  pub fits : taken ≤ length bytes
+KnowsLength bytes =
+    (head : RequestHead) × (rest : List ℕ) × (body : ℕ) × ReadsRequest bytes head rest × (body_length head ≡ Ok body)
 
 -- what each answer tells of the bytes
 abbrev pub Tells : List ℕ → Next → Type 0
-Tells bytes (Whole head body taken) = ((m : Message) × IsMessageAt bytes head body taken m) × LiesWithin bytes head body taken
+Tells bytes (Whole head body taken) =
+    ((message : Message) × IsMessageAt bytes head body taken message) × LiesWithin bytes head body taken
 Tells bytes (Continue taken) = Awaits bytes × AsksWithin bytes taken
 Tells bytes Partial = IsUnfinished bytes
 Tells bytes (Refused why) = IsRefusedAs bytes why

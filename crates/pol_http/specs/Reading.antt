@@ -10,16 +10,16 @@ use Rattle.pol_http.specs.Message.{HasRefusedHead, IsRefusedAs}
 
 -- some bytes can follow that make a head
 abbrev pub CanHaveRequest : List ℕ → Type 0
-CanHaveRequest bytes = (more : List ℕ) × (h : RequestHead) × (rest : List ℕ) × ReadsRequest (bytes ++ more) h rest
+CanHaveRequest bytes = (more : List ℕ) × (head : RequestHead) × (rest : List ℕ) × ReadsRequest (bytes ++ more) head rest
 
--- the first taken bytes are the head h, which announces a body of that length
-pub record IsFrontAt (bytes : List ℕ) (head : Head) (taken body : ℕ) (h : RequestHead) : Type 0 where
-  pub reads : ReadsRequest bytes h (drop taken bytes)
-  pub length_is : taken ≡ length (print_request h)
+-- the first taken bytes are the head, which announces a body of that length, and read has its parts
+pub record IsFrontAt (bytes : List ℕ) (read : Head) (taken body : ℕ) (head : RequestHead) : Type 0 where
+  pub reads : ReadsRequest bytes head (drop taken bytes)
+  pub length_is : taken ≡ length (print_request head)
   pub within : taken ≤ length bytes
-  pub announces : body_length h ≡ Ok body
-  pub parts : IsHeadOf bytes head h
-  pub ranges : IsHeadWithin taken head
+  pub announces : body_length head ≡ Ok body
+  pub parts : IsHeadOf bytes read head
+  pub ranges : IsHeadWithin taken read
 
 -- no whole head is there, some bytes can follow that make one, and the limit is not passed
 pub record IsOpen (bytes : List ℕ) : Type 0 where
@@ -29,12 +29,12 @@ pub record IsOpen (bytes : List ℕ) : Type 0 where
 
 -- what the front tells of the bytes
 abbrev pub ReadsFront : List ℕ → Front → Type 0
-ReadsFront bytes (Whole head taken body) = (h : RequestHead) × IsFrontAt bytes head taken body h
+ReadsFront bytes (Whole read taken body) = (head : RequestHead) × IsFrontAt bytes read taken body head
 ReadsFront bytes Partial = IsOpen bytes
 ReadsFront bytes (Refused why) = IsRefusedAs bytes why
 
 -- a whole head is there, and is judged
 abbrev pub Judges : List ℕ → Front → Type 0
-Judges bytes (Whole head taken body) = (h : RequestHead) × IsFrontAt bytes head taken body h
+Judges bytes (Whole read taken body) = (head : RequestHead) × IsFrontAt bytes read taken body head
 Judges bytes Partial = ⊥
 Judges bytes (Refused why) = HasRefusedHead bytes why

@@ -113,8 +113,8 @@ fn described(
     body: usize,
 ) -> Head
     requires within { IsRequestWithin front.now fields spans }
-    ensures parts { (h : RequestHead) → IsRequestAt front.now fields spans h
-        → body_length h ≡ Ok body → IsHeadOf front.now result h }
+    ensures parts { (head : RequestHead) → IsRequestAt front.now fields spans head
+        → body_length head ≡ Ok body → IsHeadOf front.now result head }
     ensures ranges { IsHeadWithin spans.len result }
 {
     let named = &fields[..spans.headers];
@@ -162,7 +162,10 @@ fn unfinished(bytes: &[u8]) -> Front
     Front::Partial
 }
 
-/// Bytes whose head has more than `FIELD_LIMIT` fields. It is refused once it is whole.
+/// Bytes whose head has more than `FIELD_LIMIT` fields. It is refused once it is whole. The large
+/// room for its fields stands in no other function, so that other heads don't pay for it.
+#[cold]
+#[inline(never)]
 fn crowded(bytes: &[u8]) -> Front
     requires { RequestOverflows FIELD_LIMIT (take HEAD_LIMIT bytes.now) }
     ensures { ReadsFront bytes.now result }

@@ -32,7 +32,7 @@ pub enum Next {
 pub fn next_message(bytes: &[u8]) -> Next
     ensures whole { IsTrue (is_whole result) ↔ BeginsWithMessage bytes.now }
     ensures parts { IfWhole result (λ head body taken.
-        (m : Message) × IsMessageAt bytes.now head body taken m) }
+        (message : Message) × IsMessageAt bytes.now head body taken message) }
     ensures ranges { IfWhole result (LiesWithin bytes.now) }
 
     ensures refused { (why : HeadRefused) → (result ≡ Next.Refused why) ↔ IsRefusedAs bytes.now why }
