@@ -1,10 +1,10 @@
-ghost use Rattle.std.specs.Prelude.{◌≡◌, ◌≤◌, length, vec_len, IfOk, IfSome};
+ghost use Rattle.std.specs.Prelude.{◌≡◌, ◌≤◌, ◌⊎◌, length, vec_len, IfOk, IfSome};
 ghost use Rattle.pol_http.specs.Next.{IsUnfinished};
-ghost use Rattle.pol_http.specs.Answer.{answer_text};
+ghost use Rattle.pol_http.specs.Answer.{length_of};
 ghost use Rattle.pol_http.specs.declared.tests.Told.TheVariants.{Partial};
 
 use super::*;
-use pol_types::{Bytes, OutOfMemory};
+use pol_types::Bytes;
 use std::alloc::{AllocError, Global};
 use std::test::Fail;
 
@@ -31,6 +31,12 @@ const ASKING: Told = Told::Whole {
     closes: false,
     asks: true,
 };
+
+const BAD_HEAD: Told = Told::Refused(HeadRefused::BadHead);
+
+const LENGTH_NEEDED: Told = Told::Refused(HeadRefused::LengthNeeded);
+
+const BODY_TOO_LONG: Told = Told::Refused(HeadRefused::BodyTooLong);
 
 /// What is told of the bytes, and how many of them it takes.
 fn reading(bytes: &[u8]) -> (Told, usize)
@@ -76,9 +82,9 @@ fn first_difference(input: &[u8], asks_from: usize, last: Told, settled: usize) 
 /// The input, the length of its head where it asks (else 0), the last answer, and after how many
 /// bytes that is given.
 const INPUTS: [(&[u8], usize, Told, usize); 34] = [
-    // HTTP/1.1
+    // the shortest head
     (b"GET / HTTP/1.1\r\n\r\n", 0, WHOLE, 18),
-    // HTTP/1.0 closes
+    // HTTP/1.0 closes, whatever it says
     (
         b"GET / HTTP/1.0\r\nConnection: keep-alive\r\n\r\n",
         0,
@@ -154,131 +160,106 @@ const INPUTS: [(&[u8], usize, Told, usize); 34] = [
     (b"GET / HTTP/1.1\na:b\n\n", 0, WHOLE, 20),
     // a target past ASCII
     (b"GET /\xc3\xa9 HTTP/1.1\r\n\r\n", 0, WHOLE, 20),
-    // content-length b'+5'
+    // a sign
     (
         b"POST / HTTP/1.1\r\ncontent-length: +5\r\n\r\n",
         0,
-        Told::Refused(HeadRefused::BadHead),
+        BAD_HEAD,
         39,
     ),
-    // content-length b''
+    // no digit
     (
         b"POST / HTTP/1.1\r\ncontent-length: \r\n\r\n",
         0,
-        Told::Refused(HeadRefused::BadHead),
+        BAD_HEAD,
         37,
     ),
-    // content-length b'5 5'
+    // two numbers
     (
         b"POST / HTTP/1.1\r\ncontent-length: 5 5\r\n\r\n",
         0,
-        Told::Refused(HeadRefused::BadHead),
+        BAD_HEAD,
         40,
     ),
-    // content-length b'0x5'
+    // another base
     (
         b"POST / HTTP/1.1\r\ncontent-length: 0x5\r\n\r\n",
         0,
-        Told::Refused(HeadRefused::BadHead),
+        BAD_HEAD,
         40,
     ),
-    // content-length b'5,5'
+    // a list
     (
         b"POST / HTTP/1.1\r\ncontent-length: 5,5\r\n\r\n",
         0,
-        Told::Refused(HeadRefused::BadHead),
+        BAD_HEAD,
         40,
     ),
-    // two of them
+    // Content-Length twice
     (
         b"POST / HTTP/1.1\r\ncontent-length: 5\r\nContent-Length: 5\r\n\r\n",
         0,
-        Told::Refused(HeadRefused::BadHead),
+        BAD_HEAD,
         57,
     ),
-    // one over the limit
+    // a body one byte over the limit
     (
         b"POST / HTTP/1.1\r\ncontent-length: 16777217\r\n\r\n",
         0,
-        Told::Refused(HeadRefused::BodyTooLong),
+        BODY_TOO_LONG,
         45,
     ),
-    // 40 digits
+    // a numeral of 40 digits
     (
         b"POST / HTTP/1.1\r\ncontent-length: 9999999999999999999999999999999999999999\r\n\r\n",
         0,
-        Told::Refused(HeadRefused::BodyTooLong),
+        BODY_TOO_LONG,
         77,
     ),
-    // transfer-encoding
+    // Transfer-Encoding
     (
         b"POST / HTTP/1.1\r\ntransfer-encoding: chunked\r\n\r\n",
         0,
-        Told::Refused(HeadRefused::LengthNeeded),
+        LENGTH_NEEDED,
         47,
     ),
-    // and a length
+    // Transfer-Encoding and a length
     (
         b"POST / HTTP/1.1\r\nTransfer-Encoding: chunked\r\ncontent-length: 5\r\n\r\n",
         0,
-        Told::Refused(HeadRefused::LengthNeeded),
+        LENGTH_NEEDED,
         66,
     ),
-    // and a long body
+    // Transfer-Encoding and too long a body
     (
         b"POST / HTTP/1.1\r\ncontent-length: 16777217\r\ntransfer-encoding: chunked\r\n\r\n",
         0,
-        Told::Refused(HeadRefused::LengthNeeded),
+        LENGTH_NEEDED,
         73,
     ),
-    // and a bad length
+    // Transfer-Encoding and a bad length
     (
         b"POST / HTTP/1.1\r\ncontent-length: 5x\r\ntransfer-encoding: chunked\r\n\r\n",
         0,
-        Told::Refused(HeadRefused::BadHead),
+        BAD_HEAD,
         67,
     ),
     // a folded line
-    (
-        b"GET / HTTP/1.1\r\na: b\r\n c\r\n\r\n",
-        0,
-        Told::Refused(HeadRefused::BadHead),
-        23,
-    ),
+    (b"GET / HTTP/1.1\r\na: b\r\n c\r\n\r\n", 0, BAD_HEAD, 23),
     // a space before the colon
-    (
-        b"GET / HTTP/1.1\r\na : b\r\n\r\n",
-        0,
-        Told::Refused(HeadRefused::BadHead),
-        18,
-    ),
+    (b"GET / HTTP/1.1\r\na : b\r\n\r\n", 0, BAD_HEAD, 18),
     // NUL in a value
-    (
-        b"GET / HTTP/1.1\r\na: b\0c\r\n\r\n",
-        0,
-        Told::Refused(HeadRefused::BadHead),
-        21,
-    ),
-    // 0xff ends no text
-    (
-        b"GET /\xff HTTP/1.1\r\n\r\n",
-        0,
-        Told::Refused(HeadRefused::BadHead),
-        6,
-    ),
-    // unfinished target 0xff
-    (b"GET /a\xff", 0, Told::Refused(HeadRefused::BadHead), 7),
+    (b"GET / HTTP/1.1\r\na: b\0c\r\n\r\n", 0, BAD_HEAD, 21),
+    // a target with a byte of no text, which ends
+    (b"GET /\xff HTTP/1.1\r\n\r\n", 0, BAD_HEAD, 6),
+    // the same, which is still being read
+    (b"GET /a\xff", 0, BAD_HEAD, 7),
     // a character cut off by the end of the target
-    (
-        b"GET /\xc3 HTTP/1.1\r\n\r\n",
-        0,
-        Told::Refused(HeadRefused::BadHead),
-        7,
-    ),
-    // overlong
-    (b"GET /\xe0\x80", 0, Told::Refused(HeadRefused::BadHead), 7),
-    // no token
-    (b"\x01", 0, Told::Refused(HeadRefused::BadHead), 1),
+    (b"GET /\xc3 HTTP/1.1\r\n\r\n", 0, BAD_HEAD, 7),
+    // a character in more bytes than it needs
+    (b"GET /\xe0\x80", 0, BAD_HEAD, 7),
+    // no byte of a method
+    (b"\x01", 0, BAD_HEAD, 1),
 ];
 
 /// A head of `22 + padding + 4 * more` bytes, with a long field and so many empty ones.
@@ -301,12 +282,11 @@ fn inputs_are_answered_alike_however_they_are_cut(rt: HostRuntime) -> Result<(),
         let different = first_difference(input, asks_from, last, settled);
         assert_eq!(rt; different, None, "at {input:?}");
     }
-    let bad = Told::Refused(HeadRefused::BadHead);
     for (padding, more, last, settled) in [
         (16_362, 0, WHOLE, 16_384),
-        (16_363, 0, bad, 16_385),
+        (16_363, 0, BAD_HEAD, 16_385),
         (0, 63, WHOLE, 274),
-        (0, 64, bad, 278),
+        (0, 64, BAD_HEAD, 278),
     ] {
         let input = head_with(rt.alloc(), padding, more)?;
         assert_eq!(rt; input.len(), settled);
@@ -334,45 +314,43 @@ fn parts_are_ranges_of_the_bytes(rt: HostRuntime) -> Result<(), Fail> {
     assert_eq!(rt; missing_bytes(input), Some(0));
     assert_eq!(rt; missing_bytes(&input[..53]), Some(3));
     assert_eq!(rt; missing_bytes(&input[..51]), None);
-    assert_eq!(rt;
-        missing_bytes(b"PUT / HTTP/1.1\r\nTransfer-Encoding: x\r\n\r\n"),
-        None
-    );
+    let longest = b"PUT / HTTP/1.1\r\ncontent-length: 16777216\r\n\r\n";
+    assert_eq!(rt; missing_bytes(longest), Some(16_777_216));
+    let coded = b"PUT / HTTP/1.1\r\ntransfer-encoding: x\r\n\r\n";
+    assert_eq!(rt; missing_bytes(coded), None);
 
     let lengths = cut_messages(rt.alloc(), b"GET / HTTP/1.1\n\nGET / HTTP/1.0\n\n\nGET")?;
     assert_eq!(rt; lengths.as_slice(), [16, 16].as_slice());
     Ok(())
 }
 
-/// The text of an answer whose body is made of these bytes.
-fn answered(
-    alloc: Global,
-    status: u16,
-    body: Body,
-    close: bool,
-    head_only: bool,
-) -> Result<Vec<u8>, OutOfMemory>
-    ensures { IfOk result (λ text. text.items
-        ≡ answer_text (record { status = status; body = body; close = close; head_only = head_only })) }
-{
-    let answer = Answer {
-        status,
-        body,
-        close,
-        head_only,
-    };
-    write_answer(alloc, &answer)
+/// The kinds of body.
+#[derive(Clone, Copy)]
+enum Kind {
+    Nothing,
+    Json,
+    Token,
+    Object,
+    Length,
 }
 
-fn bytes(alloc: Global, text: &str) -> Result<Bytes, AllocError>
-    ensures { IfOk result (λ bytes. bytes ≡ text.now) }
+/// A body of that kind made of the text, or of its length.
+fn body(alloc: Global, kind: Kind, text: &str) -> Result<Body, AllocError>
+    ensures { IfOk result (λ body. (length_of body ≡ 0) ⊎ (length_of body ≡ length text.now)) }
 {
-    Ok(Bytes::from(Vec::from_slice(alloc, text.as_bytes())?))
+    let bytes = Bytes::from(Vec::from_slice(alloc, text.as_bytes())?);
+    Ok(match kind {
+        Kind::Nothing => Body::Nothing,
+        Kind::Json => Body::Json(bytes),
+        Kind::Token => Body::Token(bytes),
+        Kind::Object => Body::Object(bytes),
+        Kind::Length => Body::Length(text.len() as u64),
+    })
 }
 
 const NO_ROUTE: &str = r#"{"error":{"code":404,"message":"No route","type":"NotFoundException"}}"#;
 
-const LENGTH_NEEDED: &str =
+const NO_LENGTH: &str =
     r#"{"error":{"code":411,"message":"LengthNeeded","type":"BadRequestException"}}"#;
 
 const TOKEN: &str = concat!(
@@ -380,77 +358,88 @@ const TOKEN: &str = concat!(
     r#""issued_token_type":"urn:ietf:params:oauth:token-type:access_token","token_type":"bearer"}"#
 );
 
+/// The status, the body, whether the connection ends and the request was HEAD, the head of the
+/// answer's text, and what follows it.
+const ANSWERS: [(u16, Kind, &str, (bool, bool), &str, &str); 8] = [
+    (
+        404,
+        Kind::Json,
+        NO_ROUTE,
+        (false, false),
+        "HTTP/1.1 404 Not Found\r\ncontent-type: application/json\r\ncontent-length: 70\r\n\r\n",
+        NO_ROUTE,
+    ),
+    (
+        411,
+        Kind::Json,
+        NO_LENGTH,
+        (true, false),
+        "HTTP/1.1 411 Length Required\r\ncontent-type: application/json\r\n\
+         content-length: 76\r\nconnection: close\r\n\r\n",
+        NO_LENGTH,
+    ),
+    (
+        200,
+        Kind::Token,
+        TOKEN,
+        (false, false),
+        "HTTP/1.1 200 OK\r\ncontent-type: application/json\r\ncontent-length: 175\r\n\
+         cache-control: no-store\r\npragma: no-cache\r\n\r\n",
+        TOKEN,
+    ),
+    (
+        200,
+        Kind::Object,
+        "PAR1",
+        (false, false),
+        "HTTP/1.1 200 OK\r\ncontent-type: application/octet-stream\r\ncontent-length: 4\r\n\r\n",
+        "PAR1",
+    ),
+    (
+        200,
+        Kind::Length,
+        "PAR1",
+        (false, true),
+        "HTTP/1.1 200 OK\r\ncontent-length: 4\r\n\r\n",
+        "",
+    ),
+    (
+        201,
+        Kind::Nothing,
+        "",
+        (false, false),
+        "HTTP/1.1 201 Created\r\ncontent-length: 0\r\n\r\n",
+        "",
+    ),
+    (
+        204,
+        Kind::Nothing,
+        "",
+        (false, false),
+        "HTTP/1.1 204 No Content\r\n\r\n",
+        "",
+    ),
+    (
+        404,
+        Kind::Json,
+        NO_ROUTE,
+        (true, true),
+        "HTTP/1.1 404 Not Found\r\nconnection: close\r\n\r\n",
+        "",
+    ),
+];
+
 #[test]
 fn answers_have_their_lines_in_order(rt: HostRuntime) -> Result<(), Fail> {
-    let alloc = rt.alloc();
-    for (status, body, close, head_only, head, content) in [
-        (
-            404,
-            Body::Json(bytes(alloc, NO_ROUTE)?),
-            false,
-            false,
-            "HTTP/1.1 404 Not Found\r\ncontent-type: application/json\r\ncontent-length: 70\r\n\r\n",
-            NO_ROUTE,
-        ),
-        (
-            411,
-            Body::Json(bytes(alloc, LENGTH_NEEDED)?),
-            true,
-            false,
-            "HTTP/1.1 411 Length Required\r\ncontent-type: application/json\r\ncontent-length: 76\r\nconnection: close\r\n\r\n",
-            LENGTH_NEEDED,
-        ),
-        (
-            200,
-            Body::Token(bytes(alloc, TOKEN)?),
-            false,
-            false,
-            "HTTP/1.1 200 OK\r\ncontent-type: application/json\r\ncontent-length: 175\r\ncache-control: no-store\r\npragma: no-cache\r\n\r\n",
-            TOKEN,
-        ),
-        (
-            200,
-            Body::Object(bytes(alloc, "PAR1")?),
-            false,
-            false,
-            "HTTP/1.1 200 OK\r\ncontent-type: application/octet-stream\r\ncontent-length: 4\r\n\r\n",
-            "PAR1",
-        ),
-        (
-            200,
-            Body::Length(4),
-            false,
-            true,
-            "HTTP/1.1 200 OK\r\ncontent-length: 4\r\n\r\n",
-            "",
-        ),
-        (
-            201,
-            Body::Nothing,
-            false,
-            false,
-            "HTTP/1.1 201 Created\r\ncontent-length: 0\r\n\r\n",
-            "",
-        ),
-        (
-            204,
-            Body::Nothing,
-            false,
-            false,
-            "HTTP/1.1 204 No Content\r\n\r\n",
-            "",
-        ),
-        (
-            404,
-            Body::Json(bytes(alloc, NO_ROUTE)?),
-            true,
-            true,
-            "HTTP/1.1 404 Not Found\r\nconnection: close\r\n\r\n",
-            "",
-        ),
-    ] {
-        let text = answered(alloc, status, body, close, head_only)?;
-        let rest = text.as_slice().strip_prefix(head.as_bytes());
+    for (status, kind, text, (close, head_only), head, content) in ANSWERS {
+        let answer = Answer {
+            status,
+            body: body(rt.alloc(), kind, text)?,
+            close,
+            head_only,
+        };
+        let written = write_answer(rt.alloc(), &answer)?;
+        let rest = written.as_slice().strip_prefix(head.as_bytes());
         assert_eq!(rt; rest, Some(content.as_bytes()), "at {status}");
     }
     Ok(())
