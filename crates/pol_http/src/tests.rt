@@ -4,6 +4,7 @@ ghost use Rattle.pol_http.specs.Answer.{length_of};
 ghost use Rattle.pol_http.specs.declared.tests.Told.TheVariants.{Partial};
 
 use super::*;
+use httparse::spans::Span;
 use pol_types::Bytes;
 use std::alloc::{AllocError, Global};
 use std::test::Fail;
@@ -296,29 +297,52 @@ fn inputs_are_answered_alike_however_they_are_cut(rt: HostRuntime) -> Result<(),
     Ok(())
 }
 
+/// The bytes that the span covers.
+fn covered(input: &[u8], span: Span) -> Option<&[u8]>
+    ensures { IfSome result (λ bytes. length bytes.now ≤ length input.now) }
+{
+    input.get(span.start..span.end)
+}
+
 #[test]
-fn parts_are_ranges_of_the_bytes(rt: HostRuntime) -> Result<(), Fail> {
+fn parts_are_ranges_of_the_bytes(rt: HostRuntime) {
     let input = b"\r\nPUT /a?b HTTP/1.1\nHost: \t l \r\nContent-Length:4\r\n\r\nPAR1GET ";
     let Next::Whole { head, body, taken } = next_message(input) else {
         panic!(rt; "no message");
     };
-    let part = |span: httparse::spans::Span| input.get(span.start..span.end);
-    assert_eq!(rt; part(head.method), Some(b"PUT".as_slice()));
-    assert_eq!(rt; part(head.target), Some(b"/a?b".as_slice()));
     assert_eq!(rt; (head.minor, head.count, taken), (1, 2, 56));
-    assert_eq!(rt; part(head.fields[0].name), Some(b"Host".as_slice()));
-    assert_eq!(rt; part(head.fields[0].value), Some(b"l".as_slice()));
-    assert_eq!(rt; part(head.fields[1].value), Some(b"4".as_slice()));
-    assert_eq!(rt; part(body), Some(b"PAR1".as_slice()));
+    for (span, wanted) in [
+        (head.method, "PUT"),
+        (head.target, "/a?b"),
+        (head.fields[0].name, "Host"),
+        (head.fields[0].value, "l"),
+        (head.fields[1].name, "Content-Length"),
+        (head.fields[1].value, "4"),
+        (body, "PAR1"),
+    ] {
+        assert_eq!(rt; covered(input, span), Some(wanted.as_bytes()));
+    }
+}
 
-    assert_eq!(rt; missing_bytes(input), Some(0));
-    assert_eq!(rt; missing_bytes(&input[..53]), Some(3));
-    assert_eq!(rt; missing_bytes(&input[..51]), None);
-    let longest = b"PUT / HTTP/1.1\r\ncontent-length: 16777216\r\n\r\n";
-    assert_eq!(rt; missing_bytes(longest), Some(16_777_216));
-    let coded = b"PUT / HTTP/1.1\r\ntransfer-encoding: x\r\n\r\n";
-    assert_eq!(rt; missing_bytes(coded), None);
+const MISSING: [(&[u8], Option<usize>); 5] = [
+    (b"PUT / HTTP/1.1\r\ncontent-length: 4\r\n\r", None),
+    (b"PUT / HTTP/1.1\r\ncontent-length: 4\r\n\r\nP", Some(3)),
+    (
+        b"PUT / HTTP/1.1\r\ncontent-length: 4\r\n\r\nPAR1GET",
+        Some(0),
+    ),
+    (
+        b"PUT / HTTP/1.1\r\ncontent-length: 16777216\r\n\r\n",
+        Some(16_777_216),
+    ),
+    (b"PUT / HTTP/1.1\r\ntransfer-encoding: x\r\n\r\n", None),
+];
 
+#[test]
+fn missing_bytes_and_whole_messages_are_counted(rt: HostRuntime) -> Result<(), Fail> {
+    for (input, missing) in MISSING {
+        assert_eq!(rt; missing_bytes(input), missing);
+    }
     let lengths = cut_messages(rt.alloc(), b"GET / HTTP/1.1\n\nGET / HTTP/1.0\n\n\nGET")?;
     assert_eq!(rt; lengths.as_slice(), [16, 16].as_slice());
     Ok(())
