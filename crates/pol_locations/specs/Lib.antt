@@ -1,3 +1,4 @@
 pub mod Laws
 pub mod Location
+pub mod LocationRefused
 pub mod LocationSet

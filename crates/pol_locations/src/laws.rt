@@ -1,5 +1,15 @@
 //! Laws of locations: each is a function without a body, whose clause is the law.
+ghost use Rattle.std.specs.Prelude.{◌≡◌, ℕ, List};
+ghost use Rattle.std.specs.Cmp.Lexicographic.{slice_cmp};
+ghost use Rattle.std.specs.Ordering.{nat_cmp};
 ghost use Rattle.pol_locations.specs.Laws.{CoverIsAntisymmetric, CoverIsReflexive, CoverIsTransitive, CoversOverlap, LocationsPass, OnlyTextsPass, OverlapIsSymmetric, TextsPass, TextsReadBack};
+
+use crate::Location;
+
+/// Locations compare segment by segment, and segments byte by byte.
+pub fn locations_are_in_byte_order()
+    ensures { (left right : List (List ℕ)) → ⟦<Location as Ord>⟧.cmp left right ≡ slice_cmp (slice_cmp nat_cmp) left right }
+{}
 
 /// The rules refuse no list of segments exactly where it is a location.
 pub fn locations_pass()

@@ -1,4 +1,4 @@
-ghost use Rattle.std.specs.Prelude.{◌≡◌};
+ghost use Rattle.std.specs.Prelude.{◌≡◌, Some};
 ghost use Rattle.pol_locations.specs.declared.refused.LocationRefused.TheVariants.{OutOfMemory};
 
 use std::alloc::{AllocError, AllocFailed};
@@ -6,7 +6,8 @@ use std::error::Error;
 use std::fmt;
 
 /// Why a text or a list of segments is no location. `TooLong` comes before `BadScheme`, and that before the refusal
-/// of the first bad segment. A list without segments is `EmptySegment`, and a `/` in a segment is `ControlByte`.
+/// of the first bad segment. A list without segments is `EmptySegment`, and a `/` in a segment is `ControlByte`. Each
+/// prints as its name.
 #[derive(Clone, Copy, Debug, PartialEq, Eq)]
 pub enum LocationRefused {
     BadScheme,
@@ -18,14 +19,18 @@ pub enum LocationRefused {
 }
 
 impl fmt::Display for LocationRefused {
+    ghost use Rattle.pol_locations.specs.LocationRefused.{word_of};
+
+    ghost output = { λ why. Some (word_of why) };
+
     fn fmt<W: fmt::Write>(&self, f: &mut fmt::Formatter<W>) -> fmt::Result {
         f.write_str(match self {
-            LocationRefused::BadScheme => "the location does not begin with lake://",
-            LocationRefused::EmptySegment => "the location has an empty segment",
-            LocationRefused::DotSegment => "the location has a segment . or ..",
-            LocationRefused::ControlByte => "a segment has a byte that no segment has",
-            LocationRefused::TooLong => "the location has more than 1,024 bytes",
-            LocationRefused::OutOfMemory => "out of memory",
+            LocationRefused::BadScheme => "BadScheme",
+            LocationRefused::EmptySegment => "EmptySegment",
+            LocationRefused::DotSegment => "DotSegment",
+            LocationRefused::ControlByte => "ControlByte",
+            LocationRefused::TooLong => "TooLong",
+            LocationRefused::OutOfMemory => "OutOfMemory",
         })
     }
 }
