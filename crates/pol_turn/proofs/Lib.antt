@@ -1,0 +1,4 @@
+pub mod Fronts
+pub mod Queues
+pub mod Keeps
+pub mod Rests
