@@ -12,3 +12,6 @@ pub use pass::Pass;
 pub use standing::Standing;
 pub use turns::{Held, Turns};
 pub use view::Gathered;
+
+#[cfg(test)]
+mod tests;

@@ -1,0 +1,192 @@
+ghost use Rattle.std.specs.Prelude.{◌≡◌, ◌==◌, [], false, All, IfOk, count_by};
+
+use super::*;
+use pol_types::OutOfMemory;
+use std::alloc::Global;
+use std::sync::Wait;
+use std::test::*;
+use std::thread;
+use std::thread::Threads;
+
+const EACH: u64 = 10_000;
+
+/// An amount, and the pass that entered it.
+#[derive(Clone, Copy)]
+struct Entry {
+    number: u64,
+    amount: u64,
+}
+
+/// A list of entries, beside the amount that stood before. It has no `Drop`.
+struct Account {
+    opening: u64,
+    entries: Vec<Entry>,
+}
+
+impl Standing for Account {
+    type Item = Entry;
+
+    type Fixed = u64;
+
+    ghost number = { λ entry. entry.number };
+
+    ghost items = { λ account. account.entries.items };
+
+    ghost fixed = { λ account. account.opening };
+}
+
+impl Account {
+    fn count(&self, number: u64) -> usize
+        ensures { result ≡ count_by (λ entry. entry.number == number) self.now.entries.items }
+    {
+        self.entries
+            .iter()
+            .filter(|entry| entry.number == number)
+            .count()
+    }
+}
+
+/// The lock over an empty account.
+fn open(alloc: Global) -> Result<(Turns<Account>, Pass<Account>), OutOfMemory>
+    ensures lock { IfOk result (λ made. made.1.lock ≡ made.0) }
+    ensures founds { IfOk result (λ made. (made.1.number ≡ 0) × (made.1.made ≡ 1) × (made.1.gathered ≡ []) × (made.1.has_turn ≡ false)) }
+{
+    let account = Account {
+        opening: 7,
+        entries: Vec::new(alloc),
+    };
+    Turns::new(alloc, account).map_err(|(account, error)| {
+        let Account {
+            opening: _,
+            entries: _,
+        } = account;
+        error
+    })
+}
+
+/// Adds an entry of the pass, where there is memory for it.
+fn enter<R: Wait>(rt: &R, turns: &Turns<Account>, pass: &mut Pass<Account>, amount: u64)
+    requires lock { pass.old.lock ≡ turns.now }
+    requires free { pass.old.has_turn ≡ false }
+    ensures { pass.new ≡ record pass.old { front = pass.new.front; own = pass.new.own } }
+{
+    let number = pass.number();
+    let Held { value: mut account } = turns.take(rt, pass);
+    let _ = account.entries.push(Entry { number, amount });
+    turns.give_back(pass, Held { value: account });
+}
+
+/// Adds many entries of the pass.
+fn enter_many<R: Wait>(rt: &R, turns: &Turns<Account>, pass: &mut Pass<Account>)
+    requires lock { pass.old.lock ≡ turns.now }
+    requires free { pass.old.has_turn ≡ false }
+    ensures { pass.new ≡ record pass.old { front = pass.new.front; own = pass.new.own } }
+{
+    for amount in 0..EACH {
+        enter(rt, turns, pass, amount);
+    }
+}
+
+/// Each pass adds many entries, in a thread of its own.
+fn enter_abreast<R: Threads + Wait + Sync>(
+    rt: &R,
+    turns: &Turns<Account>,
+    passes: &mut [Pass<Account>],
+)
+    requires { All (λ pass. (pass.lock ≡ turns.now) × (pass.has_turn ≡ false)) passes.old }
+    ensures { All (λ pass. (pass.lock ≡ turns.now) × (pass.has_turn ≡ false)) passes.new }
+{
+    thread::for_each_mut(rt, passes, 4, &|_, pass| enter_many(rt, turns, pass));
+}
+
+#[test]
+fn each_pass_has_its_entry_in_one_log(rt: HostRuntime) -> Result<(), Fail> {
+    let (turns, mut founder) = open(rt.alloc())?;
+    let mut first = turns.split(&mut founder);
+    let mut second = turns.split(&mut founder);
+    assert_eq!(rt; (founder.number(), first.number(), second.number()), (0, 1, 2));
+    enter(&rt, &turns, &mut first, 10);
+    enter(&rt, &turns, &mut second, 20);
+    turns.join(&mut founder, first);
+    turns.join(&mut founder, second);
+    let Some(account) = turns.close(founder) else {
+        panic!(rt; "the account was given back")
+    };
+    let counts = (account.count(0), account.count(1), account.count(2));
+    let Account { opening, entries } = account;
+    assert_eq!(rt; (opening, entries.len(), counts), (7, 2, (0, 1, 1)));
+    Ok(())
+}
+
+#[test]
+fn value_that_is_out_does_not_come_back(rt: HostRuntime) -> Result<(), Fail> {
+    let (turns, mut founder) = open(rt.alloc())?;
+    enter(&rt, &turns, &mut founder, 10);
+    let Held {
+        value: Account {
+            opening: _,
+            entries,
+        },
+    } = turns.take(&rt, &mut founder);
+    assert_eq!(rt; entries.len(), 1);
+    match turns.close(founder) {
+        None => Ok(()),
+        Some(Account {
+            opening: _,
+            entries: _,
+        }) => panic!(rt; "the account is out"),
+    }
+}
+
+#[test]
+fn two_threads_add_all_their_entries(rt: HostRuntime) -> Result<(), Fail> {
+    let (turns, mut founder) = open(rt.alloc())?;
+    let mut passes = [turns.split(&mut founder), turns.split(&mut founder)];
+    enter_abreast(&rt, &turns, &mut passes);
+    let [first, second] = passes;
+    turns.join(&mut founder, first);
+    turns.join(&mut founder, second);
+    let Some(account) = turns.close(founder) else {
+        panic!(rt; "the account was given back")
+    };
+    let counts = [account.count(0), account.count(1), account.count(2)];
+    let Account {
+        opening: _,
+        entries: _,
+    } = account;
+    assert_eq!(rt; counts, [0, 10_000, 10_000]);
+    Ok(())
+}
+
+#[test]
+fn four_threads_add_all_their_entries(rt: HostRuntime) -> Result<(), Fail> {
+    let (turns, mut founder) = open(rt.alloc())?;
+    let mut passes = [
+        turns.split(&mut founder),
+        turns.split(&mut founder),
+        turns.split(&mut founder),
+        turns.split(&mut founder),
+    ];
+    enter_abreast(&rt, &turns, &mut passes);
+    let [first, second, third, fourth] = passes;
+    turns.join(&mut founder, fourth);
+    turns.join(&mut founder, third);
+    turns.join(&mut founder, second);
+    turns.join(&mut founder, first);
+    let Some(account) = turns.close(founder) else {
+        panic!(rt; "the account was given back")
+    };
+    let counts = [
+        account.count(0),
+        account.count(1),
+        account.count(2),
+        account.count(3),
+        account.count(4),
+    ];
+    let Account {
+        opening: _,
+        entries: _,
+    } = account;
+    assert_eq!(rt; counts, [0, 10_000, 10_000, 10_000, 10_000]);
+    Ok(())
+}
