@@ -1,5 +1,5 @@
 -- Beginnings of one list, and the items of one number in them.
-use Rattle.std.proofs.Common.{◌≡◌, ◌≢◌, ℕ, ◌+◌, ◌≤◌, ◌<◌, ◌==◌, List, [], ◌∷◌, ◌++◌, length, drop, filter, Bool, cond, true, false, nat_lt, eqb, eq-eqb, ne_eqb, refl, ap, sym, ◌∙◌, subst, ⊎_elim, arith, append_assoc, length-append, All}
+use Rattle.std.proofs.Common.{◌≡◌, ◌≢◌, ℕ, ◌≤◌, ◌==◌, List, [], ◌∷◌, ◌++◌, length, drop, Bool, cond, true, false, nat_lt, eq-eqb, ne_eqb, refl, ap, sym, ◌∙◌, ⊎_elim, arith, append_assoc, length-append, All}
 use Rattle.std.proofs.lemmas.List.{append-nil}
 use Rattle.std.proofs.lemmas.List.Elements.{filter-append, All-weaker}
 use Rattle.std.proofs.lemmas.List.Prefix.{front_rest}
@@ -70,14 +70,18 @@ module _ {I : Type 0} (number : I → ℕ) where
   pub adds : (n : ℕ) (log next : List I) → AddsAtMostOne number n log next → (added : List I) × Adds n log next added
   adds n log next = ⊎_elim
       (λ same. ([], record { joined = append-nil log ∙ sym same; mine = ap (by n) same ∙ sym (append-nil (by n log)); others = λ m other. ap (by m) same }))
-      (λ one. (one.0 ∷ [], record {
-        joined = sym one.2;
-        mine = ap (by n) one.2 ∙ (filter-append (λ x. number x == n) log (one.0 ∷ []) ∙ ap (λ r. by n log ++ r) (kept one.0 n one.1));
-        others = λ m other. ap (by m) one.2 ∙ (filter-append (λ x. number x == m) log (one.0 ∷ []) ∙ (ap (λ r. by m log ++ r) (left_out one.0 m (λ e. other (sym e ∙ one.1))) ∙ append-nil (by m log)));
-      }))
+      (λ one. (
+        one.0 ∷ [],
+        record {
+          joined = sym one.2;
+          mine = ap (by n) one.2 ∙ (filter-append (λ x. number x == n) log (one.0 ∷ []) ∙ ap (λ r. by n log ++ r) (kept one.0 n one.1));
+          others = λ m other. ap (by m) one.2 ∙ (filter-append (λ x. number x == m) log (one.0 ∷ []) ∙ (ap (λ r. by m log ++ r) (left_out one.0 m (λ e. other (sym e ∙ one.1))) ∙ append-nil (by m log)));
+        },
+      ))
     where
       kept : (item : I) (m : ℕ) → number item ≡ m → by m (item ∷ []) ≡ item ∷ []
       kept item m is = rw (eq-eqb (number item) m is) refl
+
       left_out : (item : I) (m : ℕ) → number item ≢ m → by m (item ∷ []) ≡ []
       left_out item m other = rw (ne_eqb (number item) m other) refl
 

@@ -1,5 +1,5 @@
 -- Each step keeps the rule of the table.
-use Rattle.std.proofs.Common.{◌≡◌, ◌≢◌, ℕ, zero, suc, ◌+◌, ◌%◌, ◌<◌, ◌≤◌, Bool, true, false, not, ◌&&◌, List, [], ◌∷◌, ◌++◌, length, drop, get_or, set, Option, Some, None, All, IfSome, IsNone, IsTrue, count_by, sym, refl, ap, ◌∙◌, subst, ⊎_elim, arith, length-set, length-append, add_assoc}
+use Rattle.std.proofs.Common.{◌≡◌, ◌≢◌, ℕ, zero, suc, ◌+◌, ◌%◌, ◌<◌, Bool, true, false, not, ◌&&◌, List, [], ◌∷◌, ◌++◌, length, drop, get_or, set, Option, Some, None, All, IfSome, IsNone, IsTrue, sym, refl, ap, ◌∙◌, subst, ⊎_elim, arith, length-append}
 use Rattle.std.proofs.lemmas.List.Elements.{All-weaker, All-push, All-nil, recursion_from_All}
 use mathlib.Core.List.{IsPrefix}
 use mathlib.Core.Logic.{dite}
@@ -7,14 +7,14 @@ use mathlib.Core.Option.{some, none, some-injective, some-ne-none}
 use native.Mathlib.Decide.{ℕ_discrete}
 use lib.ListN.{get_elem?}
 use lib.Seq.{set-get_or}
-use Rattle.atomic_table.specs.Table.{State, Me, step, Act, keeps, takes, gives, put_back, Allows, Splits, Joins, opening, Final, Seen}
-use Rattle.atomic_table.proofs.Lists.{at_set, set_here, set_else, set_again}
+use Rattle.atomic_table.specs.Table.{State, step, keeps, takes, gives, Allows, Splits, Joins, opening, Final, Seen}
+use Rattle.atomic_table.proofs.Lists.{at_set, set_else, set_again}
 use Rattle.pol_turn.specs.declared.view.Gathered.{Gathered}
 use Rattle.pol_turn.specs.declared.view.View.{View}
 use Rattle.pol_turn.specs.Known.{items_by, Accounts, AddsAtMostOne}
-use Rattle.pol_turn.specs.Rule.{round, Slot, lies, away, empty, home_of, is_taken, StandsFor, Book, Settles, Knows, Stands, lives, queues, Kept, Ruled, founding, newcomer, with_one_more, gone_view, longer, shorter, gathering, carried}
-use Rattle.pol_turn.specs.Steps.{waiting, serving, given, closing, Fair, Sat, Draws, Takes, Looks, Serves, Settled, Shuts}
-use Rattle.pol_turn.proofs.Fronts.{prefix_self, prefix_trans, between, settles_on, settles_all_on, Adds, adds, added_is, longer_front, none_before, by_same, by_other}
+use Rattle.pol_turn.specs.Rule.{round, Slot, lies, away, empty, home_of, is_taken, StandsFor, Book, Settles, Knows, Stands, lives, queues, Kept, Ruled, founding, newcomer, with_one_more, gone_view, longer, gathering, carried}
+use Rattle.pol_turn.specs.Steps.{waiting, serving, given, closing, Fair, Sat, Draws, Looks, Serves, Settled, Shuts}
+use Rattle.pol_turn.proofs.Fronts.{prefix_self, prefix_trans, settles_on, settles_all_on, Adds, adds, added_is, longer_front, none_before, by_same, by_other}
 use Rattle.pol_turn.proofs.Queues.{bit, is_false, put, put_here, put_else, put_clear, at_end, count_set, count_push, queue_short, queue_shorter, others_stay, next_ticket, own_turn}
 
 module _ {S : Type 0} where
@@ -98,25 +98,30 @@ module _ {S I F : Type 0} (number : I → ℕ) (items : S → List I) (fixed : S
         w,
         keeps,
         tt,
-        (b', record {
-          words = ap (λ (ws : List ℕ). set ws 1 ((get_or ws 1 0 + 1) % round)) kept.words ∙ ap (λ n. b.serving % round ∷ n ∷ []) (next_ticket b.ticket);
-          homes = kept.homes;
-          queue = let q = kept.queue in omega (arith, ap bit was, ap bit is);
-          passes = let p = kept.passes in omega arith;
-          few = kept.few;
-          value = kept.value;
-          taken = λ t. let h = kept.taken t in omega arith;
-          fresh = kept.fresh;
-          gone = kept.gone;
-          each = others_stay (λ j u. Knows number (fixed opened) b.log b.made b.gathered b.seat_of j u × Stands b.log b.serving (b.ticket + 1) (put b.holder b.ticket id) b.slot j u) s.views id w
-              (moved (fixed opened) b.log b.made b.gathered b.seat_of id v b.ticket true v.serves v.shut fit.0, record {
+        (
+          b',
+          record {
+            words = ap (λ (ws : List ℕ). set ws 1 ((get_or ws 1 0 + 1) % round)) kept.words ∙ ap (λ n. b.serving % round ∷ n ∷ []) (next_ticket b.ticket);
+            homes = kept.homes;
+            queue = let q = kept.queue in omega (arith, ap bit was, ap bit is);
+            passes = let p = kept.passes in omega arith;
+            few = kept.few;
+            value = kept.value;
+            taken = λ t. let h = kept.taken t in omega arith;
+            fresh = kept.fresh;
+            gone = kept.gone;
+            each = others_stay (λ j u. Knows number (fixed opened) b.log b.made b.gathered b.seat_of j u × Stands b.log b.serving (b.ticket + 1) (put b.holder b.ticket id) b.slot j u) s.views id w (
+              moved (fixed opened) b.log b.made b.gathered b.seat_of id v b.ticket true v.serves v.shut fit.0,
+              record {
                 waits = λ _. let q = kept.queue in (omega arith, omega arith, put_here b.holder b.ticket id);
                 first = λ _ now. free ∙ sym (is_false (is_taken b.slot) (λ t. let h = kept.taken t in omega arith));
                 serves = λ e. absurd (cc (free, e));
                 shut = λ e. absurd (cc (unshut, e));
-              })
-              (λ j u other at' alive'. let f = kept.each j u at' alive' in (f.0, drawn b.log b.serving b.ticket b.holder b.slot id j u f.1));
-        }),
+              },
+            )
+                (λ j u other at' alive'. let f = kept.each j u at' alive' in (f.0, drawn b.log b.serving b.ticket b.holder b.slot id j u f.1));
+          },
+        ),
         (b.ticket, sym (ap (λ (ws : List ℕ). get_or ws 1 0) kept.words), refl),
       )
 
@@ -167,13 +172,15 @@ module _ {S I F : Type 0} (number : I → ℕ) (items : S → List I) (fixed : S
         taken = λ _. let t = stands.waits waits in omega arith;
         fresh = kept.fresh;
         gone = kept.gone;
-        each = others_stay (λ j u. Knows number (fixed opened) b.log b.made b.gathered b.seat_of j u × Stands {S = S} b.log b.serving b.ticket b.holder away j u) s.views id w
-            (up_to_date (fixed opened) b id v known, record {
-              waits = λ _. stands.waits waits;
-              first = λ _ _. refl;
-              serves = λ _. (waits, now, refl);
-              shut = λ e. absurd (cc (unshut, e));
-            })
+        each = others_stay (λ j u. Knows number (fixed opened) b.log b.made b.gathered b.seat_of j u × Stands {S = S} b.log b.serving b.ticket b.holder away j u) s.views id w (
+          up_to_date (fixed opened) b id v known,
+          record {
+            waits = λ _. stands.waits waits;
+            first = λ _ _. refl;
+            serves = λ _. (waits, now, refl);
+            shut = λ e. absurd (cc (unshut, e));
+          },
+        )
             (λ j u other at' alive'. let f = kept.each j u at' alive' in (f.0, passed_over b x id j v u home stands waits now other f.1));
       }
 
@@ -185,33 +192,32 @@ module _ {S I F : Type 0} (number : I → ℕ) (items : S → List I) (fixed : S
       let stands = (kept.each id v at alive).1 in
       let words0 : get_or s.words 0 0 ≡ b.serving % round = ap (λ (ws : List ℕ). get_or ws 0 0) kept.words in
       dite (ℕ_discrete (get_or s.words 0 0) (v.ticket % round))
-        (λ same.
-          let t = stands.waits waits in
-          let q = kept.queue in
-          let p = kept.passes in
-          let short = queue_short s.views in
-          let now : v.ticket ≡ b.serving = own_turn b.serving v.ticket b.ticket b.made t.0 t.1 (omega arith) kept.few (sym words0 ∙ same) in
-          let home = at_home b.slot (sym (stands.first waits now) ∙ free) in
-          let x : S = home.0 in
-          let value : (items x ≡ b.log) × (fixed x ≡ fixed opened) = subst (StandsFor items fixed b.log (fixed opened)) home.1 kept.value in
-          let homes : s.homes ≡ some (Some x) ∷ [] = kept.homes ∙ ap (λ (slot : Slot S). home_of slot ∷ []) home.1 in
-          (
-            serving v b.log,
-            takes 0 (Some x),
-            ap (λ (hs : List (mathlib.Core.Option.Option (Option S))). get_elem? hs 0) homes,
-            (record b { slot = away }, taken opened id v s b x kept at known stands waits unshut now home.1),
-            (
-              (λ _. (
-                x,
-                ap (λ (l : List I). (serving v l, (0, Some x) ∷ me.1)) (sym value.0),
-                known.opened ∙ ap (λ (f : F). Some f) (sym value.1),
-                subst (IsPrefix v.front) (sym value.0) known.front,
-                subst (λ (l : List I). Fair number (serving v l)) (sym value.0) (fair_log (fixed opened) b s id v kept known),
-              )),
-              (λ differs. absurd (differs same)),
-            ),
-          ))
-        (λ differs. (v, keeps, tt, (b, unchanged (fixed opened) b s 0 id v at kept), ((λ same. absurd (differs same)), (λ _. refl))))
+      (λ same.
+      let t = stands.waits waits in
+      let q = kept.queue in
+      let p = kept.passes in
+      let short = queue_short s.views in
+      let now : v.ticket ≡ b.serving = own_turn b.serving v.ticket b.ticket b.made t.0 t.1 (omega arith) kept.few (sym words0 ∙ same) in
+      let home = at_home b.slot (sym (stands.first waits now) ∙ free) in
+      let x : S = home.0 in
+      let value : (items x ≡ b.log) × (fixed x ≡ fixed opened) = subst (StandsFor items fixed b.log (fixed opened)) home.1 kept.value in
+      let homes : s.homes ≡ some (Some x) ∷ [] = kept.homes ∙ ap (λ (slot : Slot S). home_of slot ∷ []) home.1 in (
+        serving v b.log,
+        takes 0 (Some x),
+        ap (λ (hs : List (mathlib.Core.Option.Option (Option S))). get_elem? hs 0) homes,
+        (record b { slot = away }, taken opened id v s b x kept at known stands waits unshut now home.1),
+        (
+          (λ _. (
+            x,
+            ap (λ (l : List I). (serving v l, (0, Some x) ∷ me.1)) (sym value.0),
+            known.opened ∙ ap (λ (f : F). Some f) (sym value.1),
+            subst (IsPrefix v.front) (sym value.0) known.front,
+            subst (λ (l : List I). Fair number (serving v l)) (sym value.0) (fair_log (fixed opened) b s id v kept known),
+          )),
+          (λ differs. absurd (differs same)),
+        ),
+      ))
+      (λ differs. (v, keeps, tt, (b, unchanged (fixed opened) b s 0 id v at kept), ((λ same. absurd (differs same)), (λ _. refl))))
 
   -- Serve
 
@@ -295,15 +301,17 @@ module _ {S I F : Type 0} (number : I → ℕ) (items : S → List I) (fixed : S
         taken = λ e. absurd (cc (e));
         fresh = λ n le. added.1.others n (λ e. let l = known.below in omega arith) ∙ kept.fresh n le;
         gone = kept.gone;
-        each = others_stay (λ j u. Knows number (fixed opened) (items x) b.made b.gathered b.seat_of j u × Stands (items x) (b.serving + 1) b.ticket b.holder (lies x) j u) s.views id w
-            (mine, record {
-              waits = λ e. absurd (cc (e));
-              first = λ e. absurd (cc (e));
-              serves = λ e. absurd (cc (e));
-              shut = λ e. absurd (cc (unshut, e));
-            })
+        each = others_stay (λ j u. Knows number (fixed opened) (items x) b.made b.gathered b.seat_of j u × Stands (items x) (b.serving + 1) b.ticket b.holder (lies x) j u) s.views id w (
+          mine,
+          record {
+            waits = λ e. absurd (cc (e));
+            first = λ e. absurd (cc (e));
+            serves = λ e. absurd (cc (e));
+            shut = λ e. absurd (cc (unshut, e));
+          },
+        )
             (λ j u other at' alive'. let f = kept.each j u at' alive' in
-              (longer_log (fixed opened) b id j v u (items x) added.0 added.1 known.seated other kept.gone f.0, moved_up b (items x) x id j v u stands t.0 t.1 other f.1));
+            (longer_log (fixed opened) b id j v u (items x) added.0 added.1 known.seated other kept.gone f.0, moved_up b (items x) x id j v u stands t.0 t.1 other f.1));
       } in
       let fair : Fair number w = fair_log (fixed opened) b' record { words = set s.words 0 ((get_or s.words 0 0 + 1) % 18446744073709551616); homes = set s.homes 0 (some (Some x)); views = set s.views id w } id w after mine in
       (w, gives, tt, (b', after), λ y e. let x_is : x ≡ y = cc (ap in_hand e) in (ap (λ (z : S). let m : Sat S I F = (given v (items z), []) in m) x_is, subst (λ (z : S). Fair number (given v (items z))) x_is fair))
@@ -372,26 +380,28 @@ module _ {S I F : Type 0} (number : I → ℕ) (items : S → List I) (fixed : S
       let queued' = count_push queues vs new in
       let lived = count_set lives s.views id v w at in
       let lived' = count_push lives vs new in
-      let seat_of : ℕ → Option ℕ = put b.seat_of b.made (Some (length vs)) in
-      (record b { made = b.made + 1; seat_of = seat_of }, record {
-        words = kept.words;
-        homes = kept.homes;
-        queue = let q = kept.queue in omega arith;
-        passes = let p = kept.passes in omega arith;
-        few = omega arith;
-        value = kept.value;
-        taken = kept.taken;
-        fresh = λ n le. kept.fresh n (omega arith);
-        gone = λ k d l. let g = kept.gone k d l in (omega (arith, g.0), put_else b.seat_of b.made (Some (length vs)) _ (λ e. omega (arith, g.0)) ∙ g.1);
-        each = λ j u at' alive'. ⊎_elim
-            (λ old. others_stay (λ k y. Knows number (fixed opened) b.log (b.made + 1) b.gathered seat_of k y × Stands b.log b.serving b.ticket b.holder b.slot k y) s.views id w
+      let seat_of : ℕ → Option ℕ = put b.seat_of b.made (Some (length vs)) in (
+        record b { made = b.made + 1; seat_of = seat_of },
+        record {
+          words = kept.words;
+          homes = kept.homes;
+          queue = let q = kept.queue in omega arith;
+          passes = let p = kept.passes in omega arith;
+          few = omega arith;
+          value = kept.value;
+          taken = kept.taken;
+          fresh = λ n le. kept.fresh n (omega arith);
+          gone = λ k d l. let g = kept.gone k d l in (omega (arith, g.0), put_else b.seat_of b.made (Some (length vs)) _ (λ e. omega (arith, g.0)) ∙ g.1);
+          each = λ j u at' alive'. ⊎_elim
+              (λ old. others_stay (λ k y. Knows number (fixed opened) b.log (b.made + 1) b.gathered seat_of k y × Stands b.log b.serving b.ticket b.holder b.slot k y) s.views id w
               (split_founder (fixed opened) b (length vs) id v first known, record { waits = stands.waits; first = stands.first; serves = stands.serves; shut = stands.shut })
               (λ k y other at'' alive''. let f = kept.each k y at'' alive'' in (split_other (fixed opened) b (length vs) id k v y first known.seated other f.0, f.1))
               j u old alive')
-            (λ (t : (new ≡ u) × (j ≡ length vs)). subst (λ (x : ℕ × V). Knows number (fixed opened) b.log (b.made + 1) b.gathered seat_of x.0 x.1 × Stands b.log b.serving b.ticket b.holder b.slot x.0 x.1) (λ i. (sym t.1 i, t.0 i))
+              (λ (t : (new ≡ u) × (j ≡ length vs)). subst (λ (x : ℕ × V). Knows number (fixed opened) b.log (b.made + 1) b.gathered seat_of x.0 x.1 × Stands b.log b.serving b.ticket b.holder b.slot x.0 x.1) (λ i. (sym t.1 i, t.0 i))
               (split_new (fixed opened) b (length vs) id v first (kept.fresh b.made (omega arith)) known, record { waits = λ e. absurd (cc (e)); first = λ e. absurd (cc (e)); serves = λ e. absurd (cc (e)); shut = λ e. absurd (cc (e)) }))
-            (at_end vs new u j at');
-      })
+              (at_end vs new u j at');
+        },
+      )
 
   -- Gather
 
@@ -426,8 +436,11 @@ module _ {S I F : Type 0} (number : I → ℕ) (items : S → List I) (fixed : S
         front = fronts.0;
         met = fronts.1;
         own = one;
-        founds = λ _. (f.0, ap (λ (gs : List (Gathered I)). gs ++ g ∷ []) f.1,
-            All-push (λ (h : Gathered I). Settles number (longer v.front u.front) b.log h.number h.items) b.gathered g (settles_all_on number b.gathered v.front (longer v.front u.front) b.log fronts.2 fronts.0 f.2) two);
+        founds = λ _. (
+          f.0,
+          ap (λ (gs : List (Gathered I)). gs ++ g ∷ []) f.1,
+          All-push (λ (h : Gathered I). Settles number (longer v.front u.front) b.log h.number h.items) b.gathered g (settles_all_on number b.gathered v.front (longer v.front u.front) b.log fronts.2 fronts.0 f.2) two,
+        );
       }
     where
       some_same : Some other ≡ Some id → other ≡ id
@@ -450,28 +463,30 @@ module _ {S I F : Type 0} (number : I → ℕ) (items : S → List I) (fixed : S
       let was : queues u ≡ false = ap (λ c. c && not u.spent) idle in
       let lived_there : lives u ≡ true = ap not alive' in
       let seat_of : ℕ → Option ℕ = put b.seat_of u.number None in
-      let P : ℕ → V → Type 0 = λ j y. Knows number (fixed opened) b.log b.made (b.gathered ++ g ∷ []) seat_of j y × Stands b.log b.serving b.ticket b.holder b.slot j y in
-      (record b { gathered = b.gathered ++ g ∷ []; seat_of = seat_of }, record {
-        words = kept.words;
-        homes = kept.homes;
-        queue = let q = kept.queue in omega (arith, ap bit was);
-        passes = let p = kept.passes in omega (arith, ap bit lived_there, length-append b.gathered (g ∷ []));
-        few = kept.few;
-        value = kept.value;
-        taken = kept.taken;
-        fresh = kept.fresh;
-        gone = All-push (λ (h : Gathered I). (h.number < b.made) × (seat_of h.number ≡ None)) b.gathered g
-            (λ k d l. let h = kept.gone k d l in (h.0, put_clear b.seat_of u.number None _ h.1)) (known'.below, put_here b.seat_of u.number None);
-        each = λ j y at'' alive''. ⊎_elim
-            (λ (t : (j ≡ other) × (gone_view ≡ y)). absurd (cc (ap (λ (z : V). z.spent) t.1, alive'')))
-            (λ (t : (j ≢ other) × (get_elem? vs j ≡ some y)). ⊎_elim
+      let P : ℕ → V → Type 0 = λ j y. Knows number (fixed opened) b.log b.made (b.gathered ++ g ∷ []) seat_of j y × Stands b.log b.serving b.ticket b.holder b.slot j y in (
+        record b { gathered = b.gathered ++ g ∷ []; seat_of = seat_of },
+        record {
+          words = kept.words;
+          homes = kept.homes;
+          queue = let q = kept.queue in omega (arith, ap bit was);
+          passes = let p = kept.passes in omega (arith, ap bit lived_there, length-append b.gathered (g ∷ []));
+          few = kept.few;
+          value = kept.value;
+          taken = kept.taken;
+          fresh = kept.fresh;
+          gone = All-push (λ (h : Gathered I). (h.number < b.made) × (seat_of h.number ≡ None)) b.gathered g
+              (λ k d l. let h = kept.gone k d l in (h.0, put_clear b.seat_of u.number None _ h.1)) (known'.below, put_here b.seat_of u.number None);
+          each = λ j y at'' alive''. ⊎_elim
+              (λ (t : (j ≡ other) × (gone_view ≡ y)). absurd (cc (ap (λ (z : V). z.spent) t.1, alive'')))
+              (λ (t : (j ≢ other) × (get_elem? vs j ≡ some y)). ⊎_elim
               (λ (t' : (j ≡ id) × (w ≡ y)). subst (λ (x : ℕ × V). P x.0 x.1) (λ i. (sym t'.0 i, t'.1 i))
-                (join_founder (fixed opened) b id other v u first apart known' known, record { waits = stands.waits; first = stands.first; serves = λ e. absurd (cc (free, e)); shut = stands.shut }))
+              (join_founder (fixed opened) b id other v u first apart known' known, record { waits = stands.waits; first = stands.first; serves = λ e. absurd (cc (free, e)); shut = stands.shut }))
               (λ (t' : (j ≢ id) × (get_elem? s.views j ≡ some y)). let f = kept.each j y t'.1 alive'' in
-                (join_other (fixed opened) b g id other j v u y first known.seated known'.seated t'.0 t.0 f.0, f.1))
+              (join_other (fixed opened) b g id other j v u y first known.seated known'.seated t'.0 t.0 f.0, f.1))
               (at_set s.views id j w y t.1))
-            (at_set vs other j gone_view y at'');
-      })
+              (at_set vs other j gone_view y at'');
+        },
+      )
 
   -- Shut
 
@@ -498,30 +513,34 @@ module _ {S I F : Type 0} (number : I → ℕ) (items : S → List I) (fixed : S
       let stands = (kept.each id v at alive).1 in
       let t = stands.serves turn in
       let counted = count_set queues s.views id v w at in
-      let lived = count_set lives s.views id v w at in
-      (
+      let lived = count_set lives s.views id v w at in (
         w,
         gives,
         tt,
-        (record b { slot = empty }, record {
-          words = set-get_or s.words 0 0 ∙ kept.words;
-          homes = ap (λ (hs : List (mathlib.Core.Option.Option (Option S))). set hs 0 (some None)) kept.homes;
-          queue = let q = kept.queue in omega arith;
-          passes = let p = kept.passes in omega arith;
-          few = kept.few;
-          value = tt;
-          taken = λ _. let h = stands.waits t.0 in omega arith;
-          fresh = kept.fresh;
-          gone = kept.gone;
-          each = others_stay (λ j u. Knows number (fixed opened) b.log b.made b.gathered b.seat_of j u × Stands {S = S} b.log b.serving b.ticket b.holder empty j u) s.views id w
-              (moved (fixed opened) b.log b.made b.gathered b.seat_of id v v.ticket v.waits v.serves v.serves known, record {
+        (
+          record b { slot = empty },
+          record {
+            words = set-get_or s.words 0 0 ∙ kept.words;
+            homes = ap (λ (hs : List (mathlib.Core.Option.Option (Option S))). set hs 0 (some None)) kept.homes;
+            queue = let q = kept.queue in omega arith;
+            passes = let p = kept.passes in omega arith;
+            few = kept.few;
+            value = tt;
+            taken = λ _. let h = stands.waits t.0 in omega arith;
+            fresh = kept.fresh;
+            gone = kept.gone;
+            each = others_stay (λ j u. Knows number (fixed opened) b.log b.made b.gathered b.seat_of j u × Stands {S = S} b.log b.serving b.ticket b.holder empty j u) s.views id w (
+              moved (fixed opened) b.log b.made b.gathered b.seat_of id v v.ticket v.waits v.serves v.serves known,
+              record {
                 waits = stands.waits;
                 first = λ _ _. turn;
                 serves = stands.serves;
                 shut = λ e. (e, refl);
-              })
-              (λ j u other at' alive'. let f = kept.each j u at' alive' in (f.0, shut_other b id j v u stands t.0 t.1 other f.1));
-        }),
+              },
+            )
+                (λ j u other at' alive'. let f = kept.each j u at' alive' in (f.0, shut_other b id j v u stands t.0 t.1 other f.1));
+          },
+        ),
         refl,
       )
 
@@ -538,33 +557,35 @@ module _ {S I F : Type 0} (number : I → ℕ) (items : S → List I) (fixed : S
   opens opened own =
       let own' = recursion_from_All (λ item. number item ≡ 0) (items opened) own in
       let all : items_by number 0 (items opened) ≡ items opened = by_same number 0 (items opened) own' in
-      let v : V = founding (items opened) (fixed opened) in
-      (record { log = items opened; serving = 0; ticket = 0; made = 1; gathered = []; seat_of = λ _. Some 0; holder = λ _. 0; slot = lies opened }, record {
-        words = refl;
-        homes = refl;
-        queue = refl;
-        passes = refl;
-        few = omega arith;
-        value = (refl, refl);
-        taken = λ e. absurd (cc (e));
-        fresh = λ n le. by_other number 0 n (items opened) (λ e. omega arith) own';
-        gone = All-nil (λ (g : Gathered I). (g.number < 1) × (Some 0 ≡ None));
-        each = λ j u at alive. ⊎_elim
-            (λ (t : (j ≡ 0) × (v ≡ u)). subst (λ (x : ℕ × V). Knows number (fixed opened) (items opened) 1 [] (λ _. Some 0) x.0 x.1 × Stands (items opened) 0 0 (λ _. 0) (lies opened) x.0 x.1) (λ i. (sym t.0 i, t.1 i)) (
-              record {
-                seated = refl;
-                below = omega arith;
-                opened = refl;
-                front = prefix_self (items opened);
-                met = (items opened, refl);
-                own = record { seen = all; all = all };
-                founds = λ _. (refl, refl, All-nil (λ (g : Gathered I). Settles number (items opened) (items opened) g.number g.items));
-              },
-              record { waits = λ e. absurd (cc (e)); first = λ e. absurd (cc (e)); serves = λ e. absurd (cc (e)); shut = λ e. absurd (cc (e)) },
-            ))
-            (λ (t : (j ≢ 0) × (get_elem? (v ∷ []) j ≡ some u)). absurd (beyond j u t.0 t.1))
-            (at_set (v ∷ []) 0 j v u at);
-      })
+      let v : V = founding (items opened) (fixed opened) in (
+        record { log = items opened; serving = 0; ticket = 0; made = 1; gathered = []; seat_of = λ _. Some 0; holder = λ _. 0; slot = lies opened },
+        record {
+          words = refl;
+          homes = refl;
+          queue = refl;
+          passes = refl;
+          few = omega arith;
+          value = (refl, refl);
+          taken = λ e. absurd (cc (e));
+          fresh = λ n le. by_other number 0 n (items opened) (λ e. omega arith) own';
+          gone = All-nil (λ (g : Gathered I). (g.number < 1) × (Some 0 ≡ None));
+          each = λ j u at alive. ⊎_elim
+              (λ (t : (j ≡ 0) × (v ≡ u)). subst (λ (x : ℕ × V). Knows number (fixed opened) (items opened) 1 [] (λ _. Some 0) x.0 x.1 × Stands (items opened) 0 0 (λ _. 0) (lies opened) x.0 x.1) (λ i. (sym t.0 i, t.1 i)) (
+                record {
+                  seated = refl;
+                  below = omega arith;
+                  opened = refl;
+                  front = prefix_self (items opened);
+                  met = (items opened, refl);
+                  own = record { seen = all; all = all };
+                  founds = λ _. (refl, refl, All-nil (λ (g : Gathered I). Settles number (items opened) (items opened) g.number g.items));
+                },
+                record { waits = λ e. absurd (cc (e)); first = λ e. absurd (cc (e)); serves = λ e. absurd (cc (e)); shut = λ e. absurd (cc (e)) },
+              ))
+              (λ (t : (j ≢ 0) × (get_elem? (v ∷ []) j ≡ some u)). absurd (beyond j u t.0 t.1))
+              (at_set (v ∷ []) 0 j v u at);
+        },
+      )
     where
       beyond : (j : ℕ) (u : V) → j ≢ 0 → get_elem? (founding (items opened) (fixed opened) ∷ []) j ≡ some u → ⊥
       beyond zero u other e = other refl
@@ -591,8 +612,7 @@ module _ {S I F : Type 0} (number : I → ℕ) (items : S → List I) (fixed : S
       let joined : length v.gathered ≡ length b.gathered = ap length f.1 in
       let home = at_home b.slot (is_false (is_taken b.slot) (λ t. let h = kept.taken t in omega (arith, f.0))) in
       let x : S = home.0 in
-      let value : (items x ≡ b.log) × (fixed x ≡ fixed opened) = subst (StandsFor items fixed b.log (fixed opened)) home.1 kept.value in
-      (
+      let value : (items x ≡ b.log) × (fixed x ≡ fixed opened) = subst (StandsFor items fixed b.log (fixed opened)) home.1 kept.value in (
         x,
         values 0 (Some x) (ap (λ (hs : List (mathlib.Core.Option.Option (Option S))). get_elem? hs 0) (kept.homes ∙ ap (λ (slot : Slot S). home_of slot ∷ []) home.1)),
         known.opened ∙ ap (λ (f' : F). Some f') (sym value.1),

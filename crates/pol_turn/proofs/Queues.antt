@@ -1,12 +1,12 @@
 -- Counts of views, tickets in a ring, functions that change at one place, and what all views meet.
-use Rattle.std.proofs.Common.{◌≡◌, ◌≢◌, ◌⊎◌, ℕ, zero, suc, ◌+◌, ◌≤◌, ◌<◌, ◌%◌, List, [], ◌∷◌, ◌++◌, length, get_or, set, Bool, true, false, cond, not, ◌&&◌, eqb, count_by, sum_by, refl, ap, sym, ◌∙◌, subst, ⊎_elim, inl, inr, arith}
+use Rattle.std.proofs.Common.{◌≡◌, ◌≢◌, ◌⊎◌, ℕ, zero, suc, ◌+◌, ◌≤◌, ◌<◌, ◌%◌, List, [], ◌∷◌, ◌++◌, length, get_or, set, Bool, true, false, cond, not, ◌&&◌, count_by, refl, ap, sym, ◌∙◌, subst, ⊎_elim, inl, inr, arith}
 use Rattle.std.proofs.lemmas.List.Sums.{sum_by-set, sum_by-le-sum_by, sum_by_push}
 use Rattle.std.proofs.Math.Nat.{mod-add-mod}
 use mathlib.Core.Logic.{dite}
 use mathlib.Core.Option.{some, some-injective, some-ne-none}
 use native.Mathlib.Decide.{ℕ_discrete}
 use lib.ListN.{get_elem?}
-use Rattle.atomic_table.proofs.Lists.{at_set, at_snoc, one_turn}
+use Rattle.atomic_table.proofs.Lists.{at_set, one_turn}
 use Rattle.pol_turn.specs.declared.view.View.{View}
 use Rattle.pol_turn.specs.Rule.{lives, queues, round}
 

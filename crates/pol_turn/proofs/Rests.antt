@@ -1,5 +1,5 @@
 -- The seat of a pass between two calls, and while it waits.
-use Rattle.std.proofs.Common.{◌≡◌, ℕ, ◌%◌, ◌≤◌, Bool, true, false, List, [], Option, All, sym, subst, arith}
+use Rattle.std.proofs.Common.{◌≡◌, ℕ, ◌%◌, true, false, List, [], Option, All, sym, subst, arith}
 use Rattle.std.proofs.lemmas.List.Elements.{All-nil, recursion_from_All}
 use Rattle.atomic_table.specs.declared.shared.Seat.{Seat}
 use Rattle.pol_turn.specs.declared.view.Gathered.{Gathered}

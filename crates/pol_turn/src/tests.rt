@@ -1,4 +1,4 @@
-ghost use Rattle.std.specs.Prelude.{◌≡◌, ◌==◌, [], false, All, IfOk, count_by};
+ghost use Rattle.std.specs.Prelude.{◌≡◌, ◌==◌, ◌+◌, [], ◌∷◌, ◌++◌, false, length, map, All, IfOk, OnOk, count_by};
 
 use super::*;
 use pol_types::OutOfMemory;
@@ -44,6 +44,24 @@ impl Account {
             .filter(|entry| entry.number == number)
             .count()
     }
+
+    /// How many entries have each of the numbers from 0 to 4.
+    fn into_counts(self) -> [usize; 5]
+        ensures { result ≡ map (λ number. count_by (λ entry. entry.number == number) self.entries.items) (0 ∷ 1 ∷ 2 ∷ 3 ∷ 4 ∷ []) }
+    {
+        let counts = [
+            self.count(0),
+            self.count(1),
+            self.count(2),
+            self.count(3),
+            self.count(4),
+        ];
+        let Account {
+            opening: _,
+            entries: _,
+        } = self;
+        counts
+    }
 }
 
 /// The lock over an empty account.
@@ -64,27 +82,41 @@ fn open(alloc: Global) -> Result<(Turns<Account>, Pass<Account>), OutOfMemory>
     })
 }
 
-/// Adds an entry of the pass, where there is memory for it.
-fn enter<R: Wait>(rt: &R, turns: &Turns<Account>, pass: &mut Pass<Account>, amount: u64)
+/// Adds an entry of the pass.
+fn enter<R: Wait>(
+    rt: &R,
+    turns: &Turns<Account>,
+    pass: &mut Pass<Account>,
+    amount: u64,
+) -> Result<(), OutOfMemory>
     requires lock { pass.old.lock ≡ turns.now }
     requires free { pass.old.has_turn ≡ false }
-    ensures { pass.new ≡ record pass.old { front = pass.new.front; own = pass.new.own } }
+    ensures pass { pass.new ≡ record pass.old { front = pass.new.front; own = pass.new.own } }
+    ensures entered { OnOk result (pass.new.own ≡ pass.old.own ++ record { number = pass.old.number; amount = amount } ∷ []) }
 {
     let number = pass.number();
     let Held { value: mut account } = turns.take(rt, pass);
-    let _ = account.entries.push(Entry { number, amount });
+    let pushed = account.entries.push(Entry { number, amount });
     turns.give_back(pass, Held { value: account });
+    pushed?;
+    Ok(())
 }
 
 /// Adds many entries of the pass.
-fn enter_many<R: Wait>(rt: &R, turns: &Turns<Account>, pass: &mut Pass<Account>)
+fn enter_many<R: Wait>(
+    rt: &R,
+    turns: &Turns<Account>,
+    pass: &mut Pass<Account>,
+) -> Result<(), OutOfMemory>
     requires lock { pass.old.lock ≡ turns.now }
     requires free { pass.old.has_turn ≡ false }
-    ensures { pass.new ≡ record pass.old { front = pass.new.front; own = pass.new.own } }
+    ensures pass { pass.new ≡ record pass.old { front = pass.new.front; own = pass.new.own } }
+    ensures entered { OnOk result (length pass.new.own ≡ length pass.old.own + EACH) }
 {
     for amount in 0..EACH {
-        enter(rt, turns, pass, amount);
+        enter(rt, turns, pass, amount)?;
     }
+    Ok(())
 }
 
 /// Each pass adds many entries, in a thread of its own.
@@ -96,7 +128,14 @@ fn enter_abreast<R: Threads + Wait + Sync>(
     requires { All (λ pass. (pass.lock ≡ turns.now) × (pass.has_turn ≡ false)) passes.old }
     ensures { All (λ pass. (pass.lock ≡ turns.now) × (pass.has_turn ≡ false)) passes.new }
 {
-    thread::for_each_mut(rt, passes, 4, &|_, pass| enter_many(rt, turns, pass));
+    thread::for_each_mut(
+        rt,
+        passes,
+        4,
+        &|_, pass| {
+            let _ = enter_many(rt, turns, pass);
+        },
+    );
 }
 
 #[test]
@@ -104,38 +143,32 @@ fn each_pass_has_its_entry_in_one_log(rt: HostRuntime) -> Result<(), Fail> {
     let (turns, mut founder) = open(rt.alloc())?;
     let mut first = turns.split(&mut founder);
     let mut second = turns.split(&mut founder);
-    assert_eq!(rt; (founder.number(), first.number(), second.number()), (0, 1, 2));
-    enter(&rt, &turns, &mut first, 10);
-    enter(&rt, &turns, &mut second, 20);
+    assert_eq!(rt;
+        (founder.number(), first.number(), second.number()),
+        (0, 1, 2)
+    );
+    assert!(rt; enter(&rt, &turns, &mut first, 10).is_ok());
+    assert!(rt; enter(&rt, &turns, &mut second, 20).is_ok());
     turns.join(&mut founder, first);
     turns.join(&mut founder, second);
     let Some(account) = turns.close(founder) else {
         panic!(rt; "the account was given back")
     };
-    let counts = (account.count(0), account.count(1), account.count(2));
-    let Account { opening, entries } = account;
-    assert_eq!(rt; (opening, entries.len(), counts), (7, 2, (0, 1, 1)));
+    assert_eq!(rt; account.opening, 7);
+    assert_eq!(rt; account.into_counts(), [0, 1, 1, 0, 0]);
     Ok(())
 }
 
 #[test]
 fn value_that_is_out_does_not_come_back(rt: HostRuntime) -> Result<(), Fail> {
     let (turns, mut founder) = open(rt.alloc())?;
-    enter(&rt, &turns, &mut founder, 10);
-    let Held {
-        value: Account {
-            opening: _,
-            entries,
-        },
-    } = turns.take(&rt, &mut founder);
-    assert_eq!(rt; entries.len(), 1);
-    match turns.close(founder) {
-        None => Ok(()),
-        Some(Account {
-            opening: _,
-            entries: _,
-        }) => panic!(rt; "the account is out"),
+    assert!(rt; enter(&rt, &turns, &mut founder, 10).is_ok());
+    let Held { value: account } = turns.take(&rt, &mut founder);
+    assert_eq!(rt; account.into_counts(), [1, 0, 0, 0, 0]);
+    if let Some(account) = turns.close(founder) {
+        panic!(rt; "{} entries came back", account.into_counts()[0])
     }
+    Ok(())
 }
 
 #[test]
@@ -149,12 +182,7 @@ fn two_threads_add_all_their_entries(rt: HostRuntime) -> Result<(), Fail> {
     let Some(account) = turns.close(founder) else {
         panic!(rt; "the account was given back")
     };
-    let counts = [account.count(0), account.count(1), account.count(2)];
-    let Account {
-        opening: _,
-        entries: _,
-    } = account;
-    assert_eq!(rt; counts, [0, 10_000, 10_000]);
+    assert_eq!(rt; account.into_counts(), [0, 10_000, 10_000, 0, 0]);
     Ok(())
 }
 
@@ -176,17 +204,6 @@ fn four_threads_add_all_their_entries(rt: HostRuntime) -> Result<(), Fail> {
     let Some(account) = turns.close(founder) else {
         panic!(rt; "the account was given back")
     };
-    let counts = [
-        account.count(0),
-        account.count(1),
-        account.count(2),
-        account.count(3),
-        account.count(4),
-    ];
-    let Account {
-        opening: _,
-        entries: _,
-    } = account;
-    assert_eq!(rt; counts, [0, 10_000, 10_000, 10_000, 10_000]);
+    assert_eq!(rt; account.into_counts(), [0, 10_000, 10_000, 10_000, 10_000]);
     Ok(())
 }

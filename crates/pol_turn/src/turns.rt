@@ -13,7 +13,13 @@ use std::marker::Model;
 use std::snapshot::Snapshot;
 use std::sync::Wait;
 
-type Board<S> = Table<Option<S>, View<<S as Standing>::Item, <S as Standing>::Fixed>, Snapshot<S>, Order, Global>;
+type Board<S> = Table<
+    Option<S>,
+    View<<S as Standing>::Item, <S as Standing>::Fixed>,
+    Snapshot<S>,
+    Order,
+    Global,
+>;
 
 /// A value that passes take in turns, in the order of their tickets. It stands for one log, which only grows.
 #[derive(Drop)]

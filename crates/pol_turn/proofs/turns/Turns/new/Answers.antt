@@ -1,4 +1,4 @@
-use Rattle.std.proofs.Common.{◌≡◌, ◌∷◌, [], ◌++◌, ◌∙◌, sym, ap, refl, Some}
+use Rattle.std.proofs.Common.{◌≡◌, ◌∷◌, [], refl, Some}
 use Rattle.pol_turn.proofs.Keeps.{opens}
 use Rattle.pol_turn.proofs.Rests.{rests, founding_fair}
 use Rattle.pol_turn.specs.Rule.{founding}
