@@ -1,15 +1,14 @@
 -- How the levels of a namespace are read in turn.
-use Rattle.std.proofs.Common.{◌≡◌, ◌≢◌, ◌≤◌, ◌<◌, ℕ, ◌+◌, Bool, true, false, not, List, [], ◌∷◌, ◌++◌, length, refl, arith, ap, sym, ◌∙◌, append_assoc, append-nil, length-append, drop, take, get_or, ◌-◌, Bor}
+use Rattle.std.proofs.Common.{◌≡◌, ◌≢◌, ◌≤◌, ◌<◌, ℕ, ◌+◌, Bool, true, false, List, [], ◌∷◌, ◌++◌, length, refl, arith, ap, sym, ◌∙◌, append-nil, length-append, take, ◌-◌}
 use Rattle.std.specs.Prelude.{Option, None, Some, All, IsTrue, if◌then◌else◌, nat_eq, nat_lt, ◌==◌, ◌||◌, ◌↔◌}
 use Rattle.std.specs.Cmp.Lexicographic.{bytes_decides, pointwise, pointwise_decides}
 use Rattle.std.specs.List.{starts_with}
 use Rattle.std.specs.Str.{IsUtf8}
 use Rattle.std.specs.Option.{option_map, option_or}
 use Rattle.std.proofs.lemmas.Grind.{common_steps}
-use Rattle.std.proofs.lemmas.List.{drop_more}
-use Rattle.std.proofs.lemmas.List.Elements.{All-cons, All-head, All-nil, All-push, All-tail, All-weaker}
+use Rattle.std.proofs.lemmas.List.Elements.{All-cons, All-head, All-nil, All-tail, All-weaker}
 use Rattle.pol_names.specs.Name.{IsName, IsNameRefusal, is_name_byte, name_refusal}
-use Rattle.pol_names.specs.Namespace.{IsNamespace, IsNamespaceRefusal, at_level, level_refusal, namespace_refusal, levels_of, parent_of, segment_of, texts}
+use Rattle.pol_names.specs.Namespace.{IsNamespace, IsNamespaceRefusal, at_level, level_refusal, namespace_refusal, levels_of, parent_of, segment_of}
 use Rattle.pol_names.specs.declared.name.NameRefused.{NameRefused}
 use Rattle.pol_names.specs.declared.name.NameRefused.TheVariants.{Empty, Long, ControlByte, NotPlain, OutOfMemory}
 use Rattle.pol_names.specs.declared.namespace.NamespaceRefused.{NamespaceRefused}

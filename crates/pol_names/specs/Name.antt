@@ -4,7 +4,7 @@ use Rattle.std.specs.Bool.{⊤}
 use Rattle.std.specs.List.{AllPass, list_all}
 use Rattle.std.specs.Str.{IsUtf8}
 use Rattle.pol_names.specs.declared.name.NameRefused.{NameRefused}
-use Rattle.pol_names.specs.declared.name.NameRefused.TheVariants.{Empty, Long, ControlByte, NotPlain, OutOfMemory}
+use Rattle.pol_names.specs.declared.name.NameRefused.TheVariants.{Empty, Long, ControlByte, OutOfMemory}
 
 -- the bytes of names: those from 0x20 on but 0x7F
 abbrev pub is_name_byte : ℕ → Bool

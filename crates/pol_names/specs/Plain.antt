@@ -4,7 +4,7 @@ use Rattle.std.specs.Bool.{⊤}
 use Rattle.std.specs.Char.{is_ascii_alphanumeric}
 use Rattle.std.specs.List.{AllPass, list_all}
 use Rattle.pol_names.specs.declared.name.NameRefused.{NameRefused}
-use Rattle.pol_names.specs.declared.name.NameRefused.TheVariants.{Empty, Long, ControlByte, NotPlain, OutOfMemory}
+use Rattle.pol_names.specs.declared.name.NameRefused.TheVariants.{Empty, Long, NotPlain, OutOfMemory}
 
 -- the bytes of plain names: `A`-`Z`, `a`-`z`, `0`-`9`, `_` and `-`
 abbrev pub is_plain_byte : ℕ → Bool

@@ -1,6 +1,5 @@
-use Rattle.std.proofs.Common.{◌≡◌, arith, ◌++◌, ◌∷◌, refl, sym, take, length}
+use Rattle.std.proofs.Common.{◌≡◌, arith, ◌++◌, ◌∷◌, refl, sym, take}
 use Rattle.std.proofs.Output.{has_written_append, has_written_of_eq}
-use Rattle.std.proofs.lemmas.Grind.{common_steps}
 use Rattle.std.proofs.lemmas.List.{take_all}
 use Rattle.std.specs.List.{flat_map, join_with_byte}
 use Rattle.pol_names.proofs.Joins.{join_with_byte-flat_map}
