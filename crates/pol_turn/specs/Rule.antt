@@ -11,6 +11,7 @@ use Rattle.pol_turn.specs.declared.view.Gathered.{Gathered}
 use Rattle.pol_turn.specs.declared.view.View.{View}
 use Rattle.pol_turn.specs.Known.{Known, items_by, Accounts}
 
+-- how many tickets a word tells apart, 2 ^ 64
 abbrev pub round : ℕ
 round = 18446744073709551616
 
@@ -21,11 +22,13 @@ pub data Slot (S : Type 0) : Type 0 where
   empty : Slot S
 
 module _ {S : Type 0} where
+  -- what the table has in the place of the slot
   abbrev pub home_of : Slot S → maybe.Option (Option S)
   home_of (lies x) = some (Some x)
   home_of away = none
   home_of empty = some None
 
+  -- a pass was served, and has not brought the value home
   abbrev pub is_taken : Slot S → Bool
   is_taken (lies x) = false
   is_taken away = true
@@ -37,7 +40,7 @@ module _ {S : Type 0} where
   StandsFor items fixed log start away = Unit {0}
   StandsFor items fixed log start empty = Unit {0}
 
--- What only the proof knows of the table: the log, the tickets, the founding pass's counts, the seat of each number that is in use, the seat of each ticket, and where the slot is
+-- what only the proof knows of the table: the log, the ticket that is served and the next one to be drawn, the founding pass's counts, the seat of each number that is in use, the seat of each ticket, and where the slot is
 pub record Book (S I : Type 0) : Type 0 where
   pub log : List I
   pub serving : ℕ
@@ -64,7 +67,7 @@ module _ {I : Type 0} (number : I → ℕ) where
     pub own : Settles v.front log v.number v.own
     pub founds : v.number ≡ 0 → (v.made ≡ made) × (v.gathered ≡ gathered) × All (λ g. Settles v.front log g.number g.items) gathered
 
--- where an unspent seat stands in the queue
+-- where an unspent seat stands in the queue: the seat whose ticket is served has its turn once the slot is taken, and then its front is the log
 pub record Stands {S I F : Type 0} (log : List I) (serving ticket : ℕ) (holder : ℕ → ℕ) (slot : Slot S) (seat : ℕ) (v : View I F) : Type 0 where
   pub waits : v.waits ≡ true → (serving ≤ v.ticket) × (v.ticket < ticket) × (holder v.ticket ≡ seat)
   pub first : v.waits ≡ true → v.ticket ≡ serving → v.serves ≡ is_taken slot
@@ -72,13 +75,16 @@ pub record Stands {S I F : Type 0} (log : List I) (serving ticket : ℕ) (holder
   pub shut : v.shut ≡ true → (v.serves ≡ true) × (slot ≡ empty)
 
 module _ {I F : Type 0} where
+  -- the pass was not joined
   abbrev pub lives : View I F → Bool
   lives v = not v.spent
 
+  -- the pass has a ticket that was not served to the end
   abbrev pub queues : View I F → Bool
   queues v = v.waits && not v.spent
 
 module _ {S I F : Type 0} (number : I → ℕ) (items : S → List I) (fixed : S → F) where
+  -- what holds of the table and of the book: the words are the tickets, there are as many tickets as passes that wait, and all passes are living or gathered
   pub record Kept (start : F) (b : Book S I) (s : State (Option S) (View I F)) : Type 0 where
     pub words : s.words ≡ b.serving % round ∷ b.ticket % round ∷ []
     pub homes : s.homes ≡ home_of b.slot ∷ []
@@ -96,10 +102,11 @@ module _ {S I F : Type 0} (number : I → ℕ) (items : S → List I) (fixed : S
   abbrev pub Ruled : S → State (Option S) (View I F) → Type 0
   Ruled opened s = (b : Book S I) × Kept (fixed opened) b s
 
--- the longer and the shorter of two fronts
+-- the longer of two fronts
 abbrev pub longer : {I : Type 0} → List I → List I → List I
 longer xs ys = cond (nat_lt (length xs) (length ys)) ys xs
 
+-- and the shorter
 abbrev pub shorter : {I : Type 0} → List I → List I → List I
 shorter xs ys = cond (nat_lt (length xs) (length ys)) xs ys
 
@@ -112,6 +119,7 @@ module _ {I F : Type 0} where
   abbrev pub newcomer : View I F → View I F
   newcomer v = record { number = v.made; fixed = v.fixed; front = v.front; own = []; made = 0; gathered = []; met = []; ticket = 0; waits = false; serves = false; shut = false; spent = false }
 
+  -- the founding pass, after it made another
   abbrev pub with_one_more : View I F → View I F
   with_one_more v = record v { made = v.made + 1 }
 

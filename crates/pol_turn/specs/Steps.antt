@@ -19,15 +19,19 @@ module _ {I F : Type 0} where
   abbrev pub given : View I F → List I → View I F
   given v log = record v { front = log; own = v.own ++ drop (length v.front) log; waits = false; serves = false }
 
+  -- the slot went home empty, where it was out
   abbrev pub closing : View I F → View I F
   closing v = record v { shut = v.serves }
 
+  -- the pass accounts for its own front
   abbrev pub Fair : (I → ℕ) → View I F → Type 0
   Fair number v = Accounts number v.number v.own v.made v.gathered v.front
 
+-- a seat: its view, and the slots that are out with it
 abbrev pub Sat : Type 0 → Type 0 → Type 0 → Type 0
 Sat S I F = Me (Option S) (View I F)
 
+-- what a step tells
 abbrev pub Telling : Type 0 → Type 0 → Type 0 → Type 1
 Telling S I F = Step (Option S) → Sat S I F → ℕ → Sat S I F → Type 0
 

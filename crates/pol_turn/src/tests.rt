@@ -1,4 +1,5 @@
-ghost use Rattle.std.specs.Prelude.{◌≡◌, ◌==◌, ◌+◌, [], ◌∷◌, ◌++◌, false, length, map, All, IfOk, OnOk, count_by};
+ghost use Rattle.std.specs.Prelude.{Some, ◌≡◌, ◌==◌, ◌+◌, [], ◌∷◌, ◌++◌, false, length, map, All, IfOk, OnOk, count_by};
+ghost use Rattle.pol_turn.specs.Known.{items_by};
 
 use super::*;
 use pol_types::OutOfMemory;
@@ -138,22 +139,43 @@ fn enter_abreast<R: Threads + Wait + Sync>(
     );
 }
 
-#[test]
-fn each_pass_has_its_entry_in_one_log(rt: HostRuntime) -> Result<(), Fail> {
-    let (turns, mut founder) = open(rt.alloc())?;
+/// Two passes that the founding one makes enter an amount each, and are joined: the account has the founding pass's
+/// entries as before, and one entry of each of the two.
+fn enter_two<R: Wait>(
+    rt: &R,
+    turns: Turns<Account>,
+    mut founder: Pass<Account>,
+) -> Result<Account, OutOfMemory>
+    requires lock { founder.lock ≡ turns }
+    requires founds { (founder.number ≡ 0) × (founder.made ≡ 1) × (founder.gathered ≡ []) × (founder.has_turn ≡ false) }
+    ensures founder { IfOk result (λ account. items_by (λ entry. entry.number) 0 account.entries.items ≡ founder.own) }
+    ensures first { IfOk result (λ account. items_by (λ entry. entry.number) 1 account.entries.items ≡ record { number = 1; amount = 10 } ∷ []) }
+    ensures second { IfOk result (λ account. items_by (λ entry. entry.number) 2 account.entries.items ≡ record { number = 2; amount = 20 } ∷ []) }
+    ensures opening { IfOk result (λ account. Some account.opening ≡ turns.fixed) }
+{
     let mut first = turns.split(&mut founder);
     let mut second = turns.split(&mut founder);
-    assert_eq!(rt;
-        (founder.number(), first.number(), second.number()),
-        (0, 1, 2)
-    );
-    assert!(rt; enter(&rt, &turns, &mut first, 10).is_ok());
-    assert!(rt; enter(&rt, &turns, &mut second, 20).is_ok());
+    let one = enter(rt, &turns, &mut first, 10);
+    let two = enter(rt, &turns, &mut second, 20);
     turns.join(&mut founder, first);
     turns.join(&mut founder, second);
-    let Some(account) = turns.close(founder) else {
-        panic!(rt; "the account was given back")
-    };
+    let account = turns.close(founder).unwrap();
+    match one.and(two) {
+        Ok(()) => Ok(account),
+        Err(error) => {
+            let Account {
+                opening: _,
+                entries: _,
+            } = account;
+            Err(error)
+        }
+    }
+}
+
+#[test]
+fn each_pass_has_its_entry_in_one_log(rt: HostRuntime) -> Result<(), Fail> {
+    let (turns, founder) = open(rt.alloc())?;
+    let account = enter_two(&rt, turns, founder)?;
     assert_eq!(rt; account.opening, 7);
     assert_eq!(rt; account.into_counts(), [0, 1, 1, 0, 0]);
     Ok(())
