@@ -1,0 +1,12 @@
+-- The text of a token.
+use Rattle.std.specs.Prelude.{ℕ, List, ◌++◌}
+use Rattle.std.specs.Int.{to_be_bytes, w64}
+use Rattle.hex.specs.Hex.{encode_lower}
+
+-- a word as 16 hexadecimal digits in lower case, most significant first
+abbrev pub word_digits : ℕ → List ℕ
+word_digits word = encode_lower (to_be_bytes w64 word)
+
+-- a token's serial and its two random words, 16 digits each
+unfoldable pub text_of_token : ℕ → ℕ → ℕ → List ℕ
+text_of_token serial word_a word_b = word_digits serial ++ word_digits word_a ++ word_digits word_b

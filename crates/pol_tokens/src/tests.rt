@@ -1,0 +1,59 @@
+ghost use Rattle.std.specs.Prelude.{◌≡◌};
+
+use super::*;
+use pol_names::Scope;
+use pol_types::Listed;
+use std::test::Fail;
+
+#[test]
+fn text_of_a_token_has_its_serial_and_both_words(rt: HostRuntime) -> Result<(), Fail> {
+    let cases = [
+        (
+            (0, 0x0123456789abcdef, 0xfedcba9876543210),
+            b"00000000000000000123456789abcdeffedcba9876543210",
+        ),
+        (
+            (1, 4, 5),
+            b"000000000000000100000000000000040000000000000005",
+        ),
+        (
+            (u64::MAX, 0, 1 << 60),
+            b"ffffffffffffffff00000000000000001000000000000000",
+        ),
+    ];
+    for ((serial, word_a, word_b), text) in cases {
+        assert_eq!(rt;
+            token_text(serial, word_a, word_b).as_slice(),
+            text.as_slice()
+        );
+    }
+    assert_eq!(rt; SESSION_LIFE, 3_600_000);
+    Ok(())
+}
+
+fn session(serial: u64, scope: Scope) -> SessionRow
+    ensures { result.serial ≡ serial }
+{
+    SessionRow {
+        serial,
+        word_a: 7,
+        word_b: 8,
+        principal: 1,
+        scope,
+        expires: 3_600_000,
+    }
+}
+
+#[test]
+fn session_is_found_by_its_serial(rt: HostRuntime) -> Result<(), Fail> {
+    let alloc = rt.alloc();
+    let mut tokens = Tokens::new(alloc);
+    tokens.reserve_sessions(2)?;
+    tokens.put_session(session(4, Scope::All));
+    let roles = Scope::Roles(Listed::from(vec![in alloc; 2]?));
+    tokens.put_session(session(9, roles.clone()?));
+    assert_eq!(rt; tokens.session(4), Some(&session(4, Scope::All)));
+    assert_eq!(rt; tokens.session(9), Some(&session(9, roles)));
+    assert_eq!(rt; tokens.session(5), None);
+    Ok(())
+}
