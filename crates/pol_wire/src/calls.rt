@@ -7,9 +7,10 @@ use crate::faults::Faults;
 use std::marker::Model;
 
 /// The calls of an object whose faults are planned: a call whose number is listed fails. Calls are
-/// numbered from 1, and their count stands still at `u64::MAX`.
+/// numbered from 1, and their count stands still at `u64::MAX`. The forms in memory keep one, also
+/// those of the crates above.
 #[derive(Debug, Drop)]
-pub(crate) struct Calls {
+pub struct Calls {
     failing: Vec<u64>,
     made: u64,
     faults: Faults,
@@ -28,7 +29,7 @@ impl Model for Calls {
 
 impl Calls {
     /// No call was made yet, and those with these numbers are to fail.
-    pub(crate) fn new(failing: Vec<u64>) -> Self
+    pub fn new(failing: Vec<u64>) -> Self
         ensures { result ≡ first_log failing.items }
     {
         Calls {
@@ -39,14 +40,14 @@ impl Calls {
     }
 
     /// The count of faults.
-    pub(crate) fn faults(&self) -> u64
+    pub fn faults(&self) -> u64
         ensures { result ≡ self.now.faults }
     {
         self.faults.count()
     }
 
     /// Begins the next call, which fails at once where its number is listed.
-    pub(crate) fn begin(&mut self) -> Result<(), Failed>
+    pub fn begin(&mut self) -> Result<(), Failed>
         ensures listed { is_err result ≡ is_listed self.old }
         ensures after { self.new ≡ log_after self.old (is_err result) }
         ensures count { CountsFaults self.old.faults self.new.faults result }
@@ -59,7 +60,7 @@ impl Calls {
     }
 
     /// Counts a fault of the call that has begun.
-    pub(crate) fn fail(&mut self) -> Failed
+    pub fn fail(&mut self) -> Failed
         ensures after { self.new ≡ record self.old { faults = next_count self.old.faults } }
         ensures kept { self.old.faults ≤ self.new.faults }
         ensures bounded { self.new.faults ≤ 2 ^ 64 - 1 }

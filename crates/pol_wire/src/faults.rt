@@ -4,9 +4,10 @@ ghost use Rattle.pol_wire.specs.Faults.{next_count, Rises};
 use crate::Failed;
 use std::marker::Model;
 
-/// An object's count of faults. It never falls, and stands still at `u64::MAX`.
+/// An object's count of faults. It never falls, and stands still at `u64::MAX`. The
+/// adapters of the real world keep one, also those of the crates above.
 #[derive(Debug, Drop)]
-pub(crate) struct Faults {
+pub struct Faults {
     count: u64,
 }
 
@@ -19,13 +20,15 @@ impl Model for Faults {
 }
 
 impl Faults {
-    pub(crate) fn none() -> Self
+    /// No fault yet.
+    pub fn none() -> Self
         ensures { result ≡ 0 }
     {
         Faults { count: 0 }
     }
 
-    pub(crate) fn count(&self) -> u64
+    /// The count.
+    pub fn count(&self) -> u64
         ensures value { result ≡ self.now }
         ensures bounded { result ≤ 2 ^ 64 - 1 }
     {
@@ -33,7 +36,7 @@ impl Faults {
     }
 
     /// Counts one fault, and gives the answer of the call that had it.
-    pub(crate) fn fail(&mut self) -> Failed
+    pub fn fail(&mut self) -> Failed
         ensures counted { self.new ≡ next_count self.old }
         ensures kept { self.old ≤ self.new }
         ensures bounded { self.new ≤ 2 ^ 64 - 1 }

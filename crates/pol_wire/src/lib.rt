@@ -13,6 +13,7 @@ mod source;
 #[cfg(test)]
 mod tests;
 
+pub use calls::Calls;
 pub use clock::memory::MemoryClock;
 pub use clock::wall::WallClock;
 pub use clock::{Clock, LAST_MOMENT};
@@ -21,6 +22,7 @@ pub use draw::counting::CountingDraw;
 pub use draw::file::FileDraw;
 pub use draw::memory::MemoryDraw;
 pub use failed::Failed;
+pub use faults::Faults;
 pub use link::Link;
 pub use sink::Sink;
 pub use sink::memory::MemorySink;
