@@ -1,0 +1,2 @@
+pub mod ImagesLemmas
+pub mod MomentsLemmas
