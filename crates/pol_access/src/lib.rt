@@ -7,3 +7,6 @@ mod rows;
 pub use access::Access;
 pub use pol_names::{RoleIds, Scope};
 pub use rows::{MemberRow, PrincipalRoleRow, PrincipalRow};
+
+#[cfg(test)]
+mod tests;
