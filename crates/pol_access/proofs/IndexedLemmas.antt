@@ -1,10 +1,11 @@
 -- Rows found by a name through an index, and the index once a row is put.
-use Rattle.std.proofs.Common.{◌≡◌, ℕ, Bool, true, false, cond, List, [], ◌∷◌, ◌++◌, ◌||◌, map, Option, Some, None, nat_eq, refl, sym, ap, subst, ◌∙◌, inl, inr, true≢false}
-use Rattle.std.specs.List.{find, list_any, AllByRecursion, IsDistinct}
+use Rattle.std.proofs.Common.{◌≡◌, ℕ, Bool, true, false, cond, List, [], ◌∷◌, ◌||◌, map, Option, Some, None, nat_eq, refl, sym, ap, subst, ◌∙◌, inl, inr, true≢false}
+use Rattle.std.specs.List.{find, list_any, AllByRecursion, AllZip, IsDistinct}
+use Rattle.std.specs.Map.{lookup}
 use Rattle.std.specs.Str.{bytes_eq}
 use Rattle.std.specs.Cmp.Lexicographic.{nat_list_eq_equiv}
 use Rattle.std.specs.Cmp.{nat_eq_equiv}
-use Rattle.std.proofs.lemmas.Bool.{cases_Bool, eqb-true, eq-eqb}
+use Rattle.std.proofs.lemmas.Bool.{cases_Bool, eq-eqb}
 use Rattle.std.proofs.lemmas.List.{map-append}
 use Rattle.std.proofs.lemmas.Map.Keys.{IsDistinct-push}
 use Rattle.pol_types.specs.Exact.{bytes_tell}
@@ -13,6 +14,14 @@ use Rattle.pol_tables.proofs.ListLemmas.{each-join, each-map, each-push, each-we
 use Rattle.pol_tables.proofs.RisingLemmas.{key-replaced}
 use Rattle.pol_tables.proofs.TableLemmas.{some_is, Lacks, lacks_past, differ_past, rows_with-known, rows_with-new}
 use Rattle.pol_access.specs.Indexed.{IsIndexed, IsNamedAlone}
+
+-- a copy of an index answers alike
+pub lookup-copied : {K : Type 0} (text : K → List ℕ) (entries copies : List (K × ℕ)) → AllZip (λ entry copy. (text copy.0 ≡ text entry.0) × (copy.1 ≡ entry.1)) entries copies → (sought : List ℕ) → lookup (λ k. bytes_eq sought (text k)) copies ≡ lookup (λ k. bytes_eq sought (text k)) entries
+lookup-copied text [] [] alike sought = refl
+lookup-copied text [] (copy ∷ copies) alike sought = absurd alike
+lookup-copied text (entry ∷ entries) [] alike sought = absurd alike
+lookup-copied text (entry ∷ entries) (copy ∷ copies) alike sought =
+    λ i. cond (bytes_eq sought (alike.0.0 i)) (Some (alike.0.1 i)) (lookup-copied text entries copies alike.1 sought i)
 
 module _ {R : Type 0} (key : R → ℕ) (name : R → List ℕ) where
   -- the index has the row's id under its name
@@ -92,6 +101,12 @@ module _ {R : Type 0} (key : R → ℕ) (name : R → List ℕ) where
   IsIndexed-alike rows ids later alike indexed =
       let same : later ≡ ids = λ i sought. alike sought i in
       subst (IsIndexed key name rows) (sym same) indexed
+
+  -- copies of the rows and of the index serve alike
+  pub IsIndexed-copied : {K : Type 0} (text : K → List ℕ) (rows copied : List R) (entries copies : List (K × ℕ)) → copied ≡ rows → AllZip (λ entry copy. (text copy.0 ≡ text entry.0) × (copy.1 ≡ entry.1)) entries copies
+      → IsIndexed key name rows (λ sought. lookup (λ k. bytes_eq sought (text k)) entries) → IsIndexed key name copied (λ sought. lookup (λ k. bytes_eq sought (text k)) copies)
+  IsIndexed-copied text rows copied entries copies rows_are alike indexed =
+      subst (λ kept. IsIndexed key name kept (λ sought. lookup (λ k. bytes_eq sought (text k)) copies)) (sym rows_are) (IsIndexed-alike rows (λ sought. lookup (λ k. bytes_eq sought (text k)) entries) (λ sought. lookup (λ k. bytes_eq sought (text k)) copies) (lookup-copied text entries copies alike) indexed)
 
   map-key-replaced : (row : R) (rows : List R) → map key (map (λ kept. cond (has_id key (key row) kept) row kept) rows) ≡ map key rows
   map-key-replaced row [] = refl

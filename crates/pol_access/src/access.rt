@@ -11,7 +11,7 @@ use crate::{MemberRow, PrincipalRoleRow, PrincipalRow};
 use indexmap::IndexMap;
 use pol_tables::{Facts, Table};
 use pol_types::OutOfMemory;
-use std::alloc::Global;
+use std::alloc::{AllocError, Global};
 use std::marker::Model;
 
 /// Principals by id and by client id, principal roles by id and by name, and which principals are members of which
@@ -128,6 +128,25 @@ impl Access {
         self.members.reserve(1)?;
         self.members.put(row);
         Ok(())
+    }
+}
+
+impl Clone for Access {
+    ghost is_clone = { λ source clone. clone ≡ source };
+
+    fn clone(&self) -> Result<Self, AllocError> {
+        let principals = self.principals.clone()?;
+        let principal_roles = self.principal_roles.clone()?;
+        let members = self.members.clone()?;
+        let ids_of_clients = self.ids_of_clients.clone()?;
+        let ids_of_role_names = self.ids_of_role_names.clone()?;
+        Ok(Access {
+            principals,
+            principal_roles,
+            members,
+            ids_of_clients,
+            ids_of_role_names,
+        })
     }
 }
 

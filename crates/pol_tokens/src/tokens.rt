@@ -5,7 +5,7 @@ ghost use Rattle.pol_tokens.specs.Tokens.{serial_of};
 use crate::SessionRow;
 use pol_tables::Table;
 use pol_types::OutOfMemory;
-use std::alloc::Global;
+use std::alloc::{AllocError, Global};
 use std::marker::Model;
 
 /// The sessions that were opened, in the order of their serials' coming, each found by its serial. Contracts see
@@ -58,5 +58,14 @@ impl Tokens {
         ensures known { knows serial_of row.serial self.old.rows.sessions ≡ true → self.old.room.sessions ≤ self.new.room.sessions }
     {
         self.sessions.put(row)
+    }
+}
+
+impl Clone for Tokens {
+    ghost is_clone = { λ source clone. clone.rows ≡ source.rows };
+
+    fn clone(&self) -> Result<Self, AllocError> {
+        let sessions = self.sessions.clone()?;
+        Ok(Tokens { sessions })
     }
 }
