@@ -1,0 +1,106 @@
+-- The fresh state.
+use Rattle.std.proofs.Common.{◌≡◌, ℕ, true, false, ◌||◌, List, [], ◌∷◌, ◌++◌, Some, codes, refl, sym, ap, subst, ◌∙◌, lit≤, lit<}
+use Rattle.std.specs.List.{AllByRecursion, IsDistinct}
+use Rattle.pol_access.specs.Access.{AccessRows, principal_id, principal_role_id}
+use Rattle.pol_access.specs.contracts.rows.MemberRow.{the_row}
+use Rattle.pol_access.specs.declared.rows.MemberRow.{MemberRow}
+use Rattle.pol_access.specs.declared.rows.PrincipalRoleRow.{PrincipalRoleRow}
+use Rattle.pol_access.specs.declared.rows.PrincipalRow.{PrincipalRow}
+use Rattle.pol_tables.specs.Facts.{facts_with}
+use Rattle.pol_tables.specs.Rising.{KeysRise}
+use Rattle.pol_tables.specs.Same.{same}
+use Rattle.pol_tables.specs.Table.{rows_with}
+use Rattle.pol_tables.proofs.SameLemmas.{same-refl}
+use Rattle.pol_tables.proofs.TableLemmas.{rows_with-new}
+use Rattle.pol_tokens.specs.Tokens.{TokenRows}
+use Rattle.pol_machine.specs.Rows.{fresh_state, root_row, service_admin_row}
+use Rattle.pol_machine.specs.Sound.{IsSound}
+
+abbrev membership : MemberRow
+membership = record { principal = 1; role = 2 }
+
+pub all-empty : {R : Type 0} (P : R → Type 0) (rows : List R) → rows ≡ [] → AllByRecursion P rows
+all-empty P rows empty = subst (AllByRecursion P) (sym empty) tt
+
+fact-first : (fact : MemberRow) → facts_with the_row.coded fact [] ≡ fact ∷ []
+unfolding facts_with
+fact-first fact = refl
+
+-- the three rows, put one after the other
+module _ (secret : List ℕ) (before one two three : AccessRows) where
+  root-put : before ≡ record { principals = []; principal_roles = []; members = [] } → (row : PrincipalRow) → row ≡ root_row secret
+      → one ≡ record before { principals = rows_with principal_id row before.principals }
+      → one ≡ record { principals = root_row secret ∷ []; principal_roles = []; members = [] }
+  root-put empty row row_is put =
+      put
+      ∙ ap (λ (access : AccessRows). record access { principals = rows_with principal_id row access.principals }) empty
+      ∙ ap (λ (rows : List PrincipalRow). record { principals = rows; principal_roles = []; members = [] }) (rows_with-new principal_id row [] refl ∙ ap (λ row. row ∷ []) row_is)
+
+  role-put : one ≡ record { principals = root_row secret ∷ []; principal_roles = []; members = [] } → (row : PrincipalRoleRow) → row ≡ service_admin_row
+      → two ≡ record one { principal_roles = rows_with principal_role_id row one.principal_roles }
+      → two ≡ record { principals = root_row secret ∷ []; principal_roles = service_admin_row ∷ []; members = [] }
+  role-put rooted row row_is put =
+      put
+      ∙ ap (λ (access : AccessRows). record access { principal_roles = rows_with principal_role_id row access.principal_roles }) rooted
+      ∙ ap (λ (rows : List PrincipalRoleRow). record { principals = root_row secret ∷ []; principal_roles = rows; members = [] }) (rows_with-new principal_role_id row [] refl ∙ ap (λ row. row ∷ []) row_is)
+
+  member-put : two ≡ record { principals = root_row secret ∷ []; principal_roles = service_admin_row ∷ []; members = [] }
+      → three ≡ record two { members = facts_with the_row.coded membership two.members }
+      → three ≡ record { principals = root_row secret ∷ []; principal_roles = service_admin_row ∷ []; members = membership ∷ [] }
+  member-put manned put =
+      put
+      ∙ ap (λ (access : AccessRows). record access { members = facts_with the_row.coded membership access.members }) manned
+      ∙ ap (λ (rows : List MemberRow). record { principals = root_row secret ∷ []; principal_roles = service_admin_row ∷ []; members = rows }) (fact-first membership)
+
+fresh-is : (secret : List ℕ) → record { principals = root_row secret ∷ []; principal_roles = service_admin_row ∷ []; members = membership ∷ [] } ≡ (fresh_state secret).access
+unfolding fresh_state
+fresh-is secret = refl
+
+pub fresh-access : (secret : List ℕ) (root : PrincipalRow) (role : PrincipalRoleRow) (before one two three : AccessRows)
+    → root ≡ root_row secret → role ≡ service_admin_row
+    → before ≡ record { principals = []; principal_roles = []; members = [] }
+    → one ≡ record before { principals = rows_with principal_id root before.principals }
+    → two ≡ record one { principal_roles = rows_with principal_role_id role one.principal_roles }
+    → three ≡ record two { members = facts_with the_row.coded membership two.members }
+    → three ≡ (fresh_state secret).access
+fresh-access secret root role before one two three root_is role_is empty first second third =
+    member-put secret before one two three (role-put secret before one two three (root-put secret before one two three empty root root_is first) role role_is second) third ∙ fresh-is secret
+
+-- the state that the code makes
+pub fresh-made : (secret : List ℕ) (access : AccessRows) (tokens : TokenRows) → access ≡ (fresh_state secret).access → tokens.sessions ≡ []
+    → record { access = access; tokens = tokens; time = 0; next_id = 3; next_serial = 0; charged = 0 } ≡ fresh_state secret
+unfolding fresh_state
+fresh-made secret access tokens access_is empty =
+    λ i. record { access = access_is i; tokens = record { sessions = empty i }; time = 0; next_id = 3; next_serial = 0; charged = 0 }
+
+-- it is sound
+pub fresh-sound : (secret : List ℕ) → IsSound (fresh_state secret)
+unfolding fresh_state KeysRise IsDistinct
+fresh-sound secret = record {
+  access = record {
+    principals = record { rise = (tt, tt); given = ((lit≤ tt, lit< tt), tt) };
+    principal_roles = record { rise = (tt, tt); given = ((lit≤ tt, lit< tt), tt) };
+    ids_differ = (refl, tt);
+    names_differ = (tt, tt);
+    client_ids_differ = (tt, tt);
+    role_names_differ = (tt, tt);
+    members_differ = (tt, tt);
+    member_principals = (refl, tt);
+    member_roles = (refl, tt);
+    root_chain = record {
+      root = root_row secret;
+      admin = service_admin_row;
+      root_there = refl;
+      admin_there = refl;
+      member = ap (λ held. held || false) (same-refl the_row.coded membership);
+    };
+    principals_bound = lit≤ tt;
+    principal_roles_bound = lit≤ tt;
+    members_bound = lit≤ tt;
+  };
+  tokens = record { sessions_rise = tt; sessions = tt };
+  time_bound = lit≤ tt;
+  next_id_bound = lit≤ tt;
+  next_serial_bound = lit≤ tt;
+  charged_bound = lit≤ tt;
+}

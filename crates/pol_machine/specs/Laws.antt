@@ -1,0 +1,26 @@
+-- Laws of the machine.
+use Rattle.std.specs.Prelude.{◌≡◌, ◌↔◌, ◌≤◌, ◌^◌, ℕ, None}
+use Rattle.pol_machine.specs.Applied.{applied}
+use Rattle.pol_machine.specs.Changes.{changes_between}
+use Rattle.pol_machine.specs.Machine.{acting, next_state, reply_of, rules_of}
+use Rattle.pol_machine.specs.Rows.{Rows}
+use Rattle.pol_machine.specs.Rules.{EachPasses, run_full}
+use Rattle.pol_machine.specs.Sessions.{time_of}
+use Rattle.pol_machine.specs.Sound.{IsSound}
+use Rattle.pol_machine.specs.declared.command.Command.{Command}
+use Rattle.pol_machine.specs.declared.reply.Reply.TheVariants.{Answered}
+
+-- the state after a command is sound
+abbrev pub NextStateIsSound : Type 0
+NextStateIsSound = (s : Rows) (command : Command) → IsSound s → command.moment ≤ 2 ^ 62 → IsSound (next_state s command)
+
+-- a command is answered exactly where each of its rules passes
+abbrev pub AnsweredWhereEachRulePasses : Type 0
+AnsweredWhereEachRulePasses =
+    (s : Rows) (command : Command) → (reply_of s command ≡ Answered (acting s command command.action).answer) ↔ EachPasses (rules_of s command)
+
+-- the changes of a command lead to the state after it, unless the run is full
+abbrev pub ChangesLeadToNextState : Type 0
+ChangesLeadToNextState =
+    (s : Rows) (command : Command) → IsSound s → run_full s command.charge ≡ None
+    → applied (changes_between s (next_state s command)) (time_of s command) command.charge s ≡ next_state s command

@@ -1,0 +1,10 @@
+pub mod Applied
+pub mod Changes
+pub mod Judged
+pub mod Laws
+pub mod Machine
+pub mod Reply
+pub mod Rows
+pub mod Rules
+pub mod Sessions
+pub mod Sound

@@ -1,0 +1,49 @@
+-- The machine: the reply to a command in a state, and the state after it.
+use Rattle.std.specs.Prelude.{ℕ, ◌+◌, List, ◌∷◌, Option, Some, None}
+use Rattle.pol_machine.specs.Rows.{Rows}
+use Rattle.pol_machine.specs.Rules.{run_full, first_refusal}
+use Rattle.pol_machine.specs.Sessions.{Acting, open_session, time_of}
+use Rattle.pol_machine.specs.declared.command.Action.{Action}
+use Rattle.pol_machine.specs.declared.command.Action.TheVariants.{OpenSession}
+use Rattle.pol_machine.specs.declared.command.Command.{Command}
+use Rattle.pol_machine.specs.declared.reply.Answer.{Answer}
+use Rattle.pol_machine.specs.declared.reply.Refusal.{Refusal}
+use Rattle.pol_machine.specs.declared.reply.Reply.{Reply}
+use Rattle.pol_machine.specs.declared.reply.Reply.TheVariants.{Answered, Refused}
+
+-- the rules, the rows after and the answer of each action
+abbrev pub acting : Rows → Command → Action → Acting
+acting s command (OpenSession client_id secret scopes) = open_session s command client_id secret scopes
+
+-- the rules of a command, in their order
+abbrev pub rules_of : Rows → Command → List (Option Refusal)
+rules_of s command = run_full s command.charge ∷ (acting s command command.action).rules
+
+-- the first rule that fails, else the answer
+abbrev pub reply_by : Option Refusal → Answer → Reply
+reply_by (Some why) answer = Refused why
+reply_by None answer = Answered answer
+
+-- the reply to a command
+unfoldable pub reply_of : Rows → Command → Reply
+reply_of s command = reply_by (first_refusal (rules_of s command)) (acting s command command.action).answer
+
+-- these rows, with the command's time, and its charge added
+abbrev pub stamped : Rows → Command → Rows → Rows
+stamped s command rows = record rows { time = time_of s command; charged = s.charged + command.charge }
+
+-- the rows as they are where a rule fails, else those after the action
+abbrev pub rows_by : Option Refusal → Rows → Rows → Rows
+rows_by (Some why) s after = s
+rows_by None s after = after
+
+-- nothing changes where the run is full; else the time and the charge are taken, whatever the reply
+abbrev pub next_by : Option Refusal → Rows → Rows → Rows
+next_by (Some why) s next = s
+next_by None s next = next
+
+-- the state after a command
+unfoldable pub next_state : Rows → Command → Rows
+next_state s command =
+    let action = acting s command command.action in
+    next_by (run_full s command.charge) s (stamped s command (rows_by (first_refusal action.rules) s action.after))
