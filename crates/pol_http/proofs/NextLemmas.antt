@@ -95,6 +95,7 @@ tells_whole bytes head taken body h at enough =
       record {
         head_range = at.ranges;
         body_range = (omega arith, omega arith);
+        ends = refl;
         some = omega (arith, at.length_is, length-print_request h at.reads.0);
         fits = omega arith;
       },

@@ -44,10 +44,11 @@ pub record IsMessageAt (bytes : List ℕ) (head : Head) (body : Span) (taken : �
   pub head_is : IsHeadOf bytes head message.head
   pub body_is : span_bytes bytes body ≡ message.body
 
--- the ranges of a message of taken bytes lie in the bytes, and those of its head before its body
+-- the ranges of a message of taken bytes lie in the bytes, those of its head before its body, which ends the message
 pub record LiesWithin (bytes : List ℕ) (head : Head) (body : Span) (taken : ℕ) : Type 0 where
   pub head_range : IsHeadWithin body.start head
   pub body_range : IsWithin taken body
+  pub ends : body.end ≡ taken
   pub some : 0 < taken
   pub fits : taken ≤ length bytes
 
