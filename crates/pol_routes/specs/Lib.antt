@@ -1,0 +1,5 @@
+pub mod Form
+pub mod Laws
+pub mod Plan
+pub mod Texts
+pub mod TokenForm

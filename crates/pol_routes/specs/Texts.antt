@@ -1,0 +1,84 @@
+-- The answers to replies and refusals: statuses and JSON texts.
+use Rattle.std.specs.Prelude.{ℕ, ◌/◌, List, ◌++◌, false, decimal, codes}
+use Rattle.serde_json.specs.Data.{Data, number, unsigned, string, object, member, no_members}
+use Rattle.serde_json.specs.Written.{compact_text}
+use Rattle.pol_http.specs.declared.answer.Answer.{Answer}
+use Rattle.pol_http.specs.declared.answer.Body.{Body}
+use Rattle.pol_http.specs.declared.answer.Body.TheVariants.{Nothing, Json, Token}
+use Rattle.pol_http.specs.declared.head.HeadRefused.{HeadRefused}
+use Rattle.pol_http.specs.declared.head.HeadRefused.TheVariants.{BadHead, LengthNeeded, BodyTooLong}
+use Rattle.pol_machine.specs.declared.reply.Answer.TheVariants.{SessionOpened}
+use Rattle.pol_machine.specs.declared.reply.Refusal.{Refusal}
+use Rattle.pol_machine.specs.declared.reply.Refusal.TheVariants.{RunFull, InvalidClient, InvalidScope, Limit}
+use Rattle.pol_machine.specs.declared.reply.Reply.{Reply}
+use Rattle.pol_machine.specs.declared.reply.Reply.TheVariants.{Answered, Refused}
+use Rattle.pol_machine.specs.Reply.{quantity_text}
+use Rattle.pol_routes.specs.declared.plans.RouteRefused.{RouteRefused}
+use Rattle.pol_routes.specs.declared.plans.RouteRefused.TheVariants.{NotBuilt, InvalidRequest, GrantType, OutOfMemory}
+use Rattle.pol_tokens.specs.declared.session.TheConstants.{SESSION_LIFE}
+use Rattle.pol_tokens.specs.Text.{text_of_token}
+
+-- an answer that leaves the connection open
+abbrev pub answer_with : ℕ → Body → Answer
+answer_with code content = record { status = code; body = content; close = false; head_only = false }
+
+-- the JSON of an access token (RFC 6749, section 5.1; RFC 8693, section 2.2.1), which lasts so many seconds
+abbrev pub token_json : List ℕ → Data
+token_json text =
+    object (member (codes "access_token") (string text)
+    (member (codes "expires_in") (number (unsigned (SESSION_LIFE / 1000)))
+    (member (codes "issued_token_type") (string (codes "urn:ietf:params:oauth:token-type:access_token"))
+    (member (codes "token_type") (string (codes "bearer")) no_members))))
+
+-- the answer that gives a session's token
+unfoldable pub session_answer : List ℕ → Answer
+session_answer text = answer_with 200 (Token (compact_text (token_json text)))
+
+-- the JSON of a refused token request (RFC 6749, section 5.2)
+abbrev pub token_error_json : List ℕ → Data
+token_error_json error = object (member (codes "error") (string error) no_members)
+
+-- the answer to a refused token request
+unfoldable pub token_error : ℕ → List ℕ → Answer
+token_error code error = answer_with code (Json (compact_text (token_error_json error)))
+
+-- the JSON of any other error (Iceberg REST OpenAPI, IcebergErrorResponse)
+abbrev pub error_json : ℕ → List ℕ → List ℕ → Data
+error_json code message kind =
+    object (member (codes "error") (object (member (codes "code") (number (unsigned code))
+    (member (codes "message") (string message) (member (codes "type") (string kind) no_members)))) no_members)
+
+-- the answer to any other error
+unfoldable pub error_answer : ℕ → List ℕ → List ℕ → Answer
+error_answer code message kind = answer_with code (Json (compact_text (error_json code message kind)))
+
+-- the answer to a command that is refused
+abbrev pub refused_answer : Refusal → Answer
+refused_answer (RunFull charged charge) =
+    error_answer 503 (codes "RunFull: " ++ (decimal charged ++ (codes " and " ++ decimal charge))) (codes "ServiceUnavailableException")
+refused_answer InvalidClient = token_error 401 (codes "invalid_client")
+refused_answer InvalidScope = token_error 400 (codes "invalid_scope")
+refused_answer (Limit quantity bound) =
+    error_answer 400 (codes "Limit: " ++ (quantity_text quantity ++ (codes " " ++ decimal bound))) (codes "BadRequestException")
+
+-- the answer to a reply
+unfoldable pub answer_of : Reply → Answer
+answer_of (Answered (SessionOpened serial word_a word_b)) = session_answer (text_of_token serial word_a word_b)
+answer_of (Refused refusal) = refused_answer refusal
+
+-- the answer to a request that has no plan; want of memory has no body
+unfoldable pub refusal_answer : RouteRefused → Answer
+refusal_answer NotBuilt = error_answer 501 (codes "Not built") (codes "UnsupportedOperationException")
+refusal_answer InvalidRequest = token_error 400 (codes "invalid_request")
+refusal_answer GrantType = token_error 400 (codes "unsupported_grant_type")
+refusal_answer OutOfMemory = answer_with 507 Nothing
+
+-- the answer where no random word could be drawn
+unfoldable pub draw_fault_answer : Answer
+draw_fault_answer = error_answer 503 (codes "DrawFault") (codes "ServiceUnavailableException")
+
+-- the answer to a head that is refused
+unfoldable pub head_refused_answer : HeadRefused → Answer
+head_refused_answer BadHead = error_answer 400 (codes "BadHead") (codes "BadRequestException")
+head_refused_answer LengthNeeded = error_answer 411 (codes "LengthNeeded") (codes "BadRequestException")
+head_refused_answer BodyTooLong = error_answer 413 (codes "BodyTooLong") (codes "BadRequestException")

@@ -1,0 +1,60 @@
+//! Answers with a JSON body.
+ghost use Rattle.std.specs.Prelude.{◌≡◌, false, IfOk};
+ghost use Rattle.serde_json.specs.Written.{compact_text, has_float};
+ghost use Rattle.serde_json.specs.View.{view};
+ghost use Rattle.pol_routes.specs.Texts as spec;
+
+use pol_http::{Answer, Body};
+use pol_types::{Bytes, OutOfMemory};
+use serde_json::{Value, json};
+use std::alloc::Global;
+
+/// The answer to an error (Iceberg REST OpenAPI, IcebergErrorResponse): its status, message and type.
+#[tactic(auto, unfolding(crate::specs::Texts::error_answer))]
+pub(crate) fn error_answer(
+    alloc: Global,
+    code: u16,
+    message: &str,
+    kind: &str,
+) -> Result<Answer, OutOfMemory>
+    ensures { IfOk result (λ answer. answer ≡ spec.error_answer code message.now kind.now) }
+{
+    let text = error_text(alloc, code, message, kind)?;
+    Ok(answer_with(code, Body::Json(text)))
+}
+
+/// The JSON of an error.
+fn error_text(alloc: Global, code: u16, message: &str, kind: &str) -> Result<Bytes, OutOfMemory>
+    ensures { IfOk result (λ text. text ≡ compact_text (spec.error_json code message.now kind.now)) }
+{
+    let error = json!(in alloc; {"error": {"code": code, "message": message, "type": kind}})?;
+    text_of(alloc, &error)
+}
+
+/// The answer to a refused token request (RFC 6749, section 5.2).
+#[tactic(auto, unfolding(crate::specs::Texts::token_error))]
+pub(crate) fn token_error(alloc: Global, code: u16, error: &str) -> Result<Answer, OutOfMemory>
+    ensures { IfOk result (λ answer. answer ≡ spec.token_error code error.now) }
+{
+    let error = json!(in alloc; {"error": error})?;
+    Ok(answer_with(code, Body::Json(text_of(alloc, &error)?)))
+}
+
+/// An answer that leaves the connection open.
+pub(crate) fn answer_with(status: u16, body: Body) -> Answer
+    ensures { result ≡ spec.answer_with status body }
+{
+    Answer {
+        status,
+        body,
+        close: false,
+        head_only: false,
+    }
+}
+
+/// The text of a value without floats.
+pub(crate) fn text_of(alloc: Global, value: &Value) -> Result<Bytes, OutOfMemory>
+    ensures { IfOk result (λ text. has_float (view value.now) ≡ false → text ≡ compact_text (view value.now)) }
+{
+    Ok(Bytes::from(value.to_string(alloc)?.into_bytes()))
+}

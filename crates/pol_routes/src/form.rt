@@ -1,0 +1,53 @@
+//! The fields of a form (URL Standard, section 5.1), read strictly: what isn't UTF-8 once decoded is refused.
+ghost use Rattle.std.specs.Prelude.{◌≡◌, List, ℕ, [], ◌∷◌, ◌++◌, IfOk};
+ghost use Rattle.form_urlencoded.specs.Form.{decode};
+ghost use Rattle.pol_routes.specs.Form as spec;
+
+use percent_encoding::percent_decode;
+use pol_types::{OutOfMemory, Text};
+use std::alloc::Global;
+
+/// The values that a form has of one name.
+#[derive(Debug, Drop)]
+pub(crate) enum Values {
+    Missing,
+    One(Text),
+    Several,
+}
+
+impl Values {
+    /// One more value.
+    pub(crate) fn add(&mut self, value: Text)
+        ensures { (values : List (List ℕ)) → self.old ≡ spec.seen values
+            → self.new ≡ spec.seen (values ++ value ∷ []) }
+    {
+        *self = match self {
+            Values::Missing => Values::One(value),
+            Values::One(_) | Values::Several => Values::Several,
+        };
+    }
+}
+
+/// What a name or a value of a form stands for: `+` is a space, then escapes are decoded. `None` where that isn't
+/// UTF-8.
+pub(crate) fn decoded(alloc: Global, written: &[u8]) -> Result<Option<Text>, OutOfMemory>
+    ensures { IfOk result (λ text. text ≡ spec.text_of (decode written.now)) }
+{
+    let spaced: Vec<u8> = written
+        .iter()
+        .map(|&byte| if byte == b'+' { b' ' } else { byte })
+        .collect(alloc)?;
+    let mut bytes = Vec::new(alloc);
+    percent_decode(&spaced).append_to(&mut bytes)?;
+    Ok(text_of(bytes))
+}
+
+/// The bytes as a text, where they are UTF-8.
+fn text_of(bytes: Vec<u8>) -> Option<Text>
+    ensures { result ≡ spec.text_of bytes.items }
+{
+    match String::from_utf8(bytes) {
+        Ok(text) => Some(Text::from(text)),
+        Err(_) => None,
+    }
+}

@@ -1,0 +1,8 @@
+//! Laws of plans: theorems over the definitions in `specs/`. Their bodies are empty.
+ghost use Rattle.pol_routes.specs.Laws.{PlansTellNoWantOfMemory};
+
+/// No message has want of memory for its plan: `plan` answers that of its own accord alone.
+pub fn plans_tell_no_want_of_memory()
+    ensures { PlansTellNoWantOfMemory }
+{
+}

@@ -1,0 +1,107 @@
+//! The answers to replies and refusals.
+ghost use Rattle.std.specs.Prelude.{◌≡◌, ◌≢◌, IfOk, IsErr};
+ghost use Rattle.pol_tokens.specs.Text.{text_of_token};
+ghost use Rattle.pol_routes.specs.Texts as spec;
+
+use crate::error_body::{answer_with, error_answer, text_of, token_error};
+use crate::plans::RouteRefused;
+use pol_http::{Answer, Body, HeadRefused};
+use pol_machine::{Refusal, Reply};
+use pol_tokens::{SESSION_LIFE, token_text};
+use pol_types::OutOfMemory;
+use serde_json::json;
+use std::alloc::Global;
+use std::fmt::Write;
+
+const BAD_REQUEST: &str = "BadRequestException";
+
+const SERVICE_UNAVAILABLE: &str = "ServiceUnavailableException";
+
+const UNSUPPORTED_OPERATION: &str = "UnsupportedOperationException";
+
+/// The answer to a reply.
+#[tactic(auto, unfolding(crate::specs::Texts::answer_of))]
+pub fn answer_of(alloc: Global, reply: &Reply) -> Result<Answer, OutOfMemory>
+    ensures { IfOk result (λ answer. answer ≡ spec.answer_of reply.now) }
+{
+    match reply {
+        Reply::Answered(pol_machine::Answer::SessionOpened { serial, word_a, word_b }) => {
+            session_answer(alloc, *serial, *word_a, *word_b)
+        }
+        Reply::Refused(refusal) => refused_answer(alloc, refusal),
+    }
+}
+
+/// The answer that gives a session's token (RFC 6749, section 5.1).
+#[tactic(auto, unfolding(crate::specs::Texts::session_answer))]
+fn session_answer(
+    alloc: Global,
+    serial: u64,
+    word_a: u64,
+    word_b: u64,
+) -> Result<Answer, OutOfMemory>
+    ensures { IfOk result (λ answer. answer ≡ spec.session_answer (text_of_token serial word_a word_b)) }
+{
+    let token = token_text(serial, word_a, word_b);
+    let token = String::from_utf8_lossy(alloc, &token)?;
+    let json = json!(in alloc; {
+        "access_token": token,
+        "expires_in": SESSION_LIFE / 1000,
+        "issued_token_type": "urn:ietf:params:oauth:token-type:access_token",
+        "token_type": "bearer"
+    })?;
+    Ok(answer_with(200, Body::Token(text_of(alloc, &json)?)))
+}
+
+/// The answer to a command that is refused.
+fn refused_answer(alloc: Global, refusal: &Refusal) -> Result<Answer, OutOfMemory>
+    ensures { IfOk result (λ answer. answer ≡ spec.refused_answer refusal.now) }
+{
+    match refusal {
+        Refusal::RunFull { charged, charge } => {
+            let message = format!(in alloc; "RunFull: {charged} and {charge}")?;
+            error_answer(alloc, 503, message.as_str(), SERVICE_UNAVAILABLE)
+        }
+        Refusal::InvalidClient => token_error(alloc, 401, "invalid_client"),
+        Refusal::InvalidScope => token_error(alloc, 400, "invalid_scope"),
+        Refusal::Limit { quantity, bound } => {
+            let message = format!(in alloc; "Limit: {quantity} {bound}")?;
+            error_answer(alloc, 400, message.as_str(), BAD_REQUEST)
+        }
+    }
+}
+
+/// The answer to a request that has no plan. Want of memory has none that could be made here: it is handed back.
+#[tactic(auto, unfolding(crate::specs::Texts::refusal_answer))]
+pub fn refusal_answer(alloc: Global, refused: &RouteRefused) -> Result<Answer, OutOfMemory>
+    ensures exact { IfOk result (λ answer. answer ≡ spec.refusal_answer refused.now) }
+    ensures wanting { refused.now ≡ RouteRefused.OutOfMemory → IsErr result }
+{
+    match refused {
+        RouteRefused::NotBuilt => error_answer(alloc, 501, "Not built", UNSUPPORTED_OPERATION),
+        RouteRefused::InvalidRequest => token_error(alloc, 400, "invalid_request"),
+        RouteRefused::GrantType => token_error(alloc, 400, "unsupported_grant_type"),
+        RouteRefused::OutOfMemory => Err(OutOfMemory),
+    }
+}
+
+/// The answer where no random word could be drawn.
+#[tactic(auto, unfolding(crate::specs::Texts::draw_fault_answer))]
+pub fn draw_fault_answer(alloc: Global) -> Result<Answer, OutOfMemory>
+    ensures { IfOk result (λ answer. answer ≡ spec.draw_fault_answer) }
+{
+    error_answer(alloc, 503, "DrawFault", SERVICE_UNAVAILABLE)
+}
+
+/// The answer to a head that is refused. The connection ends after it.
+#[tactic(auto, unfolding(crate::specs::Texts::head_refused_answer))]
+pub fn head_refused_answer(alloc: Global, refused: HeadRefused) -> Result<Answer, OutOfMemory>
+    ensures { IfOk result (λ answer. answer ≡ spec.head_refused_answer refused) }
+{
+    let (code, name) = match refused {
+        HeadRefused::BadHead => (400, "BadHead"),
+        HeadRefused::LengthNeeded => (411, "LengthNeeded"),
+        HeadRefused::BodyTooLong => (413, "BodyTooLong"),
+    };
+    error_answer(alloc, code, name, BAD_REQUEST)
+}
