@@ -3,7 +3,6 @@ use Rattle.std.specs.Prelude.{◌≡◌, ℕ, ◌+◌, Bool, ◌&&◌, ◌==◌,
 use Rattle.std.specs.List.{before_first}
 use Rattle.std.specs.Str.{bytes_eq}
 use Rattle.form_urlencoded.specs.Form.{parse}
-use Rattle.httparse.specs.Grammar.{RequestHead}
 use Rattle.pol_http.specs.Message.{Message, print_message}
 use Rattle.pol_machine.specs.declared.command.Action.TheVariants.{OpenSession}
 use Rattle.pol_machine.specs.declared.command.Caller.TheVariants.{Nobody}

@@ -1,5 +1,5 @@
 -- The form of a token request (RFC 6749, sections 2.3.1, 3.3 and 4.4.2).
-use Rattle.std.specs.Prelude.{ℕ, Bool, List, [], ◌∷◌, length, nat_le, ◌==◌, if◌then◌else◌, Option, Some, None, option_map, option_and_then, codes}
+use Rattle.std.specs.Prelude.{ℕ, List, [], length, nat_le, ◌==◌, if◌then◌else◌, Option, Some, None, option_map, option_and_then, codes}
 use Rattle.std.specs.List.{list_all, slice_split}
 use Rattle.form_urlencoded.specs.Form.{is_nonempty, space}
 use Rattle.pol_routes.specs.declared.form.Values.{Values}
@@ -46,8 +46,8 @@ scopes_of Several = None
 abbrev pub request_of : Fields → Option TokenForm
 request_of fields =
     option_and_then (λ type. option_and_then (λ id. option_and_then (λ word. option_map
-      (λ words. record { grant_type = type; client_id = id; client_secret = word; scopes = words })
-      (scopes_of fields.scope)) (sole fields.client_secret)) (sole fields.client_id)) (sole fields.grant_type)
+    (λ words. record { grant_type = type; client_id = id; client_secret = word; scopes = words })
+    (scopes_of fields.scope)) (sole fields.client_secret)) (sole fields.client_id)) (sole fields.grant_type)
 
 -- the request that a form makes
 unfoldable pub token_form : List (List ℕ × List ℕ) → Option TokenForm

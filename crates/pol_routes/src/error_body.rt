@@ -7,7 +7,7 @@ ghost use Rattle.pol_routes.specs.Texts as spec;
 use pol_http::{Answer, Body};
 use pol_types::{Bytes, OutOfMemory};
 use serde_json::{Value, json};
-use std::alloc::Global;
+use std::alloc::{AllocError, Global};
 
 /// The answer to an error (Iceberg REST OpenAPI, IcebergErrorResponse): its status, message and type.
 #[tactic(auto, unfolding(crate::specs::Texts::error_answer))]
@@ -19,16 +19,15 @@ pub(crate) fn error_answer(
 ) -> Result<Answer, OutOfMemory>
     ensures { IfOk result (λ answer. answer ≡ spec.error_answer code message.now kind.now) }
 {
-    let text = error_text(alloc, code, message, kind)?;
-    Ok(answer_with(code, Body::Json(text)))
+    let json = error_json(alloc, code, message, kind)?;
+    Ok(answer_with(code, Body::Json(text_of(alloc, &json)?)))
 }
 
 /// The JSON of an error.
-fn error_text(alloc: Global, code: u16, message: &str, kind: &str) -> Result<Bytes, OutOfMemory>
-    ensures { IfOk result (λ text. text ≡ compact_text (spec.error_json code message.now kind.now)) }
+fn error_json(alloc: Global, code: u16, message: &str, kind: &str) -> Result<Value, AllocError>
+    ensures { IfOk result (λ json. view json ≡ spec.error_json code message.now kind.now) }
 {
-    let error = json!(in alloc; {"error": {"code": code, "message": message, "type": kind}})?;
-    text_of(alloc, &error)
+    json!(in alloc; {"error": {"code": code, "message": message, "type": kind}})
 }
 
 /// The answer to a refused token request (RFC 6749, section 5.2).
@@ -36,8 +35,15 @@ fn error_text(alloc: Global, code: u16, message: &str, kind: &str) -> Result<Byt
 pub(crate) fn token_error(alloc: Global, code: u16, error: &str) -> Result<Answer, OutOfMemory>
     ensures { IfOk result (λ answer. answer ≡ spec.token_error code error.now) }
 {
-    let error = json!(in alloc; {"error": error})?;
-    Ok(answer_with(code, Body::Json(text_of(alloc, &error)?)))
+    let json = token_error_json(alloc, error)?;
+    Ok(answer_with(code, Body::Json(text_of(alloc, &json)?)))
+}
+
+/// The JSON of a refused token request.
+fn token_error_json(alloc: Global, error: &str) -> Result<Value, AllocError>
+    ensures { IfOk result (λ json. view json ≡ spec.token_error_json error.now) }
+{
+    json!(in alloc; {"error": error})
 }
 
 /// An answer that leaves the connection open.
@@ -52,9 +58,10 @@ pub(crate) fn answer_with(status: u16, body: Body) -> Answer
     }
 }
 
-/// The text of a value without floats.
-pub(crate) fn text_of(alloc: Global, value: &Value) -> Result<Bytes, OutOfMemory>
-    ensures { IfOk result (λ text. has_float (view value.now) ≡ false → text ≡ compact_text (view value.now)) }
+/// The compact text of a value without floats.
+pub(crate) fn text_of(alloc: Global, json: &Value) -> Result<Bytes, OutOfMemory>
+    requires { has_float (view json.now) ≡ false }
+    ensures { IfOk result (λ text. text ≡ compact_text (view json.now)) }
 {
-    Ok(Bytes::from(value.to_string(alloc)?.into_bytes()))
+    Ok(Bytes::from(json.to_string(alloc)?.into_bytes()))
 }

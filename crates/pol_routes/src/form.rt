@@ -1,11 +1,11 @@
 //! The fields of a form (URL Standard, section 5.1), read strictly: what isn't UTF-8 once decoded is refused.
-ghost use Rattle.std.specs.Prelude.{◌≡◌, List, ℕ, [], ◌∷◌, ◌++◌, IfOk};
-ghost use Rattle.form_urlencoded.specs.Form.{decode};
+ghost use Rattle.std.specs.Prelude.{◌≡◌, List, ℕ, [], ◌∷◌, ◌++◌, map, IfOk};
+ghost use Rattle.form_urlencoded.specs.Form.{decode, plus_to_space};
 ghost use Rattle.pol_routes.specs.Form as spec;
 
 use percent_encoding::percent_decode;
 use pol_types::{OutOfMemory, Text};
-use std::alloc::Global;
+use std::alloc::{AllocError, Global};
 
 /// The values that a form has of one name.
 #[derive(Debug, Drop)]
@@ -33,13 +33,20 @@ impl Values {
 pub(crate) fn decoded(alloc: Global, written: &[u8]) -> Result<Option<Text>, OutOfMemory>
     ensures { IfOk result (λ text. text ≡ spec.text_of (decode written.now)) }
 {
-    let spaced: Vec<u8> = written
-        .iter()
-        .map(|&byte| if byte == b'+' { b' ' } else { byte })
-        .collect(alloc)?;
+    let spaced = spaced(alloc, written)?;
     let mut bytes = Vec::new(alloc);
     percent_decode(&spaced).append_to(&mut bytes)?;
     Ok(text_of(bytes))
+}
+
+/// The bytes with a space for each `+`.
+fn spaced(alloc: Global, written: &[u8]) -> Result<Vec<u8>, AllocError>
+    ensures { IfOk result (λ bytes. bytes.items ≡ map plus_to_space written.now) }
+{
+    let bytes = written
+        .iter()
+        .map(|&byte| if byte == b'+' { b' ' } else { byte });
+    bytes.collect(alloc)
 }
 
 /// The bytes as a text, where they are UTF-8.

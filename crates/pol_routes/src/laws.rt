@@ -4,5 +4,4 @@ ghost use Rattle.pol_routes.specs.Laws.{PlansTellNoWantOfMemory};
 /// No message has want of memory for its plan: `plan` answers that of its own accord alone.
 pub fn plans_tell_no_want_of_memory()
     ensures { PlansTellNoWantOfMemory }
-{
-}
+{}

@@ -15,7 +15,7 @@ use std::alloc::Global;
 /// What a request is charged beside its bytes.
 pub const REQUEST_CHARGE: u64 = 512;
 
-/// The path of token requests, as Polaris has it (Apache Polaris, catalogue API).
+/// The path of token requests: that of the Iceberg REST OpenAPI under the base of Apache Polaris.
 const TOKEN_PATH: &[u8] = b"/api/catalog/v1/oauth/tokens";
 
 /// What a message asks for, before the clock is read and words are drawn.
@@ -53,12 +53,7 @@ impl From<OutOfMemory> for RouteRefused {
 
 /// The plan of the message of which these are the ranges (RFC 6749, section 4.4.2).
 #[tactic(auto, unfolding(crate::specs::Plan::plan_of))]
-pub fn plan(
-    alloc: Global,
-    bytes: &[u8],
-    head: &Head,
-    body: Span,
-) -> Result<Planned, RouteRefused>
+pub fn plan(alloc: Global, bytes: &[u8], head: &Head, body: Span) -> Result<Planned, RouteRefused>
     requires { LiesWithin bytes.now head.now body body.end }
     ensures { (message : Message) → IsMessageAt bytes.now head.now body body.end message
         → Plans (spec.plan_of message) result }

@@ -1,5 +1,6 @@
 //! The answers to replies and refusals.
-ghost use Rattle.std.specs.Prelude.{◌≡◌, ◌≢◌, IfOk, IsErr};
+ghost use Rattle.std.specs.Prelude.{◌≡◌, IfOk, IsErr, string_bytes};
+ghost use Rattle.serde_json.specs.View.{view};
 ghost use Rattle.pol_tokens.specs.Text.{text_of_token};
 ghost use Rattle.pol_routes.specs.Texts as spec;
 
@@ -9,9 +10,8 @@ use pol_http::{Answer, Body, HeadRefused};
 use pol_machine::{Refusal, Reply};
 use pol_tokens::{SESSION_LIFE, token_text};
 use pol_types::OutOfMemory;
-use serde_json::json;
-use std::alloc::Global;
-use std::fmt::Write;
+use serde_json::{Value, json};
+use std::alloc::{AllocError, Global};
 
 const BAD_REQUEST: &str = "BadRequestException";
 
@@ -25,9 +25,13 @@ pub fn answer_of(alloc: Global, reply: &Reply) -> Result<Answer, OutOfMemory>
     ensures { IfOk result (λ answer. answer ≡ spec.answer_of reply.now) }
 {
     match reply {
-        Reply::Answered(pol_machine::Answer::SessionOpened { serial, word_a, word_b }) => {
-            session_answer(alloc, *serial, *word_a, *word_b)
-        }
+        Reply::Answered(
+            pol_machine::Answer::SessionOpened {
+                serial,
+                word_a,
+                word_b,
+            },
+        ) => { session_answer(alloc, *serial, *word_a, *word_b) }
         Reply::Refused(refusal) => refused_answer(alloc, refusal),
     }
 }
@@ -42,15 +46,28 @@ fn session_answer(
 ) -> Result<Answer, OutOfMemory>
     ensures { IfOk result (λ answer. answer ≡ spec.session_answer (text_of_token serial word_a word_b)) }
 {
-    let token = token_text(serial, word_a, word_b);
-    let token = String::from_utf8_lossy(alloc, &token)?;
-    let json = json!(in alloc; {
+    let token = written_token(alloc, serial, word_a, word_b)?;
+    let json = token_json(alloc, token.as_str())?;
+    Ok(answer_with(200, Body::Token(text_of(alloc, &json)?)))
+}
+
+/// The text of a session's token.
+fn written_token(alloc: Global, serial: u64, word_a: u64, word_b: u64) -> Result<String, AllocError>
+    ensures { IfOk result (λ token. string_bytes token ≡ text_of_token serial word_a word_b) }
+{
+    String::from_utf8_lossy(alloc, &token_text(serial, word_a, word_b))
+}
+
+/// The JSON of an access token, which lasts so many seconds (RFC 6749, section 5.1).
+fn token_json(alloc: Global, token: &str) -> Result<Value, AllocError>
+    ensures { IfOk result (λ json. view json ≡ spec.token_json token.now) }
+{
+    json!(in alloc; {
         "access_token": token,
         "expires_in": SESSION_LIFE / 1000,
         "issued_token_type": "urn:ietf:params:oauth:token-type:access_token",
         "token_type": "bearer"
-    })?;
-    Ok(answer_with(200, Body::Token(text_of(alloc, &json)?)))
+    })
 }
 
 /// The answer to a command that is refused.

@@ -1,0 +1,4 @@
+pub mod FieldLemmas
+pub mod PlanLemmas
+pub mod ScopeLemmas
+pub mod TokenLemmas
