@@ -11,12 +11,9 @@ use std::test::Fail;
 /// A row with a field of each kind that rows have.
 #[derive(Clone, Debug, Drop, PartialEq, Eq)]
 struct Row {
-    id: u64,
-    name: Text,
     digest: [u8; 4],
-    levels: Listed<Text>,
+    level: Listed<Text>,
     scope: Scope,
-    write: bool,
 }
 
 #[derive(Clone, Debug, Drop, PartialEq, Eq)]
@@ -43,40 +40,57 @@ fn text(alloc: Global, word: &str) -> Result<Text, AllocError>
     Ok(Text::from(String::from_str(alloc, word)?))
 }
 
-fn pair(alloc: Global, first: &str, second: &str) -> Result<Listed<Text>, AllocError>
-    ensures { IfOk result (λ pair. pair ≡ first.now ∷ second.now ∷ []) }
+fn list(alloc: Global, word: &str) -> Result<Listed<Text>, AllocError>
+    ensures { IfOk result (λ list. list ≡ word.now ∷ []) }
 {
-    Ok(Listed::from(vec![in alloc; text(alloc, first)?, text(alloc, second)?]?))
+    Ok(Listed::from(vec![in alloc; text(alloc, word)?]?))
 }
 
-fn sample_row(alloc: Global) -> Result<Row, AllocError>
-    ensures { IfOk result (λ row. row.id ≡ 7) }
+fn bytes(alloc: Global, content: &[u8]) -> Result<Bytes, AllocError>
+    ensures { IfOk result (λ bytes. bytes ≡ content.now) }
 {
+    Ok(Bytes::from(Vec::from_slice(alloc, content)?))
+}
+
+fn row_of(alloc: Global, digest: [u8; 4], level: &str, role: u64) -> Result<Row, AllocError>
+    ensures { IfOk result (λ row. row.level ≡ level.now ∷ []) }
+{
+    let scope = if role == 0 {
+        Scope::All
+    } else {
+        Scope::Roles(Listed::from(vec![in alloc; role]?))
+    };
+    let level = list(alloc, level)?;
     Ok(Row {
-        id: 7,
-        name: text(alloc, "ann")?,
-        digest: [1, 2, 3, 4],
-        levels: pair(alloc, "a", "b")?,
-        scope: Scope::Roles(Listed::from(vec![in alloc; 2, 3]?)),
-        write: true,
+        digest,
+        level,
+        scope,
     })
 }
 
 #[test]
 fn derived_equality_reads_each_field(rt: HostRuntime) -> Result<(), Fail> {
-    let alloc = rt.alloc();
-    let whole = sample_row(alloc)?;
+    let whole = row_of(rt.alloc(), [1, 2, 3, 4], "a", 2)?;
+    let cases = [
+        ([1, 2, 3, 4], "a", 2, true),
+        ([1, 2, 3, 5], "a", 2, false),
+        ([1, 2, 3, 4], "b", 2, false),
+        ([1, 2, 3, 4], "a", 3, false),
+        ([1, 2, 3, 4], "a", 0, false),
+    ];
+    for (digest, level, role, same) in cases {
+        let other = row_of(rt.alloc(), digest, level, role)?;
+        assert!(rt; (other == whole) == same);
+    }
     assert!(rt; whole.clone()? == whole);
-    let mut other = whole.clone()?;
-    other.digest[3] = 5;
-    assert!(rt; other != whole);
-    other = whole.clone()?;
-    other.levels = pair(alloc, "a", "c")?;
-    assert!(rt; other != whole);
-    other = whole.clone()?;
-    other.scope = Scope::All;
-    assert!(rt; other != whole);
     Ok(())
+}
+
+/// How two texts compare, and whether they are equal.
+fn compared(alloc: Global, left: &str, right: &str) -> Result<(Ordering, bool), AllocError> {
+    let left = text(alloc, left)?;
+    let right = text(alloc, right)?;
+    Ok((left.cmp(&right), left == right))
 }
 
 #[test]
@@ -91,65 +105,57 @@ fn texts_compare_by_bytes(rt: HostRuntime) -> Result<(), Fail> {
         ("é", "é", Ordering::Equal),
     ];
     for (left, right, order) in cases {
-        let (left, right) = (text(rt.alloc(), left)?, text(rt.alloc(), right)?);
-        assert_eq!(rt; left.cmp(&right), order);
-        assert_eq!(rt; left == right, order == Ordering::Equal);
+        let (found, same) = compared(rt.alloc(), left, right)?;
+        assert!(rt; found == order && same == (order == Ordering::Equal));
     }
     Ok(())
 }
 
 #[test]
-fn values_are_given_back(rt: HostRuntime) -> Result<(), Fail> {
-    let alloc = rt.alloc();
-    let word = text(alloc, "é")?;
-    assert_eq!(rt; (word.len(), word.is_empty()), (2, false));
-    assert_eq!(rt; format!(in alloc; "{word} {word:?}")?.as_str(), "é \"é\"");
-    assert_eq!(rt; String::from(word.clone()?).as_str(), "é");
-    assert_eq!(rt; word.as_bytes(), [0xc3, 0xa9].as_slice());
-
-    let bytes = Bytes::from(vec![in alloc; 1, 2]?);
-    assert_eq!(rt; (bytes.len(), bytes.is_empty()), (2, false));
-    assert!(rt; bytes < Bytes::from(vec![in alloc; 1, 2, 0]?));
-    assert_eq!(rt;
-        Vec::<u8>::from(bytes.clone()?).as_slice(),
-        bytes.as_slice()
-    );
-
-    let numbers = Listed::from(vec![in alloc; 3u64, 4]?);
-    assert_eq!(rt; (numbers.len(), numbers.is_empty()), (2, false));
-    assert!(rt; pair(alloc, "a", "")? < pair(alloc, "a", "b")?);
-    assert!(rt; pair(alloc, "b", "")? > pair(alloc, "a", "b")?);
-    assert_eq!(rt; numbers.iter().next().copied(), Some(3));
-    assert_eq!(rt;
-        Vec::<u64>::from(numbers.clone()?).as_slice(),
-        numbers.as_slice()
-    );
+fn text_is_given_back(rt: HostRuntime) -> Result<(), Fail> {
+    let word = text(rt.alloc(), "é")?;
+    assert!(rt; word.len() == 2 && !word.is_empty());
+    assert!(rt; word.as_bytes() == [0xc3, 0xa9].as_slice());
+    let printed = format!(in rt.alloc(); "{word} {word:?}")?;
+    assert!(rt; printed.as_str() == "é \"é\"");
+    assert!(rt; String::from(word.clone()?).as_str() == word.as_str());
     Ok(())
 }
 
 #[test]
+fn bytes_are_given_back(rt: HostRuntime) -> Result<(), Fail> {
+    let pair = bytes(rt.alloc(), &[1, 2])?;
+    assert!(rt; pair.len() == 2 && !pair.is_empty());
+    assert!(rt; pair < bytes(rt.alloc(), &[1, 2, 0])?);
+    let given: Vec<u8> = pair.clone()?.into();
+    assert!(rt; given.as_slice() == pair.as_slice());
+    Ok(())
+}
+
+#[test]
+fn list_is_given_back(rt: HostRuntime) -> Result<(), Fail> {
+    let one = list(rt.alloc(), "a")?;
+    assert!(rt; one.len() == 1 && !one.is_empty());
+    assert!(rt; one < list(rt.alloc(), "b")?);
+    assert!(rt; one.iter().all(|word| word.as_str() == "a"));
+    let given: Vec<Text> = one.clone()?.into();
+    assert!(rt; given.as_slice() == one.as_slice());
+    Ok(())
+}
+
+/// A key of values of each kind.
+fn key(alloc: Global, word: &str, content: &[u8]) -> Result<(Listed<Text>, Bytes), AllocError> {
+    Ok((list(alloc, word)?, bytes(alloc, content)?))
+}
+
+#[test]
 fn equal_keys_meet_in_a_map(rt: HostRuntime) -> Result<(), Fail> {
-    let alloc = rt.alloc();
-    let mut places = HashMap::new(alloc);
-    places.insert((pair(alloc, "a", "b")?, text(alloc, "t")?), 1u8)?;
-    assert_eq!(rt;
-        places
-            .get(&(pair(alloc, "a", "b")?, text(alloc, "t")?))
-            .copied(),
-        Some(1)
-    );
-    assert_eq!(rt;
-        places
-            .get(&(pair(alloc, "ab", "")?, text(alloc, "t")?))
-            .copied(),
-        None
-    );
-    let mut bodies = HashMap::new(alloc);
-    bodies.insert(Bytes::from(vec![in alloc; 9]?), 2u8)?;
-    assert_eq!(rt;
-        bodies.get(&Bytes::from(vec![in alloc; 9]?)).copied(),
-        Some(2)
-    );
+    let mut places = HashMap::new(rt.alloc());
+    places.insert(key(rt.alloc(), "ab", b"c")?, 1u8)?;
+    for (word, content, there) in [("ab", b"c", true), ("a", b"c", false), ("ab", b"d", false)] {
+        let sought = key(rt.alloc(), word, content)?;
+        assert!(rt; places.contains_key(&sought) == there);
+    }
     Ok(())
 }
 
