@@ -1,9 +1,10 @@
 -- What the calls of a disk do to its bytes, and what a crash may leave.
 use Rattle.std.specs.Prelude.{ℕ, ◌≡◌, ◌+◌, ◌≤◌, ◌⊎◌, max, List, ◌++◌, length, take, drop, Option, Some, None, ⊤}
 
--- what was told is told still, and stands so to what it was
+-- what was told is told still, and stands so to what it was; what wasn't told isn't told now
 abbrev pub Told : {A : Type 0} → (A → A → Type 0) → Option A → Option A → Type 0
-Told R None new = ⊤
+Told R None None = ⊤
+Told R None (Some new) = ⊥
 Told R (Some old) None = ⊥
 Told R (Some old) (Some new) = R old new
 
