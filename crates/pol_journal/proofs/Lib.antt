@@ -1,0 +1,7 @@
+pub mod CreateLemmas
+pub mod FormatLemmas
+pub mod JournalLemmas
+pub mod Moments
+pub mod ReadLemmas
+pub mod RecordLemmas
+pub mod Steps

@@ -1,0 +1,4 @@
+pub mod Crash
+pub mod Format
+pub mod Journal
+pub mod Refused
