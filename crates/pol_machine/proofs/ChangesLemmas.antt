@@ -1,10 +1,8 @@
 -- The changes of a command, and where they lead.
-use Rattle.std.proofs.Common.{◌≡◌, ℕ, ◌+◌, ◌<◌, ◌==◌, true, false, cond, List, [], ◌∷◌, ◌++◌, map, Option, None, Some, refl, sym, ap, ◌∙◌, arith}
-use Rattle.std.specs.List.{AllByRecursion}
+use Rattle.std.proofs.Common.{◌≡◌, ℕ, ◌+◌, ◌<◌, cond, [], ◌∷◌, ◌++◌, map, ap, arith}
 use Rattle.std.proofs.lemmas.Bool.{ne_eqb}
 use Rattle.pol_tables.specs.Changes.{new_rows}
 use Rattle.pol_tables.specs.Rising.{KeysBelow}
-use Rattle.pol_tables.specs.Table.{rows_with}
 use Rattle.pol_tables.proofs.ChangesLemmas.{holds-unknown, new_rows-append, new_rows-itself}
 use Rattle.pol_tables.proofs.ListLemmas.{each-weaken}
 use Rattle.pol_tables.proofs.RisingLemmas.{knows-below}
@@ -17,7 +15,6 @@ use Rattle.pol_machine.specs.Changes.{changes_between, headed, counter_changes}
 use Rattle.pol_machine.specs.Rows.{Rows}
 use Rattle.pol_machine.specs.Sessions.{with_session}
 use Rattle.pol_machine.specs.Sound.{IsSound, IsSessionOf}
-use Rattle.pol_machine.specs.declared.change.Change.{Change}
 use Rattle.pol_machine.specs.declared.change.Change.TheVariants.{Time, NextSerial, PutSession}
 
 -- the rows with a time and charges of their own

@@ -1,5 +1,6 @@
 -- Decisions: the reply and the state after, by the first rule that fails.
-use Rattle.std.proofs.Common.{◌≡◌, ◌≤◌, ◌+◌, ◌^◌, ℕ, List, [], ◌∷◌, Option, None, Some, Result, Ok, Err, refl, sym, ap, subst, ◌∙◌, arith, cond, Bool, true, false, nat_lt}
+use Rattle.std.proofs.Common.{◌≡◌, ◌≤◌, ◌+◌, ◌^◌, ℕ, List, [], ◌∷◌, Option, None, Some, Result, Ok, Err, refl, sym, ap, subst, ◌∙◌, cond, Bool, true, false, is_some, nat_lt, true≢false}
+use Rattle.std.specs.List.{AllByRecursion}
 use Rattle.std.specs.Result.{IsErrAnd}
 use Rattle.std.proofs.lemmas.Bool.{ltb-false}
 use Rattle.pol_access.specs.declared.rows.PrincipalRow.{PrincipalRow}
@@ -7,24 +8,25 @@ use Rattle.pol_machine.specs.Applied.{applied}
 use Rattle.pol_machine.specs.Changes.{changes_between}
 use Rattle.pol_machine.specs.Judged.{Acts, Judges}
 use Rattle.pol_machine.specs.Machine.{acting, next_by, next_state, reply_by, reply_of, rows_by, rules_of, stamped}
+use Rattle.pol_machine.specs.Reply.{is_run_full}
 use Rattle.pol_machine.specs.Rows.{Rows}
-use Rattle.pol_machine.specs.Rules.{client_of, first_refusal, over_limit, run_full, with_serial}
-use Rattle.pol_machine.specs.Sessions.{open_session, opened, session_opened, time_of, with_session}
-use Rattle.pol_machine.specs.Sound.{IsGiven, IsSound, NamesGiven}
+use Rattle.pol_machine.specs.Rules.{client_of, first_refusal, invalid_client, invalid_scope, over_limit, run_full, with_serial}
+use Rattle.pol_machine.specs.Sessions.{open_session, opened, session_opened, time_of}
+use Rattle.pol_machine.specs.Sound.{IsSound}
+use Rattle.pol_machine.specs.declared.change.Change.{Change}
 use Rattle.pol_machine.specs.declared.command.Action.{Action}
 use Rattle.pol_machine.specs.declared.command.Action.TheVariants.{OpenSession}
 use Rattle.pol_machine.specs.declared.command.Command.{Command}
 use Rattle.pol_machine.specs.declared.reply.Answer.{Answer}
 use Rattle.pol_machine.specs.declared.reply.Quantity.TheVariants.{NextSerial}
 use Rattle.pol_machine.specs.declared.reply.Refusal.{Refusal}
-use Rattle.pol_machine.specs.declared.reply.Refusal.TheVariants.{Limit}
-use Rattle.pol_machine.specs.declared.reply.Reply.{Reply}
+use Rattle.pol_machine.specs.declared.reply.Refusal.TheVariants.{InvalidClient, InvalidScope, Limit}
 use Rattle.pol_machine.specs.declared.reply.Reply.TheVariants.{Answered, Refused}
 use Rattle.pol_machine.specs.declared.rules.Acted.{Acted}
 use Rattle.pol_machine.specs.declared.rules.Stop.{Stop}
 use Rattle.pol_machine.specs.declared.rules.Stop.TheVariants as stop
 use Rattle.pol_machine.proofs.ChangesLemmas.{changes-timed}
-use Rattle.pol_machine.proofs.RulesLemmas.{refusal-past, EachPasses-none}
+use Rattle.pol_machine.proofs.RulesLemmas.{first-other, given-other, refusal-past, refuse_if-other, run_full-tells, tells_full, EachPasses-none}
 use Rattle.pol_machine.proofs.SessionsLemmas.{leads-by, limit-opened}
 use Rattle.pol_machine.proofs.SoundLemmas.{client-given, opened-sound, scope-given, stamped-sound, within-bounds, IsWithin}
 
@@ -126,3 +128,50 @@ module _ (s : Rows) (command : Command) where
       by : (full : Option Refusal) → run_full s command.charge ≡ full → IsSound (next_by full s (stamped s command (rows_by (first_refusal rules) s action)))
       by (Some why) full = sound
       by None open_ = action_sound command.action sound (within-bounds s command sound moment open_)
+
+  others : (action : Action) → AllByRecursion (λ rule. tells_full rule ≡ false) (acting s command action).rules
+  unfolding invalid_client invalid_scope over_limit
+  others (OpenSession client_id secret scopes) = (
+    refuse_if-other _ InvalidClient refl,
+    (
+      given-other (client_of s client_id secret) _ (λ principal. refuse_if-other _ InvalidScope refl),
+      (refuse_if-other _ (Limit NextSerial (2 ^ 62)) refl, tt),
+    ),
+  )
+
+  told_by : (first : Option Refusal) → is_run_full (reply_by first answer) ≡ tells_full first
+  told_by None = refl
+  told_by (Some why) = refl
+
+  -- a run that is full is told, and by its own rule alone
+  pub full-told : is_run_full (reply_of s command) ≡ is_some (run_full s command.charge)
+  unfolding reply_of
+  full-told = told_by (first_refusal (rules_of s command)) ∙ by (run_full s command.charge) (run_full-tells s command.charge)
+    where
+      by : (full : Option Refusal) → tells_full full ≡ is_some full → tells_full (first_refusal (full ∷ rules)) ≡ is_some full
+      by None tells = first-other rules (others command.action)
+      by (Some why) tells = tells
+
+  -- a command that is told so leaves the state as it is
+  pub full-unchanged : is_run_full (reply_of s command) ≡ true → next_state s command ≡ s
+  unfolding next_state
+  full-unchanged told = by (run_full s command.charge) (sym full-told ∙ told)
+    where
+      by : (full : Option Refusal) → is_some full ≡ true → next_by full s (stamped s command (rows_by (first_refusal rules) s action)) ≡ s
+      by (Some why) some = refl
+      by None some = absurd (true≢false (sym some))
+
+  -- for a command that isn't told so, the run has room
+  pub open-untold : is_run_full (reply_of s command) ≡ false → run_full s command.charge ≡ None
+  open-untold untold = by (run_full s command.charge) (sym full-told ∙ untold)
+    where
+      by : (full : Option Refusal) → is_some full ≡ false → full ≡ None
+      by None none = refl
+      by (Some why) none = absurd (true≢false none)
+
+  -- its changes lead to a sound state
+  pub applied-sound : (rows : Rows) (changes : List Change) (time : ℕ) → IsSound s → command.moment ≤ 2 ^ 62 → is_run_full (reply_of s command) ≡ false
+      → rows ≡ s → changes ≡ changes_between s (next_state s command) → time ≡ time_of s command → IsSound (applied changes time command.charge rows)
+  applied-sound rows changes time sound moment untold rows_are changes_are time_is =
+      let leads : applied changes time command.charge rows ≡ next_state s command = (λ i. applied (changes_are i) (time_is i) command.charge (rows_are i)) ∙ changes-lead sound (open-untold untold) in
+      subst IsSound (sym leads) (next-sound sound moment)

@@ -1,5 +1,5 @@
 -- The fresh state.
-use Rattle.std.proofs.Common.{◌≡◌, ℕ, true, false, ◌||◌, List, [], ◌∷◌, ◌++◌, Some, codes, refl, sym, ap, subst, ◌∙◌, lit≤, lit<}
+use Rattle.std.proofs.Common.{◌≡◌, ℕ, false, ◌||◌, List, [], ◌∷◌, refl, sym, ap, subst, ◌∙◌, lit≤, lit<}
 use Rattle.std.specs.List.{AllByRecursion, IsDistinct}
 use Rattle.pol_access.specs.Access.{AccessRows, principal_id, principal_role_id}
 use Rattle.pol_access.specs.contracts.rows.MemberRow.{the_row}
@@ -8,7 +8,6 @@ use Rattle.pol_access.specs.declared.rows.PrincipalRoleRow.{PrincipalRoleRow}
 use Rattle.pol_access.specs.declared.rows.PrincipalRow.{PrincipalRow}
 use Rattle.pol_tables.specs.Facts.{facts_with}
 use Rattle.pol_tables.specs.Rising.{KeysRise}
-use Rattle.pol_tables.specs.Same.{same}
 use Rattle.pol_tables.specs.Table.{rows_with}
 use Rattle.pol_tables.proofs.SameLemmas.{same-refl}
 use Rattle.pol_tables.proofs.TableLemmas.{rows_with-new}

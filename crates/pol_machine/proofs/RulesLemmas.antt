@@ -1,13 +1,13 @@
 -- The first of the rules that fails.
-use Rattle.std.proofs.Common.{◌≡◌, ℕ, ◌+◌, ◌<◌, ◌≤◌, ◌^◌, cond, List, [], ◌∷◌, Option, None, Some, refl, sym, ap, ◌∙◌}
-use Rattle.std.proofs.lemmas.Bool.{le-ltb, lt-ltb}
+use Rattle.std.proofs.Common.{◌≡◌, ℕ, Bool, true, false, is_some, List, [], ◌∷◌, Option, None, Some, refl, ap, ◌∙◌}
+use Rattle.std.specs.List.{AllByRecursion}
+use Rattle.pol_machine.specs.Reply.{is_full}
 use Rattle.pol_machine.specs.Rows.{Rows}
-use Rattle.pol_machine.specs.Rules.{first_refusal, run_full, EachPasses}
+use Rattle.pol_machine.specs.Rules.{first_refusal, given, refuse_if, run_full, EachPasses}
 use Rattle.pol_machine.specs.Machine.{reply_by}
 use Rattle.pol_machine.specs.declared.reply.Answer.{Answer}
 use Rattle.pol_machine.specs.declared.reply.Refusal.{Refusal}
 use Rattle.pol_machine.specs.declared.reply.Refusal.TheVariants.{RunFull}
-use Rattle.pol_machine.specs.declared.reply.Reply.{Reply}
 use Rattle.pol_machine.specs.declared.reply.Reply.TheVariants.{Answered, Refused}
 
 -- a rule that fails first is the answer, and one that passes leaves it to those after it
@@ -32,11 +32,30 @@ pub answered-none : (first : Option Refusal) (answer : Answer) → reply_by firs
 answered-none None answer is = refl
 answered-none (Some why) answer is = let contrary : Refused why ≡ Answered answer = is in cc
 
--- the run is full where the charges come to more than its bound, and nowhere else
-pub full-above : (s : Rows) (charge : ℕ) → 2 ^ 30 < s.charged + charge → run_full s charge ≡ Some (RunFull s.charged charge)
-unfolding run_full
-full-above s charge above = ap (λ full. cond full (Some (RunFull s.charged charge)) None) (lt-ltb (2 ^ 30) (s.charged + charge) above)
+-- whether a rule says that the run is full
+abbrev pub tells_full : Option Refusal → Bool
+tells_full None = false
+tells_full (Some why) = is_full why
 
-pub full-within : (s : Rows) (charge : ℕ) → s.charged + charge ≤ 2 ^ 30 → run_full s charge ≡ None
+pub refuse_if-other : (test : Bool) (why : Refusal) → is_full why ≡ false → tells_full (refuse_if test why) ≡ false
+refuse_if-other true why other = other
+refuse_if-other false why other = refl
+
+pub given-other : {A : Type 0} (found : Option A) (rule : A → Option Refusal) → ((one : A) → tells_full (rule one) ≡ false) → tells_full (given found rule) ≡ false
+given-other None rule other = refl
+given-other (Some one) rule other = other one
+
+-- where no rule says so, neither does the first that fails
+pub first-other : (rules : List (Option Refusal)) → AllByRecursion (λ rule. tells_full rule ≡ false) rules → tells_full (first_refusal rules) ≡ false
+first-other [] others = refl
+first-other (None ∷ rules) others = first-other rules others.1
+first-other (Some why ∷ rules) others = others.0
+
+-- the rule on the charges says so wherever it fails
+refuse_if-full : (test : Bool) (charged charge : ℕ) → tells_full (refuse_if test (RunFull charged charge)) ≡ is_some (refuse_if test (RunFull charged charge))
+refuse_if-full true charged charge = refl
+refuse_if-full false charged charge = refl
+
+pub run_full-tells : (s : Rows) (charge : ℕ) → tells_full (run_full s charge) ≡ is_some (run_full s charge)
 unfolding run_full
-full-within s charge within = ap (λ full. cond full (Some (RunFull s.charged charge)) None) (le-ltb (2 ^ 30) (s.charged + charge) within)
+run_full-tells s charge = refuse_if-full _ s.charged charge

@@ -1,5 +1,5 @@
 -- Roles by the scopes that name them.
-use Rattle.std.proofs.Common.{◌≡◌, ◌≢◌, ℕ, Bool, true, false, not, cond, ◌==◌, ◌||◌, List, [], ◌∷◌, length, Option, None, Some, refl, sym, ap, ◌∙◌, inl, inr}
+use Rattle.std.proofs.Common.{◌≡◌, ◌≢◌, ℕ, true, false, not, cond, ◌==◌, ◌||◌, List, [], ◌∷◌, length, None, Some, refl, sym, ap, ◌∙◌, inl, inr}
 use Rattle.std.specs.List.{filter_map, find, list_all, list_any}
 use Rattle.std.specs.Str.{bytes_eq}
 use Rattle.pol_names.specs.declared.scope.Scope.TheVariants as scope

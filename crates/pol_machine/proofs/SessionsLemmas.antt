@@ -4,7 +4,6 @@ use Rattle.pol_access.specs.declared.rows.PrincipalRow.{PrincipalRow}
 use Rattle.pol_names.specs.declared.scope.Scope.{Scope}
 use Rattle.pol_tables.specs.Rising.{KeysBelow}
 use Rattle.pol_tokens.specs.Tokens.{serial_of}
-use Rattle.pol_tokens.specs.declared.session.SessionRow.{SessionRow}
 use Rattle.pol_machine.specs.Applied.{applied}
 use Rattle.pol_machine.specs.Changes.{changes_between}
 use Rattle.pol_machine.specs.Machine.{rows_by, stamped}
@@ -12,11 +11,10 @@ use Rattle.pol_machine.specs.Rows.{Rows}
 use Rattle.pol_machine.specs.Rules.{client_of, first_refusal, given, invalid_client, invalid_scope, over_limit, with_serial}
 use Rattle.pol_machine.specs.Sessions.{open_session, opened, scope_of, session_opened, time_of, with_session}
 use Rattle.pol_machine.specs.Sound.{IsSound}
-use Rattle.pol_machine.specs.declared.change.Change.{Change}
 use Rattle.pol_machine.specs.declared.change.Change.TheVariants.{Time, NextSerial, PutSession}
 use Rattle.pol_machine.specs.declared.command.Command.{Command}
 use Rattle.pol_machine.specs.declared.reply.Refusal.{Refusal}
-use Rattle.pol_machine.proofs.ChangesLemmas.{applied-opened, changes-opened, changes-timed, serials-below, timed}
+use Rattle.pol_machine.proofs.ChangesLemmas.{applied-opened, changes-opened, changes-timed, serials-below}
 use Rattle.pol_machine.proofs.RulesLemmas.{refusal-past, refusal-stops}
 
 module _ (s : Rows) (command : Command) (scopes : List (List ℕ)) where

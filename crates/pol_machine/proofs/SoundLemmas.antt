@@ -1,5 +1,5 @@
 -- The state after a command is sound.
-use Rattle.std.proofs.Common.{◌≡◌, ℕ, ◌+◌, ◌<◌, ◌≤◌, ◌^◌, Bool, true, false, cond, List, [], ◌∷◌, ◌++◌, Option, None, Some, refl, sym, ap, subst, ◌∙◌, inl, inr, arith, nat_lt, length, ◌==◌, ◌||◌}
+use Rattle.std.proofs.Common.{◌≡◌, ℕ, ◌+◌, ◌≤◌, ◌^◌, Bool, true, false, cond, List, [], ◌∷◌, Option, None, Some, refl, sym, ap, subst, ◌∙◌, inl, inr, arith, nat_lt, length, ◌==◌, ◌||◌}
 use Rattle.std.specs.List.{cons_option, find, filter_map, list_any, AllByRecursion}
 use Rattle.std.specs.Str.{bytes_eq}
 use Rattle.std.proofs.lemmas.Bool.{cases_Bool, ltb-false}
@@ -7,7 +7,6 @@ use Rattle.std.specs.Option.{option_map}
 use Rattle.pol_access.specs.Access.{principal_id, principal_role_id, is_member}
 use Rattle.pol_access.specs.declared.rows.PrincipalRow.{PrincipalRow}
 use Rattle.pol_access.specs.declared.rows.PrincipalRoleRow.{PrincipalRoleRow}
-use Rattle.pol_names.specs.declared.scope.Scope.{Scope}
 use Rattle.pol_names.specs.declared.scope.Scope.TheVariants as scope
 use Rattle.pol_tables.specs.Rising.{KeysBelow}
 use Rattle.pol_tables.proofs.ListLemmas.{each-push, each-weaken}
@@ -18,7 +17,7 @@ use Rattle.pol_tokens.specs.declared.session.SessionRow.{SessionRow}
 use Rattle.pol_machine.specs.Machine.{stamped}
 use Rattle.pol_machine.specs.Rows.{Rows}
 use Rattle.pol_machine.specs.Rules.{all_roles, client_of, held_role, kept_if, role_of_scope, role_scope, run_full}
-use Rattle.pol_machine.specs.Sessions.{opened, scope_of, time_of, with_session}
+use Rattle.pol_machine.specs.Sessions.{scope_of, time_of, with_session}
 use Rattle.pol_machine.specs.Sound.{IsGiven, IsSessionOf, IsSound, NamesGiven}
 use Rattle.pol_machine.specs.declared.command.Command.{Command}
 use Rattle.pol_machine.specs.declared.reply.Refusal.TheVariants.{RunFull}

@@ -1,8 +1,9 @@
 -- Laws of the machine.
-use Rattle.std.specs.Prelude.{◌≡◌, ◌↔◌, ◌≤◌, ◌^◌, ℕ, None}
+use Rattle.std.specs.Prelude.{◌≡◌, ◌↔◌, ◌≤◌, ◌^◌, true, None, is_some}
 use Rattle.pol_machine.specs.Applied.{applied}
 use Rattle.pol_machine.specs.Changes.{changes_between}
 use Rattle.pol_machine.specs.Machine.{acting, next_state, reply_of, rules_of}
+use Rattle.pol_machine.specs.Reply.{is_run_full}
 use Rattle.pol_machine.specs.Rows.{Rows}
 use Rattle.pol_machine.specs.Rules.{EachPasses, run_full}
 use Rattle.pol_machine.specs.Sessions.{time_of}
@@ -24,3 +25,11 @@ abbrev pub ChangesLeadToNextState : Type 0
 ChangesLeadToNextState =
     (s : Rows) (command : Command) → IsSound s → run_full s command.charge ≡ None
     → applied (changes_between s (next_state s command)) (time_of s command) command.charge s ≡ next_state s command
+
+-- a command is told that the run is full exactly where it is
+abbrev pub FullRunIsTold : Type 0
+FullRunIsTold = (s : Rows) (command : Command) → is_run_full (reply_of s command) ≡ is_some (run_full s command.charge)
+
+-- a command that is told so leaves the state as it is
+abbrev pub FullRunChangesNothing : Type 0
+FullRunChangesNothing = (s : Rows) (command : Command) → is_run_full (reply_of s command) ≡ true → next_state s command ≡ s

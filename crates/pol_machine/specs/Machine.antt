@@ -1,5 +1,5 @@
 -- The machine: the reply to a command in a state, and the state after it.
-use Rattle.std.specs.Prelude.{ℕ, ◌+◌, List, ◌∷◌, Option, Some, None}
+use Rattle.std.specs.Prelude.{◌+◌, List, ◌∷◌, Option, Some, None}
 use Rattle.pol_machine.specs.Rows.{Rows}
 use Rattle.pol_machine.specs.Rules.{run_full, first_refusal}
 use Rattle.pol_machine.specs.Sessions.{Acting, open_session, time_of}

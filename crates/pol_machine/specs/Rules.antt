@@ -1,6 +1,6 @@
 -- Rules: what refuses a command, in the order in which an action lists its rules.
 use Rattle.std.specs.Prelude.{◌≡◌, ℕ, ◌+◌, ◌^◌, Bool, not, nat_lt, ◌||◌, ◌++◌, List, [], ◌∷◌, Option, Some, None, is_some, is_none, if◌then◌else◌, codes}
-use Rattle.std.specs.List.{find, list_all, list_any, filter_map, AllByRecursion}
+use Rattle.std.specs.List.{find, list_all, AllByRecursion}
 use Rattle.std.specs.Option.{option_map}
 use Rattle.std.specs.Str.{bytes_eq}
 use Rattle.pol_access.specs.Access.{AccessRows, principal_of_client, is_member}

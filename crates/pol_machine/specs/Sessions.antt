@@ -1,5 +1,5 @@
 -- Opening a session.
-use Rattle.std.specs.Prelude.{ℕ, ◌+◌, max, Bool, ◌||◌, List, [], ◌∷◌, ◌++◌, Option, Some, None, if◌then◌else◌, length, ◌==◌}
+use Rattle.std.specs.Prelude.{ℕ, ◌+◌, max, ◌||◌, List, [], ◌∷◌, ◌++◌, Option, Some, None, if◌then◌else◌, length, ◌==◌}
 use Rattle.std.specs.List.{list_any, filter_map}
 use Rattle.std.specs.Str.{bytes_eq}
 use Rattle.pol_access.specs.declared.rows.PrincipalRow.{PrincipalRow}

@@ -7,7 +7,6 @@ use Rattle.pol_access.specs.Access.{AccessRows, principal_id, client_id_of, prin
 use Rattle.pol_access.specs.contracts.rows.MemberRow.{the_row}
 use Rattle.pol_access.specs.declared.rows.PrincipalRow.{PrincipalRow}
 use Rattle.pol_access.specs.declared.rows.PrincipalRoleRow.{PrincipalRoleRow}
-use Rattle.pol_access.specs.declared.rows.MemberRow.{MemberRow}
 use Rattle.pol_names.specs.declared.scope.Scope.{Scope}
 use Rattle.pol_names.specs.declared.scope.Scope.TheVariants as scope
 use Rattle.pol_tables.specs.Rising.{KeysRise}

@@ -1,5 +1,5 @@
-ghost use Rattle.std.specs.Prelude.{Some};
-ghost use Rattle.pol_machine.specs.Reply.{quantity_text};
+ghost use Rattle.std.specs.Prelude.{◌≡◌, Some};
+ghost use Rattle.pol_machine.specs.Reply.{is_run_full, quantity_text};
 
 use std::fmt;
 
@@ -8,6 +8,15 @@ use std::fmt;
 pub enum Reply {
     Answered(Answer),
     Refused(Refusal),
+}
+
+impl Reply {
+    /// Whether the command is refused since the run is full. This reply alone leaves the state's time and charges.
+    pub fn is_run_full(&self) -> bool
+        ensures { result ≡ is_run_full self.now }
+    {
+        matches!(self, Reply::Refused(Refusal::RunFull { .. }))
+    }
 }
 
 /// What an action that is done answers.
