@@ -10,3 +10,6 @@ mod token_form;
 
 pub use plans::{Planned, REQUEST_CHARGE, RouteRefused, command_of, plan};
 pub use texts::{answer_of, draw_fault_answer, head_refused_answer, refusal_answer};
+
+#[cfg(test)]
+mod tests;

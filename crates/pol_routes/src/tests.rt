@@ -1,0 +1,348 @@
+ghost use Rattle.std.specs.Prelude.{◌≤◌, length, vec_len, IfOk};
+
+use super::*;
+use pol_http::{Answer, HeadRefused, Next, next_message, write_answer};
+use pol_machine::{Action, Caller, Quantity, Refusal, Reply, Words4};
+use std::alloc::{AllocError, Global};
+use std::test::Fail;
+
+/// The request line of a token request.
+const TOKEN_LINE: &str = "POST /api/catalog/v1/oauth/tokens HTTP/1.1";
+
+/// A form that opens a session.
+const PLAIN: &str = "grant_type=client_credentials&client_id=root&client_secret=s3cret";
+
+/// The bytes of a request with that line and body.
+fn request(alloc: Global, line: &str, body: &[u8]) -> Result<Vec<u8>, AllocError>
+    ensures { IfOk result (λ bytes. length body.now ≤ vec_len bytes) }
+{
+    let length = body.len();
+    let head = format!(in alloc; "{line}\r\nhost: l\r\ncontent-length: {length}\r\n\r\n")?;
+    let mut bytes = Vec::new(alloc);
+    bytes.extend_from_slice(head.as_bytes())?;
+    bytes.extend_from_slice(body)?;
+    Ok(bytes)
+}
+
+/// The plan of the request that the bytes begin with, if they begin with one.
+fn plan_of_request(alloc: Global, bytes: &[u8]) -> Option<Result<Planned, RouteRefused>> {
+    match next_message(bytes) {
+        Next::Whole { head, body, .. } => Some(plan(alloc, bytes, &head, body)),
+        Next::Continue { .. } | Next::Partial | Next::Refused(_) => None,
+    }
+}
+
+/// What a request asks for: its client, secret and scopes, each scope behind a `|`; or why it has no plan.
+fn told(alloc: Global, line: &str, body: &[u8]) -> Result<String, Fail> {
+    let bytes = request(alloc, line, body)?;
+    match plan_of_request(alloc, bytes.as_slice()) {
+        Some(Ok(planned)) => Ok(shown(alloc, &planned.action)?),
+        Some(Err(why)) => Ok(format!(in alloc; "{why:?}")?),
+        None => Ok(String::from_str(alloc, "no request")?),
+    }
+}
+
+fn shown(alloc: Global, action: &Action) -> Result<String, AllocError> {
+    match action {
+        Action::OpenSession {
+            client_id,
+            secret,
+            scopes,
+        } => {
+            let mut text = format!(in alloc; "{client_id} {secret}")?;
+            for scope in scopes.iter() {
+                text.push_str("|")?;
+                text.push_str(scope.as_str())?;
+            }
+            Ok(text)
+        }
+    }
+}
+
+#[test]
+fn forms_are_read_in_the_stated_order(rt: HostRuntime) -> Result<(), Fail> {
+    let cases = [
+        (PLAIN, "root s3cret"),
+        ("", "InvalidRequest"),
+        ("client_id=root&client_secret=s", "InvalidRequest"),
+        (
+            "grant_type=&client_id=root&client_secret=s",
+            "InvalidRequest",
+        ),
+        (
+            "grant_type=client_credentials&client_secret=s",
+            "InvalidRequest",
+        ),
+        (
+            "grant_type=client_credentials&client_id=&client_secret=s",
+            "InvalidRequest",
+        ),
+        (
+            "grant_type=client_credentials&client_id&client_secret=s",
+            "InvalidRequest",
+        ),
+        (
+            "grant_type=client_credentials&client_id=root",
+            "InvalidRequest",
+        ),
+        (
+            "grant_type=client_credentials&client_id=root&client_secret=",
+            "InvalidRequest",
+        ),
+        (
+            "grant_type=password&client_id=root&client_secret=s",
+            "GrantType",
+        ),
+        (
+            "grant_type=Client_Credentials&client_id=root&client_secret=s",
+            "GrantType",
+        ),
+        ("grant_type=password&client_secret=s", "InvalidRequest"),
+        (
+            "client_secret=s&other=1&client_id=root&&grant_type=client_credentials&",
+            "root s",
+        ),
+        (
+            "grant_type=client_credentials&client_id=a+b%20c&client_secret=x%3Ay",
+            "a b c x:y",
+        ),
+        (
+            "grant_type=client_credentials&client_id=%zz&client_secret=a=b",
+            "%zz a=b",
+        ),
+        (
+            "grant_type=client_credentials&client_id=%c3%A9&client_secret=%2B",
+            "é +",
+        ),
+        (
+            "gr%61nt_type=client%5Fcredentials&client_id=root&client_secret=s",
+            "root s",
+        ),
+        (
+            "grant_type=client_credentials&client_id=%ff&client_secret=s",
+            "InvalidRequest",
+        ),
+    ];
+    for (form, expected) in cases {
+        let text = told(rt.alloc(), TOKEN_LINE, form.as_bytes())?;
+        assert_eq!(rt; text.as_str(), expected, "at {form}");
+    }
+    Ok(())
+}
+
+#[test]
+fn further_fields_are_read_with_the_form(rt: HostRuntime) -> Result<(), Fail> {
+    let cases = [
+        ("&grant_type=client_credentials", "InvalidRequest"),
+        ("&client_id=root", "InvalidRequest"),
+        ("&client_secret=", "InvalidRequest"),
+        ("&scope=a&scope=b", "InvalidRequest"),
+        ("&scope=&scope=", "InvalidRequest"),
+        ("&a=%ff", "InvalidRequest"),
+        ("&%ff=a", "InvalidRequest"),
+        ("&a=%c3&b=%a9", "InvalidRequest"),
+        ("&Scope=a&Scope=b", "root s3cret"),
+        ("&scope", "root s3cret"),
+        ("&scope=", "root s3cret"),
+        ("&scope=+", "root s3cret||"),
+        (
+            "&scope=PRINCIPAL_ROLE:ALL",
+            "root s3cret|PRINCIPAL_ROLE:ALL",
+        ),
+        ("&scope=a++b", "root s3cret|a||b"),
+        ("&scope=a%20b%09c", "root s3cret|a|b\tc"),
+        (
+            "&scope=1+2+3+4+5+6+7+8+9+10+11+12+13+14+15+16",
+            "root s3cret|1|2|3|4|5|6|7|8|9|10|11|12|13|14|15|16",
+        ),
+        (
+            "&scope=1+2+3+4+5+6+7+8+9+10+11+12+13+14+15+16+17",
+            "InvalidRequest",
+        ),
+        (
+            "&scope=1+2+3+4+5+6+7+8+9+10+11+12+13+14+15+16+",
+            "InvalidRequest",
+        ),
+    ];
+    for (more, expected) in cases {
+        let form = format!(in rt.alloc(); "{PLAIN}{more}")?;
+        let text = told(rt.alloc(), TOKEN_LINE, form.as_bytes())?;
+        assert_eq!(rt; text.as_str(), expected, "at {more}");
+    }
+    let raw = told(rt.alloc(), TOKEN_LINE, b"a=\xff")?;
+    assert_eq!(rt; raw.as_str(), "InvalidRequest");
+    Ok(())
+}
+
+#[test]
+fn the_token_route_alone_is_built(rt: HostRuntime) -> Result<(), Fail> {
+    let cases = [
+        (
+            "POST /api/catalog/v1/oauth/tokens?x=1 HTTP/1.1",
+            "root s3cret",
+        ),
+        ("POST /api/catalog/v1/oauth/tokens? HTTP/1.0", "root s3cret"),
+        ("GET /api/catalog/v1/oauth/tokens HTTP/1.1", "NotBuilt"),
+        ("post /api/catalog/v1/oauth/tokens HTTP/1.1", "NotBuilt"),
+        ("POST /api/catalog/v1/oauth/tokens/ HTTP/1.1", "NotBuilt"),
+        ("POST /api/catalog/v1/oauth/token HTTP/1.1", "NotBuilt"),
+        ("POST /api/catalog/v1/oauth/token%73 HTTP/1.1", "NotBuilt"),
+        ("GET /objects/b/x HTTP/1.1", "NotBuilt"),
+    ];
+    for (line, expected) in cases {
+        let text = told(rt.alloc(), line, PLAIN.as_bytes())?;
+        assert_eq!(rt; text.as_str(), expected, "at {line}");
+    }
+    Ok(())
+}
+
+#[test]
+fn a_plan_becomes_a_command(rt: HostRuntime) -> Result<(), Fail> {
+    let bytes = request(rt.alloc(), TOKEN_LINE, PLAIN.as_bytes())?;
+    let Some(Ok(planned)) = plan_of_request(rt.alloc(), bytes.as_slice()) else {
+        assert!(rt; false, "no plan");
+        return Ok(());
+    };
+    assert_eq!(rt;
+        (planned.words, planned.charge),
+        (2, bytes.len() as u64 + 512)
+    );
+    let words = Words4 {
+        a: 1,
+        b: 2,
+        c: 3,
+        d: 4,
+    };
+    let command = command_of(planned, 1_700_000_000_000, words);
+    assert!(rt; matches!(command.caller, Caller::Nobody));
+    assert_eq!(rt; (command.moment, command.words), (1_700_000_000_000, words));
+    assert_eq!(rt; command.charge, bytes.len() as u64 + 512);
+    assert_eq!(rt; shown(rt.alloc(), &command.action)?.as_str(), "root s3cret");
+    Ok(())
+}
+
+/// The status of an answer and the text of its body.
+fn answered(alloc: Global, answer: Result<Answer, pol_types::OutOfMemory>) -> Result<String, Fail> {
+    let bytes = write_answer(alloc, &answer?)?;
+    Ok(String::from_utf8_lossy(alloc, bytes.as_slice())?)
+}
+
+#[test]
+fn an_opened_session_answers_its_token(rt: HostRuntime) -> Result<(), Fail> {
+    let reply = Reply::Answered(pol_machine::Answer::SessionOpened {
+        serial: 0x0123_4567_89ab_cdef,
+        word_a: 1,
+        word_b: u64::MAX,
+    });
+    let text = answered(rt.alloc(), answer_of(rt.alloc(), &reply))?;
+    assert_eq!(rt;
+        text.as_str(),
+        "HTTP/1.1 200 OK\r\ncontent-type: application/json\r\ncontent-length: 175\r\ncache-control: no-store\r\npragma: no-cache\r\n\r\n{\"access_token\":\"0123456789abcdef0000000000000001ffffffffffffffff\",\"expires_in\":3600,\"issued_token_type\":\"urn:ietf:params:oauth:token-type:access_token\",\"token_type\":\"bearer\"}"
+    );
+    Ok(())
+}
+
+/// The text of an answer with that status line and that JSON, as RFC 9112 has it.
+fn expected(alloc: Global, status: &str, json: &str) -> Result<String, AllocError> {
+    let length = json.len();
+    format!(in alloc;
+        "HTTP/1.1 {status}\r\ncontent-type: application/json\r\ncontent-length: {length}\r\n\r\n{json}"
+    )
+}
+
+#[test]
+fn refused_commands_are_told(rt: HostRuntime) -> Result<(), Fail> {
+    let cases = [
+        (
+            Refusal::InvalidClient,
+            "401 Unauthorized",
+            "{\"error\":\"invalid_client\"}",
+        ),
+        (
+            Refusal::InvalidScope,
+            "400 Bad Request",
+            "{\"error\":\"invalid_scope\"}",
+        ),
+        (
+            Refusal::RunFull {
+                charged: 1_073_741_824,
+                charge: 512,
+            },
+            "503 Service Unavailable",
+            "{\"error\":{\"code\":503,\"message\":\"RunFull: 1073741824 and 512\",\"type\":\"ServiceUnavailableException\"}}",
+        ),
+        (
+            Refusal::Limit {
+                quantity: Quantity::NextSerial,
+                bound: 4_611_686_018_427_387_904,
+            },
+            "400 Bad Request",
+            "{\"error\":{\"code\":400,\"message\":\"Limit: next_serial 4611686018427387904\",\"type\":\"BadRequestException\"}}",
+        ),
+    ];
+    for (refusal, status, json) in cases {
+        let text = answered(rt.alloc(), answer_of(rt.alloc(), &Reply::Refused(refusal)))?;
+        assert_eq!(rt; text.as_str(), expected(rt.alloc(), status, json)?.as_str());
+    }
+    Ok(())
+}
+
+#[test]
+fn refused_requests_are_told(rt: HostRuntime) -> Result<(), Fail> {
+    let cases = [
+        (
+            RouteRefused::NotBuilt,
+            "501 Not Implemented",
+            "{\"error\":{\"code\":501,\"message\":\"Not built\",\"type\":\"UnsupportedOperationException\"}}",
+        ),
+        (
+            RouteRefused::InvalidRequest,
+            "400 Bad Request",
+            "{\"error\":\"invalid_request\"}",
+        ),
+        (
+            RouteRefused::GrantType,
+            "400 Bad Request",
+            "{\"error\":\"unsupported_grant_type\"}",
+        ),
+    ];
+    for (refused, status, json) in cases {
+        let text = answered(rt.alloc(), refusal_answer(rt.alloc(), &refused))?;
+        assert_eq!(rt; text.as_str(), expected(rt.alloc(), status, json)?.as_str());
+    }
+    assert!(rt; refusal_answer(rt.alloc(), &RouteRefused::OutOfMemory).is_err());
+    Ok(())
+}
+
+#[test]
+fn refused_heads_and_failed_draws_are_told(rt: HostRuntime) -> Result<(), Fail> {
+    let cases = [
+        (
+            HeadRefused::BadHead,
+            "400 Bad Request",
+            "{\"error\":{\"code\":400,\"message\":\"BadHead\",\"type\":\"BadRequestException\"}}",
+        ),
+        (
+            HeadRefused::LengthNeeded,
+            "411 Length Required",
+            "{\"error\":{\"code\":411,\"message\":\"LengthNeeded\",\"type\":\"BadRequestException\"}}",
+        ),
+        (
+            HeadRefused::BodyTooLong,
+            "413 Payload Too Large",
+            "{\"error\":{\"code\":413,\"message\":\"BodyTooLong\",\"type\":\"BadRequestException\"}}",
+        ),
+    ];
+    for (refused, status, json) in cases {
+        let text = answered(rt.alloc(), head_refused_answer(rt.alloc(), refused))?;
+        assert_eq!(rt; text.as_str(), expected(rt.alloc(), status, json)?.as_str());
+    }
+    let text = answered(rt.alloc(), draw_fault_answer(rt.alloc()))?;
+    let json =
+        "{\"error\":{\"code\":503,\"message\":\"DrawFault\",\"type\":\"ServiceUnavailableException\"}}";
+    assert_eq!(rt;
+        text.as_str(),
+        expected(rt.alloc(), "503 Service Unavailable", json)?.as_str()
+    );
+    Ok(())
+}
