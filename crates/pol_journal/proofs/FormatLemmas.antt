@@ -214,6 +214,7 @@ same_or_not (x ∷ xs) (y ∷ ys) = elim (cases_eq x y) [
   where
     heads : (x y : ℕ) (xs ys : List ℕ) → x ∷ xs ≡ y ∷ ys → x ≡ y
     heads x y xs ys is = cc
+
     tails : (x y : ℕ) (xs ys : List ℕ) → x ∷ xs ≡ y ∷ ys → xs ≡ ys
     tails x y xs ys is = cc
 

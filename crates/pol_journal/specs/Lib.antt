@@ -1,4 +1,5 @@
 pub mod Crash
 pub mod Format
 pub mod Journal
+pub mod Laws
 pub mod Refused

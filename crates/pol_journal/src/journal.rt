@@ -32,7 +32,11 @@ impl<D: Disk> Model for Journal<D> {
     ghost Value = { JournalState D };
 
     ghost view = { λ journal. record {
-        disk = journal.disk; kind = journal.kind; last = journal.last; gate = journal.gate; stage = journal.stage
+      disk = journal.disk;
+      kind = journal.kind;
+      last = journal.last;
+      gate = journal.gate;
+      stage = journal.stage;
     } };
 
     ghost invariant = { λ journal. IsWithin journal.stage journal.gate (D.size journal.disk) };

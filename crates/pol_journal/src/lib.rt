@@ -5,6 +5,7 @@
 mod format;
 mod journal;
 mod kind;
+pub mod laws;
 mod reads;
 mod records;
 mod refused;
@@ -14,3 +15,6 @@ mod writes;
 pub use journal::Journal;
 pub use kind::Kind;
 pub use refused::JournalRefused;
+
+#[cfg(test)]
+mod tests;

@@ -14,13 +14,13 @@ pub returns-in-Gate-clause-taken_back : goal.returns-in-Gate-clause-taken_back
 returns-in-Gate-clause-taken_back g c =
     let d = g.D.Disk in
     on_ok_both c.write_synced.result (λ wrote durable. λ kind bodies body hangs.
-        let at : Hangs Gate kind bodies body c.args.gate (d.seen c.args.disk.now) (d.may_leave c.args.disk.now) = rw c.in-Gate.is at hangs in
-        gate_shut d.clock d.left_since d.may_leave d.seen kind bodies body c.args.gate _ _ at.place at.told (g.met.D.Disk.reads_as_image c.args.disk.now) at.left wrote durable)
+    let at : Hangs Gate kind bodies body c.args.gate (d.seen c.args.disk.now) (d.may_leave c.args.disk.now) = rw c.in-Gate.is at hangs in
+    gate_shut d.clock d.left_since d.may_leave d.seen kind bodies body c.args.gate _ _ at.place at.told (g.met.D.Disk.reads_as_image c.args.disk.now) at.left wrote durable)
     c.write_synced.ensures.written c.write_synced.ensures.durable
 
 pub returns-in-Gate-clause-failed : goal.returns-in-Gate-clause-failed
 returns-in-Gate-clause-failed g c =
     let d = g.D.Disk in
     on_err_of c.write_synced.result (λ kind bodies body hangs.
-        let at : Hangs Gate kind bodies body c.args.gate (d.seen c.args.disk.now) (d.may_leave c.args.disk.now) = rw c.in-Gate.is at hangs in
-        rw c.in-Gate.is (gate_hangs d.clock d.left_since d.may_leave d.seen kind bodies body c.args.gate _ _ _ at.place at.told at.left c.write_synced.ensures.told c.write_synced.ensures.crash))
+    let at : Hangs Gate kind bodies body c.args.gate (d.seen c.args.disk.now) (d.may_leave c.args.disk.now) = rw c.in-Gate.is at hangs in
+    rw c.in-Gate.is (gate_hangs d.clock d.left_since d.may_leave d.seen kind bodies body c.args.gate _ _ _ at.place at.told at.left c.write_synced.ensures.told c.write_synced.ensures.crash))

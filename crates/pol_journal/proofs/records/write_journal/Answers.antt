@@ -20,8 +20,8 @@ pub returns-clause-made : goal.returns-clause-made
 returns-clause-made g c =
     let d = g.D.Disk in
     on_ok_both c.write_synced-2.result (λ wrote durable. λ bodies area none.
-        made d.clock d.left_since d.may_leave d.seen g.met.D.Disk.reads_as_image c.args.kind bodies c.args.first.now area _ _ _ _ none
-        (record { bytes = c.in_ok-write_synced.ensures.written; durable = c.in_ok-write_synced.ensures.durable })
-        (record { bytes = c.in_ok-write_both.ensures.written; durable = c.in_ok-write_both.ensures.durable })
-        c.name.result c.name.ensures (record { bytes = wrote; durable = durable }))
+    made d.clock d.left_since d.may_leave d.seen g.met.D.Disk.reads_as_image c.args.kind bodies c.args.first.now area _ _ _ _ none
+    (record { bytes = c.in_ok-write_synced.ensures.written; durable = c.in_ok-write_synced.ensures.durable })
+    (record { bytes = c.in_ok-write_both.ensures.written; durable = c.in_ok-write_both.ensures.durable })
+    c.name.result c.name.ensures (record { bytes = wrote; durable = durable }))
     c.write_synced-2.ensures.written c.write_synced-2.ensures.durable

@@ -12,7 +12,7 @@ returns-in_err-body-clause-bad g c file bodies was =
     let read = rw (← c.self.view_is) at was in
     let p = err_from_is_err_and c.from_residual.result c.from_residual.ensures.1 in
     rw (p.1, p.2, ← c.self.view_is) (bad_in c.self.inside.kind bodies c.self.inside.gate file read.read c.in_err-body.field-0.0 _ _
-        (told_of _ _ file read.told c.in_err-body.ensures.broken) c.in_err-body.ensures.refused)
+    (told_of _ _ file read.told c.in_err-body.ensures.broken) c.in_err-body.ensures.refused)
 
 pub returns-in_default-2-clause-next : goal.returns-in_default-2-clause-next
 returns-in_default-2-clause-next g c file bodies was =
