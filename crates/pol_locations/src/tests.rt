@@ -1,71 +1,96 @@
 ghost use Rattle.std.specs.Prelude.{◌≡◌, ◌<◌};
 
 use super::*;
+use pol_types::OutOfMemory;
+use std::alloc::{AllocError, Global};
 use std::marker::Brand;
 use std::mem;
 use std::sync::ledger::{Blank, Ledger};
 use std::test::Fail;
 
+/// What a text begins with, how many `a` follow, its end, and the refusal of that text.
+const TEXTS: [(&str, usize, &str, Option<LocationRefused>); 17] = [
+    ("lake://", 0, "", Some(LocationRefused::EmptySegment)),
+    ("lake:///", 0, "", Some(LocationRefused::EmptySegment)),
+    ("lake://b/", 0, "", None),
+    ("lake://b//", 0, "", Some(LocationRefused::EmptySegment)),
+    ("lake://b/../c", 0, "", Some(LocationRefused::DotSegment)),
+    ("lake://b/.", 0, "", Some(LocationRefused::DotSegment)),
+    ("Lake://b", 0, "", Some(LocationRefused::BadScheme)),
+    ("lake://b/\n/..", 0, "", Some(LocationRefused::ControlByte)),
+    ("lake://b\u{7f}", 0, "", Some(LocationRefused::ControlByte)),
+    ("lake://", 1017, "", None),
+    ("lake://", 1018, "", Some(LocationRefused::TooLong)),
+    ("lake://", 1017, "/", None),
+    ("lake://", 1018, "/", Some(LocationRefused::TooLong)),
+    ("lake://", 1015, "//", Some(LocationRefused::EmptySegment)),
+    ("lake:///", 1017, "", Some(LocationRefused::TooLong)),
+    ("", 1024, "", Some(LocationRefused::BadScheme)),
+    ("", 1025, "", Some(LocationRefused::TooLong)),
+];
+
+/// The text of a front, so many `a` and an end.
+fn spelled(alloc: Global, front: &str, count: usize, end: &str) -> Result<String, AllocError> {
+    let mut text = "a".repeat(alloc, count)?;
+    text.insert_str(0, front)?;
+    text.push_str(end)?;
+    Ok(text)
+}
+
 #[test]
-fn texts_are_judged(rt: HostRuntime) -> Result<(), Fail> {
-    let cases = [
-        ("lake://", Some(LocationRefused::EmptySegment)),
-        ("lake:///", Some(LocationRefused::EmptySegment)),
-        ("lake://b/", None),
-        ("lake://b//", Some(LocationRefused::EmptySegment)),
-        ("lake://b/../c", Some(LocationRefused::DotSegment)),
-        ("lake://b/.", Some(LocationRefused::DotSegment)),
-        ("Lake://b", Some(LocationRefused::BadScheme)),
-        ("lake://b/\n/..", Some(LocationRefused::ControlByte)),
-        ("lake://b\u{7f}", Some(LocationRefused::ControlByte)),
-    ];
-    for (text, refused) in cases {
-        assert_eq!(rt; Location::parse(rt.alloc(), text).err(), refused, "{text}");
+fn texts_are_judged_in_order(rt: HostRuntime) -> Result<(), Fail> {
+    for (front, count, end, refused) in TEXTS {
+        let text = spelled(rt.alloc(), front, count, end)?;
+        let found = Location::parse(rt.alloc(), text.as_str()).err();
+        assert!(rt; found == refused, "{front:?}, {count} times a, and {end:?}");
     }
     Ok(())
 }
 
-#[test]
-fn text_has_at_most_1024_bytes(rt: HostRuntime) -> Result<(), Fail> {
-    let cases = [
-        ("lake://", 1017, "", None),
-        ("lake://", 1018, "", Some(LocationRefused::TooLong)),
-        ("lake://", 1017, "/", None),
-        ("lake://", 1018, "/", Some(LocationRefused::TooLong)),
-        ("lake://", 1015, "//", Some(LocationRefused::EmptySegment)),
-        ("lake:///", 1017, "", Some(LocationRefused::TooLong)),
-        ("", 1024, "", Some(LocationRefused::BadScheme)),
-        ("", 1025, "", Some(LocationRefused::TooLong)),
-    ];
-    for (front, count, end, refused) in cases {
-        let mut text = String::from_str(rt.alloc(), front)?;
-        text.push_str("a".repeat(rt.alloc(), count)?.as_str())?;
-        text.push_str(end)?;
-        assert_eq!(rt; Location::parse(rt.alloc(), text.as_str()).err(), refused);
-    }
-    Ok(())
-}
-
-#[test]
-fn segments_are_joined(rt: HostRuntime) -> Result<(), Fail> {
-    let alloc = rt.alloc();
+/// The location `lake://b/t1`, joined.
+fn joined(alloc: Global) -> Result<Location, LocationRefused> {
     let base = Location::parse(alloc, "lake://b/")?;
-    let table = base.join(alloc, "t1")?;
-    assert_eq!(rt; table.text(alloc)?.as_str(), "lake://b/t1");
-    assert_eq!(rt; Location::of_segments(alloc, table.segments())?, table);
+    base.join(alloc, "t1")
+}
+
+#[test]
+fn joined_location_has_its_text(rt: HostRuntime) -> Result<(), Fail> {
+    let table = joined(rt.alloc())?;
+    let text = table.text(rt.alloc())?;
+    assert!(rt; text.as_str() == "lake://b/t1");
+    Ok(())
+}
+
+#[test]
+fn segments_make_the_location_again(rt: HostRuntime) -> Result<(), Fail> {
+    let table = joined(rt.alloc())?;
+    let same = Location::of_segments(rt.alloc(), table.segments())?;
+    assert!(rt; same == table);
+    let refused = Location::of_segments(rt.alloc(), &[]).err();
+    assert!(rt; refused == Some(LocationRefused::EmptySegment));
+    Ok(())
+}
+
+#[test]
+fn bad_segments_are_not_joined(rt: HostRuntime) -> Result<(), Fail> {
+    let base = joined(rt.alloc())?;
     let cases = [
         ("a/b", Some(LocationRefused::ControlByte)),
         ("", Some(LocationRefused::EmptySegment)),
         ("..", Some(LocationRefused::DotSegment)),
     ];
     for (segment, refused) in cases {
-        assert_eq!(rt; base.join(alloc, segment).err(), refused);
+        let found = base.join(rt.alloc(), segment).err();
+        assert!(rt; found == refused, "{segment:?}");
     }
-    assert_eq!(rt;
-        Location::of_segments(alloc, &[]).err(),
-        Some(LocationRefused::EmptySegment)
-    );
     Ok(())
+}
+
+/// Whether the first location covers the second, and whether they overlap.
+fn related(alloc: Global, a: &str, b: &str) -> Result<(bool, bool), LocationRefused> {
+    let a = Location::parse(alloc, a)?;
+    let b = Location::parse(alloc, b)?;
+    Ok((covers(&a, &b), overlaps(&a, &b)))
 }
 
 #[test]
@@ -77,35 +102,55 @@ fn cover_goes_by_whole_segments(rt: HostRuntime) -> Result<(), Fail> {
         ("lake://b", "lake://b", true, true),
     ];
     for (a, b, covering, overlapping) in cases {
-        let a = Location::parse(rt.alloc(), a)?;
-        let b = Location::parse(rt.alloc(), b)?;
-        assert_eq!(rt; (covers(&a, &b), overlaps(&a, &b)), (covering, overlapping));
+        let found = related(rt.alloc(), a, b)?;
+        assert!(rt; found == (covering, overlapping), "{a} and {b}");
     }
     Ok(())
 }
 
-#[test]
-fn least_owner_outside_the_exceptions_clashes(rt: HostRuntime) -> Result<(), Fail> {
-    let alloc = rt.alloc();
-    let wanted = Location::parse(alloc, "lake://b")?;
-    let mut set = LocationSet::new(alloc);
-    assert!(rt; set.is_free(&wanted));
-    for (owner, name) in [(9, "t1"), (4, "t2")] {
-        let location = wanted.join(alloc, name)?;
-        set.reserve(1)?;
-        assert!(rt; set.is_free(&location));
-        assert!(rt; set.members().iter().all(|member| member.owner != owner));
+/// Adds a member where its location is free and its owner has none.
+fn add(set: &mut LocationSet, owner: u64, location: Location) -> Result<bool, OutOfMemory> {
+    set.reserve(1)?;
+    let is_new = set.members().iter().all(|member| member.owner != owner);
+    let is_added = is_new && set.is_free(&location);
+    if is_added {
         set.insert(owner, location);
     }
+    Ok(is_added)
+}
+
+/// The set with owner 9 at `lake://b/t1` and owner 4 at `lake://b/t2`, or `None`.
+fn two_tables(alloc: Global) -> Option<LocationSet> {
+    let mut set = LocationSet::new(alloc);
+    for (owner, text) in [(9, "lake://b/t1"), (4, "lake://b/t2")] {
+        let location = Location::parse(alloc, text).ok()?;
+        if add(&mut set, owner, location) != Ok(true) {
+            return None;
+        }
+    }
+    Some(set)
+}
+
+#[test]
+fn least_owner_outside_the_exceptions_clashes(rt: HostRuntime) -> Result<(), Fail> {
+    let Some(set) = two_tables(rt.alloc()) else {
+        panic!(rt; "the set takes no two tables");
+    };
+    let wanted = Location::parse(rt.alloc(), "lake://b")?;
+    assert!(rt; set.clash(&wanted, &[]) == Some(4));
+    assert!(rt; set.clash(&wanted, &[4]) == Some(9));
+    assert!(rt; set.clash(&wanted, &[9, 4]) == None);
     assert!(rt; !set.is_free(&wanted));
-    assert_eq!(rt; set.clash(&wanted, &[]), Some(4));
-    assert_eq!(rt; set.clash(&wanted, &[4]), Some(9));
-    assert_eq!(rt; set.clash(&wanted, &[9, 4]), None);
-    assert_eq!(rt;
-        (set.remove(4), set.remove(4), set.members().len()),
-        (true, false, 1)
-    );
     Ok(())
+}
+
+#[test]
+fn member_is_removed_once(rt: HostRuntime) {
+    let Some(mut set) = two_tables(rt.alloc()) else {
+        panic!(rt; "the set takes no two tables");
+    };
+    assert!(rt; set.remove(4) && !set.remove(4));
+    assert!(rt; set.members().len() == 1);
 }
 
 fn count_two<L: Ledger>(blank: Blank)

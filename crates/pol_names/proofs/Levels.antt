@@ -1,14 +1,15 @@
 -- How the levels of a namespace are read in turn.
-use Rattle.std.proofs.Common.{◌≡◌, ◌≢◌, ◌≤◌, ◌<◌, ℕ, ◌+◌, Bool, true, false, List, [], ◌∷◌, ◌++◌, length, refl, arith, ap, sym, ◌∙◌, append-nil, length-append, take, ◌-◌}
+use Rattle.std.proofs.Common.{◌≡◌, ◌≢◌, ◌≤◌, ◌<◌, ℕ, ◌+◌, Bool, true, false, List, [], ◌∷◌, ◌++◌, length, refl, arith, ap, sym, ◌∙◌, append-nil, append_assoc, length-append, take, drop, get_or, subst, Bor, ◌-◌}
 use Rattle.std.specs.Prelude.{Option, None, Some, All, IsTrue, if◌then◌else◌, nat_eq, nat_lt, ◌==◌, ◌||◌, ◌↔◌}
 use Rattle.std.specs.Cmp.Lexicographic.{bytes_decides, pointwise, pointwise_decides}
 use Rattle.std.specs.List.{starts_with}
 use Rattle.std.specs.Str.{IsUtf8}
 use Rattle.std.specs.Option.{option_map, option_or}
 use Rattle.std.proofs.lemmas.Grind.{common_steps}
-use Rattle.std.proofs.lemmas.List.Elements.{All-cons, All-head, All-nil, All-tail, All-weaker}
+use Rattle.std.proofs.lemmas.List.Elements.{All-cons, All-head, All-nil, All-push, All-tail, All-weaker}
+use Rattle.std.proofs.lemmas.List.{drop_more, length-map}
 use Rattle.pol_names.specs.Name.{IsName, IsNameRefusal, is_name_byte, name_refusal}
-use Rattle.pol_names.specs.Namespace.{IsNamespace, IsNamespaceRefusal, at_level, level_refusal, namespace_refusal, levels_of, parent_of, segment_of}
+use Rattle.pol_names.specs.Namespace.{IsNamespace, IsNamespaceRefusal, at_level, level_refusal, namespace_refusal, levels_of, parent_of, segment_of, texts, RefusesLevel}
 use Rattle.pol_names.specs.declared.name.NameRefused.{NameRefused}
 use Rattle.pol_names.specs.declared.name.NameRefused.TheVariants.{Empty, Long, ControlByte, NotPlain, OutOfMemory}
 use Rattle.pol_names.specs.declared.namespace.NamespaceRefused.{NamespaceRefused}
@@ -59,6 +60,23 @@ refused_at_level names level levels OutOfMemory named bounded refused = tt
 pub record HaveRead (levels names rest : List (List ℕ)) : Type 0 where
   pub split : names ++ rest ≡ levels
   pub named : All IsName names
+
+-- the level at a place is the first of those that are left there
+pub next_at : (levels : List (Bor (List ℕ))) (place : ℕ) (other : Bor (List ℕ)) → place < length levels →
+    texts (drop place levels) ≡ (get_or levels place other).now ∷ texts (drop (place + 1) levels)
+next_at levels place other inside = ap texts (drop_more levels place other inside)
+
+pub have_read_more : (levels names rest : List (List ℕ)) (level : List ℕ) → HaveRead levels names (level ∷ rest) → IsName level → HaveRead levels (names ++ level ∷ []) rest
+have_read_more levels names rest level before named =
+    record { split = append_assoc names (level ∷ []) rest ∙ before.split; named = All-push IsName names level before.named named }
+
+-- the refusal of the level behind the names is the refusal of the whole
+pub refused_behind : (levels : List (Bor (List ℕ))) (names rest : List (List ℕ)) (level : List ℕ) (why : NamespaceRefused) → HaveRead (texts levels) names (level ∷ rest) →
+    length levels ≤ 16 → RefusesLevel names level why → IsNamespaceRefusal (texts levels) why
+refused_behind levels names rest level why before bounded refuses =
+    let short : length (texts levels) ≤ 16 = omega (arith, length-map levels (λ level'. level'.now)) in
+    subst (λ all. IsNamespaceRefusal all why) before.split
+    (refuses rest before.named (subst (λ all. length all ≤ 16) (sym before.split) short))
 
 -- a list that is not empty has a level
 pub has_levels : (levels : List (List ℕ)) → IsNamespace levels → 0 < length levels
