@@ -172,60 +172,106 @@ fn enter_two<R: Wait>(
     }
 }
 
+/// How many entries have each of the numbers from 0 to 4 where the lock gives the account back at its end.
+fn counts_at_the_end(turns: Turns<Account>, founder: Pass<Account>) -> Option<[usize; 5]>
+    requires lock { founder.lock ≡ turns }
+    requires founds { founder.number ≡ 0 }
+    requires joined { length founder.gathered + 1 ≡ founder.made }
+{
+    match turns.close(founder) {
+        Some(account) => Some(account.into_counts()),
+        None => None,
+    }
+}
+
+/// Two passes add all their entries, each in a thread of its own, and are joined.
+fn enter_in_two_threads<R: Threads + Wait + Sync>(
+    rt: &R,
+    turns: &Turns<Account>,
+    founder: &mut Pass<Account>,
+)
+    requires lock { founder.old.lock ≡ turns.now }
+    requires founds { (founder.old.number ≡ 0) × (founder.old.made ≡ 1) × (founder.old.gathered ≡ []) × (founder.old.has_turn ≡ false) }
+    ensures founds { (founder.new.lock ≡ turns.now) × (founder.new.number ≡ 0) }
+    ensures joined { length founder.new.gathered + 1 ≡ founder.new.made }
+{
+    let mut passes = [turns.split(founder), turns.split(founder)];
+    enter_abreast(rt, turns, &mut passes);
+    let [first, second] = passes;
+    turns.join(founder, first);
+    turns.join(founder, second);
+}
+
+/// The same of four passes, which are joined from the last one on.
+fn enter_in_four_threads<R: Threads + Wait + Sync>(
+    rt: &R,
+    turns: &Turns<Account>,
+    founder: &mut Pass<Account>,
+)
+    requires lock { founder.old.lock ≡ turns.now }
+    requires founds { (founder.old.number ≡ 0) × (founder.old.made ≡ 1) × (founder.old.gathered ≡ []) × (founder.old.has_turn ≡ false) }
+    ensures founds { (founder.new.lock ≡ turns.now) × (founder.new.number ≡ 0) }
+    ensures joined { length founder.new.gathered + 1 ≡ founder.new.made }
+{
+    let mut passes = [
+        turns.split(founder),
+        turns.split(founder),
+        turns.split(founder),
+        turns.split(founder),
+    ];
+    enter_abreast(rt, turns, &mut passes);
+    let [first, second, third, fourth] = passes;
+    turns.join(founder, fourth);
+    turns.join(founder, third);
+    turns.join(founder, second);
+    turns.join(founder, first);
+}
+
+/// An account of one entry is taken and not given back: what it has, and what the lock gives at its end.
+fn keep_the_account<R: Wait>(
+    rt: &R,
+    turns: Turns<Account>,
+    mut founder: Pass<Account>,
+) -> ([usize; 5], Option<[usize; 5]>)
+    requires lock { founder.lock ≡ turns }
+    requires founds { (founder.number ≡ 0) × (founder.made ≡ 1) × (founder.gathered ≡ []) × (founder.has_turn ≡ false) }
+{
+    let _ = enter(rt, &turns, &mut founder, 10);
+    let Held { value: account } = turns.take(rt, &mut founder);
+    (account.into_counts(), counts_at_the_end(turns, founder))
+}
+
 #[test]
 fn each_pass_has_its_entry_in_one_log(rt: HostRuntime) -> Result<(), Fail> {
     let (turns, founder) = open(rt.alloc())?;
     let account = enter_two(&rt, turns, founder)?;
-    assert_eq!(rt; account.opening, 7);
-    assert_eq!(rt; account.into_counts(), [0, 1, 1, 0, 0]);
+    assert!(rt; account.opening == 7);
+    assert!(rt; account.into_counts() == [0, 1, 1, 0, 0]);
     Ok(())
 }
 
 #[test]
 fn value_that_is_out_does_not_come_back(rt: HostRuntime) -> Result<(), Fail> {
-    let (turns, mut founder) = open(rt.alloc())?;
-    assert!(rt; enter(&rt, &turns, &mut founder, 10).is_ok());
-    let Held { value: account } = turns.take(&rt, &mut founder);
-    assert_eq!(rt; account.into_counts(), [1, 0, 0, 0, 0]);
-    if let Some(account) = turns.close(founder) {
-        panic!(rt; "{} entries came back", account.into_counts()[0])
-    }
+    let (turns, founder) = open(rt.alloc())?;
+    let (taken, given) = keep_the_account(&rt, turns, founder);
+    assert!(rt; taken == [1, 0, 0, 0, 0] && given.is_none());
     Ok(())
 }
 
 #[test]
 fn two_threads_add_all_their_entries(rt: HostRuntime) -> Result<(), Fail> {
     let (turns, mut founder) = open(rt.alloc())?;
-    let mut passes = [turns.split(&mut founder), turns.split(&mut founder)];
-    enter_abreast(&rt, &turns, &mut passes);
-    let [first, second] = passes;
-    turns.join(&mut founder, first);
-    turns.join(&mut founder, second);
-    let Some(account) = turns.close(founder) else {
-        panic!(rt; "the account was given back")
-    };
-    assert_eq!(rt; account.into_counts(), [0, 10_000, 10_000, 0, 0]);
+    enter_in_two_threads(&rt, &turns, &mut founder);
+    let counts = counts_at_the_end(turns, founder);
+    assert!(rt; counts == Some([0, 10_000, 10_000, 0, 0]));
     Ok(())
 }
 
 #[test]
 fn four_threads_add_all_their_entries(rt: HostRuntime) -> Result<(), Fail> {
     let (turns, mut founder) = open(rt.alloc())?;
-    let mut passes = [
-        turns.split(&mut founder),
-        turns.split(&mut founder),
-        turns.split(&mut founder),
-        turns.split(&mut founder),
-    ];
-    enter_abreast(&rt, &turns, &mut passes);
-    let [first, second, third, fourth] = passes;
-    turns.join(&mut founder, fourth);
-    turns.join(&mut founder, third);
-    turns.join(&mut founder, second);
-    turns.join(&mut founder, first);
-    let Some(account) = turns.close(founder) else {
-        panic!(rt; "the account was given back")
-    };
-    assert_eq!(rt; account.into_counts(), [0, 10_000, 10_000, 10_000, 10_000]);
+    enter_in_four_threads(&rt, &turns, &mut founder);
+    let counts = counts_at_the_end(turns, founder);
+    assert!(rt; counts == Some([0, 10_000, 10_000, 10_000, 10_000]));
     Ok(())
 }
