@@ -1,0 +1,11 @@
+use crate::Entry;
+use pol_machine::State;
+
+/// What a catalogue leaves when it closes: the state at the opening, the commands that were done since, in their
+/// order, and the state that they led to.
+#[derive(Debug, Drop)]
+pub struct Closed {
+    pub base: State,
+    pub history: Vec<Entry>,
+    pub state: State,
+}

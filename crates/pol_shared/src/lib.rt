@@ -1,0 +1,15 @@
+//! The catalogue that requests are answered from: a state with the history of the commands that led to it.
+#![tactic(auto)]
+
+mod closed;
+mod doing;
+mod entry;
+mod kept;
+mod render;
+mod stepped;
+
+pub use closed::Closed;
+pub use entry::Entry;
+pub use kept::Kept;
+pub use render::Render;
+pub use stepped::Stepped;
