@@ -10,9 +10,9 @@ use Rattle.pol_machine.specs.Sound.{IsSound}
 use Rattle.pol_machine.specs.declared.change.Change.{Change}
 use Rattle.pol_machine.specs.declared.command.Command.{Command}
 use Rattle.pol_machine.proofs.DecisionLemmas.{changes-lead}
-use Rattle.pol_machine.proofs.RulesLemmas.{full-within}
 use Rattle.pol_shared.specs.History.{state_after, state_at}
 use Rattle.pol_shared.specs.declared.entry.Entry.{Entry}
+use Rattle.pol_shared.proofs.FullLemmas.{full-within}
 
 -- a command's changes, at its time and with its charge, lead to the state after it
 pub changes-enter : (s : Rows) (command : Command) (changes : List Change) (time : ℕ) → IsSound s → s.charged + command.charge ≤ 2 ^ 30 → changes ≡ changes_between s (next_state s command) → time ≡ time_of s command → applied changes time command.charge s ≡ next_state s command

@@ -1,7 +1,7 @@
 -- A reply tells a full run exactly where the charges come to more than the bound of a run.
 use Rattle.std.proofs.Common.{◌≡◌, ◌≢◌, ℕ, ◌+◌, ◌<◌, ◌≤◌, ◌^◌, Bool, true, false, nat_lt, List, [], ◌∷◌, Option, None, Some, refl, ap, inl, inr}
 use Rattle.std.specs.List.{AllByRecursion}
-use Rattle.std.proofs.lemmas.Bool.{cases_lt, ltb-true}
+use Rattle.std.proofs.lemmas.Bool.{cases_lt, le-ltb, lt-ltb, ltb-true}
 use Rattle.pol_machine.specs.Machine.{acting, reply_by, reply_of}
 use Rattle.pol_machine.specs.Rows.{Rows}
 use Rattle.pol_machine.specs.Rules.{client_of, first_refusal, given, invalid_client, invalid_scope, over_limit, refuse_if, run_full}
@@ -13,7 +13,15 @@ use Rattle.pol_machine.specs.declared.reply.Answer.{Answer}
 use Rattle.pol_machine.specs.declared.reply.Refusal.{Refusal}
 use Rattle.pol_machine.specs.declared.reply.Refusal.TheVariants.{RunFull, InvalidClient, InvalidScope, Limit}
 use Rattle.pol_machine.specs.declared.reply.Reply.TheVariants.{Answered, Refused}
-use Rattle.pol_machine.proofs.RulesLemmas.{full-above}
+
+-- the run is full where the charges come to more than its bound, and nowhere else
+full-above : (s : Rows) (charge : ℕ) → 2 ^ 30 < s.charged + charge → run_full s charge ≡ Some (RunFull s.charged charge)
+unfolding run_full
+full-above s charge above = ap (λ full. refuse_if full (RunFull s.charged charge)) (lt-ltb (2 ^ 30) (s.charged + charge) above)
+
+pub full-within : (s : Rows) (charge : ℕ) → s.charged + charge ≤ 2 ^ 30 → run_full s charge ≡ None
+unfolding run_full
+full-within s charge within = ap (λ full. refuse_if full (RunFull s.charged charge)) (le-ltb (2 ^ 30) (s.charged + charge) within)
 
 -- the rule never tells a full run
 abbrev IsOther : Option Refusal → Type 0
