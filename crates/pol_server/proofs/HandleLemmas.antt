@@ -1,0 +1,266 @@
+-- One message: what was read for it, and how it was answered.
+use Rattle.std.proofs.Common.{◌≡◌, ◌<◌, ◌≤◌, ◌+◌, ◌-◌, ◌^◌, ◌⊎◌, ℕ, Bool, List, [], ◌∷◌, ◌++◌, length, take, Option, Some, None, Result, Ok, Err, Vec, Global, refl, sym, ap, subst, ◌∙◌, inl, inr, arith, append-nil, length-append}
+use Rattle.std.specs.Prelude.{◌≢◌, IfOk, IfSome, OnOk, slice_get, ⊤}
+use Rattle.std.specs.Option.{option_map}
+use Rattle.std.specs.Result.{result_ok}
+use Rattle.std.proofs.Math.Seq.{get_or-append_seam, take-append_seam, take-length}
+use Rattle.std.proofs.lemmas.Option.{slice_get-get_or}
+use Rattle.pol_http.specs.Answer.{answer_text}
+use Rattle.pol_http.specs.Head.{closes}
+use Rattle.pol_http.specs.Message.{Message}
+use Rattle.pol_http.specs.declared.answer.Answer.{Answer}
+use Rattle.pol_http.specs.declared.answer.TheConstants.{INSUFFICIENT_STORAGE}
+use Rattle.pol_machine.specs.Machine.{reply_of}
+use Rattle.pol_machine.specs.declared.command.Command.{Command}
+use Rattle.pol_machine.specs.declared.command.Words4.{Words4}
+use Rattle.pol_machine.specs.declared.reply.Refusal.TheVariants as refusal
+use Rattle.pol_machine.specs.declared.reply.Reply.TheVariants.{Refused}
+use Rattle.pol_routes.specs.Plan.{Plans, command_of, plan_of}
+use Rattle.pol_routes.specs.Texts.{answer_of, draw_fault_answer, refusal_answer}
+use Rattle.pol_routes.specs.declared.plans.Planned.{Planned}
+use Rattle.pol_routes.specs.declared.plans.RouteRefused.{RouteRefused}
+use Rattle.pol_routes.specs.declared.plans.RouteRefused.TheVariants as refused
+use Rattle.pol_shared.specs.History.{Log, entered, state_at, state_of}
+use Rattle.pol_shared.specs.declared.entry.Entry.{Entry}
+use Rattle.pol_wire.proofs.StreamsLemmas.{IsShifted-nil}
+use Rattle.pol_wire.specs.Streams.{IsShifted}
+use Rattle.pol_server.specs.Ends.{Ends, Reads}
+use Rattle.pol_server.specs.Serving.{DrawsWords, Handles, IsEntered}
+use Rattle.pol_server.specs.Turn.{framed, full, is_head, stepped, text_of, undrawn, unplanned, without_memory, words_of}
+use Rattle.pol_server.specs.declared.served.Place.{Place}
+use Rattle.pol_server.specs.declared.served.Place.TheVariants.{Catalogue, NoEntry}
+
+-- what holds of the bytes of a result holds of those that it keeps
+pub kept-text : {E : Type 0} (message : Message) (answer : Answer) (close head_only : Bool) (result : Result (Vec ℕ Global) E) → close ≡ closes message.head → head_only ≡ is_head message
+    → IfOk result (λ bytes. bytes.items ≡ answer_text (framed close head_only answer)) → IfSome (option_map (λ bytes. bytes.items) (result_ok result)) (λ bytes. bytes ≡ text_of message answer)
+kept-text message answer close head_only (Ok bytes) closing heading is =
+    is ∙ ap (λ close. answer_text (framed close head_only answer)) closing ∙ ap (λ head_only. answer_text (framed (closes message.head) head_only answer)) heading
+kept-text message answer close head_only (Err error) closing heading is = tt
+
+-- the moment of a plan's command
+pub moment-command : (planned : Planned) (moment : ℕ) (words : Words4) → (command_of planned moment words).moment ≡ moment
+unfolding command_of
+moment-command planned moment words = refl
+
+pub charge-command : (planned : Planned) (moment : ℕ) (words : Words4) → (command_of planned moment words).charge ≡ planned.charge
+unfolding command_of
+charge-command planned moment words = refl
+
+-- what a plan that was answered tells of the one that is expected
+pub planned-by : (expected : Result Planned RouteRefused) (plan : Planned) → Plans expected (Ok plan) → expected ≡ Ok plan
+planned-by expected plan (inl is) = sym is
+planned-by expected plan (inr contrary) = cc
+
+refused-by : (expected : Result Planned RouteRefused) (why : RouteRefused) → Plans expected (Err why) → why ≢ refused.OutOfMemory → expected ≡ Err why
+refused-by expected why (inl is) other = sym is
+refused-by expected why (inr contrary) other = let is : why ≡ refused.OutOfMemory = cc in absurd (other is)
+
+module _ (ends : Ends) (log : Log) (message : Message) where
+  -- memory was wanting before the clock was read
+  pub handles-nothing : Handles ends ends log log message NoEntry None
+  handles-nothing = record {
+      turn = record { message = message; moments = []; words = []; entries = []; case = without_memory; answer = INSUFFICIENT_STORAGE.now };
+      message_is = refl;
+      same = refl;
+      moments = IsShifted-nil ends.moments;
+      words = IsShifted-nil ends.words;
+      kept = omega arith;
+      draws = λ below. omega arith;
+      base = refl;
+      history = sym (append-nil log.history);
+      answered = record { reads = inl (refl, refl); entries = refl; answer = refl };
+      from = tt;
+      below = omega arith;
+      place_is = refl;
+      text_is = refl;
+    }
+
+  -- the plan was refused
+  pub handles-refused : (why : RouteRefused) (text : Option (List ℕ)) → plan_of message ≡ Err why → IfSome text (λ bytes. bytes ≡ text_of message (refusal_answer why)) → Handles ends ends log log message NoEntry text
+  handles-refused why None refused text_is = handles-nothing
+  handles-refused why (Some bytes) refused text_is = record {
+      turn = record { message = message; moments = []; words = []; entries = []; case = unplanned; answer = bytes };
+      message_is = refl;
+      same = refl;
+      moments = IsShifted-nil ends.moments;
+      words = IsShifted-nil ends.words;
+      kept = omega arith;
+      draws = λ below. omega arith;
+      base = refl;
+      history = sym (append-nil log.history);
+      answered = record { why = why; refused = refused; moments = refl; words = refl; entries = refl; answer = text_is };
+      from = tt;
+      below = omega arith;
+      place_is = refl;
+      text_is = refl;
+    }
+
+  -- the plan was refused, and the text was made or not
+  pub handles-refusal : {E : Type 0} (why : RouteRefused) (result : Result (Vec ℕ Global) E) (close head_only : Bool) → Plans (plan_of message) (Err why) → close ≡ closes message.head → head_only ≡ is_head message
+      → OnOk result (why ≢ refused.OutOfMemory) → IfOk result (λ bytes. bytes.items ≡ answer_text (framed close head_only (refusal_answer why)))
+      → Handles ends ends log log message NoEntry (option_map (λ bytes. bytes.items) (result_ok result))
+  handles-refusal why (Ok bytes) close head_only plans closing heading other text_is =
+      handles-refused why (Some bytes.items) (refused-by (plan_of message) why plans other)
+      (text_is ∙ ap (λ close. answer_text (framed close head_only (refusal_answer why))) closing ∙ ap (λ head_only. answer_text (framed (closes message.head) head_only (refusal_answer why))) heading)
+  handles-refusal why (Err error) close head_only plans closing heading other text_is = handles-nothing
+
+-- the clock was read, and words were drawn
+pub record IsReadFor (old new : Ends) (moment : ℕ) (words : List ℕ) : Type 0 where
+  pub same : new ≡ record old { moments = new.moments; words = new.words; draw_faults = new.draw_faults }
+  pub moments : IsShifted old.moments new.moments (moment ∷ [])
+  pub words_are : IsShifted old.words new.words words
+  pub kept : old.draw_faults ≤ new.draw_faults
+
+module _ (old now new : Ends) (moment : ℕ) where
+  abbrev as_read : Ends → Ends
+  as_read ends = record ends { moments = new.moments; words = new.words; draw_faults = new.draw_faults }
+
+  abbrev as_of : Option (ℕ → ℕ) → Ends
+  as_of moments = record now { moments = moments; words = new.words; draw_faults = new.draw_faults }
+
+  pub read-for : {E : Type 0} (count : ℕ) (result : Result Words4 E) → Reads old now moment → (draws : DrawsWords now new count result) → IsReadFor old new moment draws.words
+  read-for count result reads draws = record {
+      same = same-both reads.same draws.same;
+      moments = subst (λ moments. IsShifted old.moments moments (moment ∷ [])) (sym (ap (λ ends. ends.moments) draws.same)) reads.shifted;
+      words_are = subst (λ words. IsShifted words new.words draws.words) (ap (λ ends. ends.words) reads.same) draws.shifted;
+      kept = omega (arith, draws.kept, ap (λ ends. ends.draw_faults) reads.same);
+    }
+    where
+      same-both : now ≡ record old { moments = now.moments } → new ≡ record now { words = new.words; draw_faults = new.draw_faults }
+          → new ≡ record old { moments = new.moments; words = new.words; draw_faults = new.draw_faults }
+      same-both first second = second ∙ sym (ap as_of (ap (λ ends. ends.moments) second)) ∙ ap as_read first
+
+module _ (old new : Ends) (log : Log) (message : Message) (plan : Planned) (moment : ℕ) (words : List ℕ) (planned : plan_of message ≡ Ok plan) (read : IsReadFor old new moment words) where
+  -- memory was wanting
+  wanting : (after : Log) → after ≡ log → length words ≤ plan.words → Handles old new log after message NoEntry None
+  wanting after same few = record {
+      turn = record { message = message; moments = moment ∷ []; words = words; entries = []; case = without_memory; answer = INSUFFICIENT_STORAGE.now };
+      message_is = refl;
+      same = read.same;
+      moments = read.moments;
+      words = read.words_are;
+      kept = read.kept;
+      draws = λ below. omega (arith, read.kept);
+      base = ap (λ log. log.base) same;
+      history = ap (λ log. log.history) same ∙ sym (append-nil log.history);
+      answered = record { reads = inr (plan, planned, refl, few); entries = refl; answer = refl };
+      from = tt;
+      below = omega (arith, ap (λ log. length log.history) same);
+      place_is = refl;
+      text_is = refl;
+    }
+
+  -- a draw failed
+  pub handles-undrawn : (text : Option (List ℕ)) → length words < plan.words → (new.draw_faults < 2 ^ 64 - 1 → old.draw_faults + 1 ≤ new.draw_faults)
+      → IfSome text (λ bytes. bytes ≡ text_of message draw_fault_answer) → Handles old new log log message NoEntry text
+  handles-undrawn None few draws text_is = wanting log refl (omega (arith, few))
+  handles-undrawn (Some bytes) few draws text_is = record {
+      turn = record { message = message; moments = moment ∷ []; words = words; entries = []; case = undrawn; answer = bytes };
+      message_is = refl;
+      same = read.same;
+      moments = read.moments;
+      words = read.words_are;
+      kept = read.kept;
+      draws = draws;
+      base = refl;
+      history = sym (append-nil log.history);
+      answered = record { plan = plan; planned = planned; moments = refl; words = few; entries = refl; answer = text_is };
+      from = tt;
+      below = omega arith;
+      place_is = refl;
+      text_is = refl;
+    }
+
+  module _ (after : Log) (drawn : length words ≡ plan.words) where
+    abbrev command : Command
+    command = command_of plan moment (words_of words)
+
+    abbrev entry : Entry
+    entry = record { number = 0; command = command }
+
+    there : slice_get (log.history ++ entry ∷ []) (length log.history) ≡ Some entry
+    there =
+        let within : length log.history < length (log.history ++ entry ∷ []) = omega (arith, length-append log.history (entry ∷ [])) in
+        slice_get-get_or (log.history ++ entry ∷ []) (length log.history) entry within
+        ∙ ap (λ found. Some found) (get_or-append_seam log.history entry [] entry)
+
+    -- the command was entered
+    handles-done : (bytes : List ℕ) → after ≡ entered log entry → (state_of log).charged + command.charge ≤ 2 ^ 30
+        → bytes ≡ text_of message (answer_of (reply_of (state_of log) command)) → Handles old new log after message (Catalogue (length log.history)) (Some bytes)
+    handles-done bytes enters room text_is =
+        let longer : after.history ≡ log.history ++ entry ∷ [] = ap (λ log. log.history) enters in
+        let based : after.base ≡ log.base = ap (λ log. log.base) enters in
+        let before : state_at after.base (take (length log.history) after.history) ≡ state_of log =
+            ap (λ base. state_at base (take (length log.history) after.history)) based
+            ∙ ap (λ history. state_at log.base (take (length log.history) history)) longer
+            ∙ ap (state_at log.base) (take-append_seam log.history (entry ∷ [])) in
+        record {
+          turn = record { message = message; moments = moment ∷ []; words = words; entries = entry ∷ []; case = stepped (length log.history); answer = bytes };
+          message_is = refl;
+          same = read.same;
+          moments = read.moments;
+          words = read.words_are;
+          kept = read.kept;
+          draws = λ below. omega (arith, read.kept);
+          base = based;
+          history = longer;
+          answered = record {
+            plan = plan;
+            moment = moment;
+            entry = entry;
+            read = record { planned = planned; moments = refl; words = drawn };
+            entry_is = refl;
+            entries = refl;
+            there = ap (λ history. slice_get history (length log.history)) longer ∙ there;
+            has_room = subst (λ s. s.charged + plan.charge ≤ 2 ^ 30) (sym before) (subst (λ charge. (state_of log).charged + charge ≤ 2 ^ 30) (charge-command plan moment (words_of words)) room);
+            answer = text_is ∙ ap (λ s. text_of message (answer_of (reply_of s command))) (sym before);
+          };
+          from = omega arith;
+          below = omega (arith, ap length longer, length-append log.history (entry ∷ []));
+          place_is = refl;
+          text_is = refl;
+        }
+
+    -- the run was full
+    handles-full : (bytes : List ℕ) → after ≡ log → 2 ^ 30 < (state_of log).charged + command.charge
+        → bytes ≡ text_of message (answer_of (Refused (refusal.RunFull (state_of log).charged command.charge))) → Handles old new log after message NoEntry (Some bytes)
+    handles-full bytes same over text_is =
+        let before : state_at after.base (take (length log.history) after.history) ≡ state_of log =
+            ap (λ one. state_at one.base (take (length log.history) one.history)) same ∙ ap (state_at log.base) (take-length log.history) in
+        record {
+          turn = record { message = message; moments = moment ∷ []; words = words; entries = []; case = full (length log.history); answer = bytes };
+          message_is = refl;
+          same = read.same;
+          moments = read.moments;
+          words = read.words_are;
+          kept = read.kept;
+          draws = λ below. omega (arith, read.kept);
+          base = ap (λ log. log.base) same;
+          history = ap (λ log. log.history) same ∙ sym (append-nil log.history);
+          answered = record {
+            plan = plan;
+            moment = moment;
+            charged = (state_of log).charged;
+            read = record { planned = planned; moments = refl; words = drawn };
+            entries = refl;
+            within = omega (arith, ap (λ log. length log.history) same);
+            charged_is = ap (λ s. s.charged) (sym before);
+            full = subst (λ charge. 2 ^ 30 < (state_of log).charged + charge) (charge-command plan moment (words_of words)) over;
+            answer = text_is ∙ ap (λ charge. text_of message (answer_of (Refused (refusal.RunFull (state_of log).charged charge)))) (charge-command plan moment (words_of words));
+          };
+          from = omega arith;
+          below = omega (arith, ap (λ log. length log.history) same);
+          place_is = refl;
+          text_is = refl;
+        }
+
+    -- what came of the command
+    pub handles-entered : (close head_only : Bool) (place : Place) (text : Option (List ℕ)) → close ≡ closes message.head → head_only ≡ is_head message
+        → IsEntered log after command close head_only place text → Handles old new log after message place text
+    handles-entered close head_only (Catalogue place) (Some bytes) closing heading is =
+        subst (λ place. Handles old new log after message (Catalogue place) (Some bytes)) (sym is.0)
+        (handles-done bytes is.1 is.2 (is.3 ∙ ap (λ close. answer_text (framed close head_only (answer_of (reply_of (state_of log) command)))) closing ∙ ap (λ head_only. answer_text (framed (closes message.head) head_only (answer_of (reply_of (state_of log) command)))) heading))
+    handles-entered close head_only (Catalogue place) None closing heading is = absurd is
+    handles-entered close head_only NoEntry (Some bytes) closing heading is =
+        handles-full bytes is.0 is.1 (is.2 ∙ ap (λ close. answer_text (framed close head_only (answer_of (Refused (refusal.RunFull (state_of log).charged command.charge))))) closing ∙ ap (λ head_only. answer_text (framed (closes message.head) head_only (answer_of (Refused (refusal.RunFull (state_of log).charged command.charge))))) heading)
+    handles-entered close head_only NoEntry None closing heading is = wanting after is (omega (arith, drawn))

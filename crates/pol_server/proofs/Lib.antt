@@ -1,0 +1,6 @@
+pub mod EndsLemmas
+pub mod GoesLemmas
+pub mod HandleLemmas
+pub mod MovesLemmas
+pub mod ServeLemmas
+pub mod TurnLemmas

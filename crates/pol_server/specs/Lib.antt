@@ -1,0 +1,4 @@
+pub mod Ends
+pub mod Link
+pub mod Serving
+pub mod Turn

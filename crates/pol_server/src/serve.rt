@@ -1,0 +1,31 @@
+//! The call that serves a link.
+ghost use Rattle.std.specs.Prelude.{◌≡◌};
+ghost use Rattle.pol_server.specs.Ends.{ends_of};
+ghost use Rattle.pol_server.specs.Link.{ServesLink};
+
+use crate::Served;
+use crate::connection::Connection;
+use pol_shared::Kept;
+use pol_types::Listed;
+use pol_wire::{Clock, Draw, Link, Sink, Source};
+use std::alloc::Global;
+
+/// Serves a link until it ends: takes its bytes, answers its requests from the catalogue in their order (RFC 9112,
+/// section 9.3.2), each before more bytes are taken for another, and gives the answers to its sink. At most 2^40
+/// bytes are taken.
+pub fn serve_connection<S: Source, K: Sink, C: Clock, W: Draw>(
+    alloc: Global,
+    catalogue: &mut Kept,
+    link: &mut Link<S, K, C, W>,
+) -> Served
+    ensures link { ServesLink catalogue.old.base 0
+        (ends_of S.left S.faults K.given K.faults C.moments W.words W.faults link.old)
+        (ends_of S.left S.faults K.given K.faults C.moments W.words W.faults link.new)
+        catalogue.old.history catalogue.new.history result }
+    ensures base { catalogue.new.base ≡ catalogue.old.base }
+{
+    let mut connection = Connection::new(alloc);
+    let ending = connection.serve(alloc, catalogue, link);
+    let places = Listed::from(connection.into_places());
+    Served { ending, places }
+}

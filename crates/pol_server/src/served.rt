@@ -1,0 +1,36 @@
+use pol_types::Listed;
+
+/// How a link ended.
+#[derive(Clone, Copy, Debug, PartialEq, Eq)]
+pub enum Ending {
+    /// At the end of its input, between two messages.
+    Ended,
+    /// At the end of its input, inside a message.
+    Cut,
+    /// After an answer that closes the connection.
+    Closed,
+    /// Its source failed.
+    ReadFault,
+    /// Its sink failed.
+    WriteFault,
+    /// After 2^40 bytes.
+    Spent,
+    /// Memory was wanting.
+    NoMemory,
+}
+
+/// Where a request stands in the history.
+#[derive(Clone, Copy, Debug, PartialEq, Eq)]
+pub enum Place {
+    /// At this place, counted from 0.
+    Catalogue(u64),
+    /// It made no entry.
+    NoEntry,
+}
+
+/// How a link was served: its ending, and the place of each request that was handled, in order.
+#[derive(Debug, Drop)]
+pub struct Served {
+    pub ending: Ending,
+    pub places: Listed<Place>,
+}
