@@ -1,4 +1,4 @@
-use Rattle.std.proofs.Common.{◌≡◌, ◌≤◌, ◌+◌, arith, drop, length, subst}
+use Rattle.std.proofs.Common.{◌≤◌, ◌+◌, arith, drop, length, subst}
 use Rattle.std.proofs.lemmas.Result.{err_from_is_err_and}
 use Rattle.pol_names.specs.Namespace.{texts}
 use Rattle.pol_names.proofs.Levels.{HaveRead, have_read_more, next_at, refused_behind}
