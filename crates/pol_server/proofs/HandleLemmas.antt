@@ -104,6 +104,10 @@ module _ (ends : Ends) (log : Log) (message : Message) where
       (text_is ∙ ap (λ close. answer_text (framed close head_only (refusal_answer why))) closing ∙ ap (λ head_only. answer_text (framed (closes message.head) head_only (refusal_answer why))) heading)
   handles-refusal why (Err error) close head_only plans closing heading other text_is = handles-nothing
 
+-- reading the clock leaves the draw
+pub reads-draws : (old now : Ends) (moment : ℕ) → Reads old now moment → now.draw_faults ≡ old.draw_faults
+reads-draws old now moment reads = ap (λ ends. ends.draw_faults) reads.same
+
 -- the clock was read, and words were drawn
 pub record IsReadFor (old new : Ends) (moment : ℕ) (words : List ℕ) : Type 0 where
   pub same : new ≡ record old { moments = new.moments; words = new.words; draw_faults = new.draw_faults }

@@ -5,7 +5,7 @@ use Rattle.pol_routes.specs.Texts.{draw_fault_answer}
 use Rattle.pol_server.specs.Serving.{Handles, IsEntered}
 use Rattle.pol_server.specs.Turn.{words_of}
 use Rattle.pol_server.specs.declared.served.Place.TheVariants.{NoEntry}
-use Rattle.pol_server.proofs.HandleLemmas.{handles-entered, handles-undrawn, kept-text, moment-command, read-for}
+use Rattle.pol_server.proofs.HandleLemmas.{handles-entered, handles-undrawn, kept-text, moment-command, read-for, reads-draws}
 use Rattle.pol_server.proofs.handle.answer_plan.Goals as goal
 
 pub step-requires : goal.step-requires
@@ -28,5 +28,5 @@ returns-in-Err g c = λ message planned closing heading.
     let draws = c.in-Err.ensures in
     let read = read-for (ends c.args.link.now) (ends c.now-moment.new.self) (ends c.draw_words.new.link) c.now-moment.result c.args.planned.words (Err c.in-Err.field-0) c.now-moment.ensures.moment draws in
     subst (λ text. Handles (ends c.args.link.now) (ends c.draw_words.new.link) c.args.catalogue.now c.args.catalogue.now message NoEntry (option_map (λ text. text.items) text)) (sym c.ok.ensures.value)
-    (handles-undrawn (ends c.args.link.now) (ends c.draw_words.new.link) c.args.catalogue.now message c.args.planned c.now-moment.result draws.words planned read _ draws.drawn.0 (λ below. omega (arith, draws.drawn.1 below, ap (λ ends. ends.draw_faults) c.now-moment.ensures.moment.same))
+    (handles-undrawn (ends c.args.link.now) (ends c.draw_words.new.link) c.args.catalogue.now message c.args.planned c.now-moment.result draws.words planned read _ draws.drawn.0 (λ below. omega (arith, draws.drawn.1 below, reads-draws (ends c.args.link.now) (ends c.now-moment.new.self) c.now-moment.result c.now-moment.ensures.moment))
      (kept-text message draw_fault_answer c.args.framing.close c.args.framing.head_only c.draw_fault_text.result closing heading c.draw_fault_text.ensures))
