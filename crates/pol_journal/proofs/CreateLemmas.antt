@@ -1,8 +1,8 @@
 -- What the making of a journal leaves of a disk without bytes.
-use Rattle.std.proofs.Common.{◌≡◌, inl, Option, Some, IsSome, IfSome, ℕ, ◌+◌, List, [], ◌∷◌, ◌++◌, length, refl, sym, ◌∙◌, ap, subst, arith, length-append}
+use Rattle.std.proofs.Common.{◌≡◌, inl, Option, IsSome, IfSome, ℕ, ◌+◌, List, [], ◌∷◌, ◌++◌, length, refl, sym, ◌∙◌, ap, subst, arith, length-append}
 use Rattle.pol_disk.specs.Disk.{IsDurable, LeavesOnly, Told, Torn, written}
 use Rattle.pol_journal.specs.Crash.{KeepsFront, LeavesAfter}
-use Rattle.pol_journal.specs.Format.{name_of, area_of, extent, records_of, StandsFor, IsNoneOrStandsFor}
+use Rattle.pol_journal.specs.Format.{name_of, area_of, records_of, StandsFor, IsNoneOrStandsFor}
 use Rattle.pol_journal.specs.Journal.{IsBlank, Stands}
 use Rattle.pol_journal.specs.declared.kind.Kind.{Kind}
 use Rattle.pol_journal.proofs.FormatLemmas.{blank, after_name, length-name, length-records, short_is_none, blank_written, blank_is_none, rest_written, name_torn, name_written}

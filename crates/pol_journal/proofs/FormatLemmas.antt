@@ -1,14 +1,13 @@
 -- What journals of bytes stand for, and what writes make of them.
-use Rattle.std.proofs.Common.{◌≡◌, ◌≢◌, ◌⊎◌, inl, inr, ⊎_elim, ℕ, zero, suc, ◌+◌, ◌≤◌, ◌<◌, min, List, [], ◌∷◌, ◌++◌, length, take, drop, replicate, refl, sym, ◌∙◌, ap, subst, arith, append_assoc, length-append, take-append-drop}
+use Rattle.std.proofs.Common.{◌≡◌, ◌≢◌, ◌⊎◌, inl, inr, ⊎_elim, ℕ, ◌+◌, min, List, [], ◌∷◌, ◌++◌, length, take, drop, replicate, refl, sym, ◌∙◌, ap, subst, arith, append_assoc, length-append, take-append-drop}
 use Rattle.std.specs.Int.{w64, to_be_bytes}
-use Rattle.std.specs.List.{flat_map, sum_by}
-use Rattle.std.proofs.lemmas.List.{take_at, drop_at, drop_all, take-take, length-take, length-drop, append-nil, flat_map_more}
-use Rattle.std.proofs.lemmas.List.Concat.{length-flat_map}
+use Rattle.std.specs.List.{flat_map}
+use Rattle.std.proofs.lemmas.List.{take_at, drop_at, drop_all, take-take, append-nil, flat_map_more}
 use Rattle.std.proofs.lemmas.List.Sums.{sum_by_push, sum_by-cons}
 use Rattle.std.proofs.lemmas.Bool.{cases_eq}
 use Rattle.pol_disk.specs.Disk.{Torn, written}
 use Rattle.pol_journal.specs.Crash.{KeepsFront}
-use Rattle.pol_journal.specs.Format.{name_of, header_of, framed, record_of, records_of, area_of, extent, StandsFor, HasHeader, IsNoJournal, IsNoneOrStandsFor, IsBeforeOrAfter, IsStaged, IsReadTo, IsClosed, IsBroken, IsBadAt}
+use Rattle.pol_journal.specs.Format.{name_of, header_of, framed, record_of, records_of, area_of, extent, StandsFor, IsNoneOrStandsFor, IsBeforeOrAfter, IsStaged}
 use Rattle.pol_journal.specs.declared.kind.Kind.{Kind}
 use Rattle.pol_journal.specs.declared.kind.Kind.TheVariants.{Catalogue, Objects}
 
@@ -90,9 +89,11 @@ module _ (front : List ℕ) (byte : ℕ) (tail : List ℕ) where
   -- such a write cut off
   pub torn_over : (image : List ℕ) → Torn (length front) (length front + 1) (front ++ byte ∷ tail) image → (next : ℕ) × (image ≡ front ++ next ∷ tail)
   torn_over image torn =
+      let whole : List ℕ = front ++ byte ∷ tail in
+      let start : take (length front) whole ≡ front = take_at front (byte ∷ tail) (length front) refl in
       let around : image ≡ front ++ torn.middle ++ tail =
       torn.around
-      ∙ ap (λ (l : List ℕ). l ++ torn.middle ++ drop (length front + 1) (front ++ byte ∷ tail)) (take_at front (byte ∷ tail) (length front) refl)
+      ∙ ap (λ (l : List ℕ). l ++ torn.middle ++ drop (length front + 1) whole) start
       ∙ ap (λ (l : List ℕ). (front ++ torn.middle) ++ l) drop_one in
       let long : length torn.middle ≡ 1 = omega (arith, torn.no_shorter, torn.no_longer, length-all, ap length around, length-append (front ++ torn.middle) tail, length-append front torn.middle) in
       let single = one_of torn.middle long in

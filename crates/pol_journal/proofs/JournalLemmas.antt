@@ -1,12 +1,11 @@
 -- A journal from one stage to the next.
-use Rattle.std.proofs.Common.{◌≡◌, Option, Some, IsSome, IfSome, ℕ, ◌+◌, List, [], ◌∷◌, ◌++◌, length, drop, refl, sym, ◌∙◌, subst, arith}
+use Rattle.std.proofs.Common.{◌≡◌, Option, IsSome, ℕ, ◌+◌, List, [], ◌∷◌, ◌++◌, length, drop, refl, sym, ◌∙◌, subst}
 use Rattle.pol_disk.specs.Disk.{IsDurable, Follows}
 use Rattle.pol_journal.specs.Crash.{IsSame}
 use Rattle.pol_journal.specs.Format.{IsClosed, IsRecord, IsReadTo, StandsFor}
-use Rattle.pol_journal.specs.Journal.{JournalState, IsReady, Stands, IsAtRest, Hangs, IsUnsettled, HasRead, GivesNext}
-use Rattle.pol_journal.specs.declared.kind.Kind.{Kind}
+use Rattle.pol_journal.specs.Journal.{JournalState, IsAtRest, Hangs, IsUnsettled, HasRead}
 use Rattle.pol_journal.specs.declared.stage.Reached.{Reached}
-use Rattle.pol_journal.specs.declared.stage.Stage.TheVariants.{Reading, Ready, Unsettled}
+use Rattle.pol_journal.specs.declared.stage.Stage.TheVariants.{Ready, Unsettled}
 use Rattle.pol_journal.proofs.ReadLemmas.{one_more, at_end}
 
 same_reached : (r s : Reached) → Unsettled r ≡ Unsettled s → r ≡ s

@@ -1,12 +1,12 @@
 -- Bytes are cut into records in one way.
-use Rattle.std.proofs.Common.{◌≡◌, ◌≢◌, ⊎_elim, ℕ, ◌+◌, ◌<◌, ◌^◌, List, [], ◌∷◌, ◌++◌, length, take, drop, refl, sym, ◌∙◌, ap, subst, arith, append_assoc, length-append}
+use Rattle.std.proofs.Common.{◌≡◌, ◌≢◌, ⊎_elim, ℕ, ◌+◌, ◌<◌, ◌^◌, List, [], ◌∷◌, ◌++◌, length, take, drop, refl, sym, ◌∙◌, ap, arith, append_assoc, length-append}
 use Rattle.std.specs.Int.{w64, to_be_bytes, from_be_bytes}
 use Rattle.std.proofs.lemmas.List.{take_at, drop_at}
 use Rattle.std.proofs.lemmas.Nat.{from_be_bytes-to_be_bytes_8}
-use Rattle.pol_journal.specs.Format.{header_of, framed, records_of, extent, StandsFor, IsReadTo, IsClosed, IsBroken, IsBadAt}
+use Rattle.pol_journal.specs.Format.{header_of, framed, records_of, extent, IsBroken}
 use Rattle.pol_journal.specs.Laws.{StandsForOneList, BadStandsForNone, IsBadAtOneGate}
 use Rattle.pol_journal.specs.declared.kind.Kind.{Kind}
-use Rattle.pol_journal.proofs.FormatLemmas.{length-header, length-framed}
+use Rattle.pol_journal.proofs.FormatLemmas.{length-framed}
 
 abbrev same_front : List ℕ → List ℕ → List ℕ → List ℕ → Type 0
 same_front a b c d = (a ≡ c) × (b ≡ d)
@@ -22,9 +22,9 @@ frames : (x y r s : List ℕ) → length x < 2 ^ 64 → length y < 2 ^ 64 → fr
 unfolding framed
 frames x y r s short short_too is =
     let apart = fronts (to_be_bytes w64 (length x)) (x ++ r) (to_be_bytes w64 (length y)) (y ++ s) refl
-        (sym (append_assoc (to_be_bytes w64 (length x)) x r) ∙ is ∙ append_assoc (to_be_bytes w64 (length y)) y s) in
+    (sym (append_assoc (to_be_bytes w64 (length x)) x r) ∙ is ∙ append_assoc (to_be_bytes w64 (length y)) y s) in
     let long : length x ≡ length y =
-        sym (from_be_bytes-to_be_bytes_8 (length x) short) ∙ ap (λ (l : List ℕ). from_be_bytes w64 l) apart.0 ∙ from_be_bytes-to_be_bytes_8 (length y) short_too in
+    sym (from_be_bytes-to_be_bytes_8 (length x) short) ∙ ap (λ (l : List ℕ). from_be_bytes w64 l) apart.0 ∙ from_be_bytes-to_be_bytes_8 (length y) short_too in
     fronts x r y s long apart.1
 
 -- no record begins here
@@ -78,11 +78,11 @@ one_cut (x ∷ a) [] s t short none none_too is =
 one_cut (x ∷ a) (y ∷ b) s t short none none_too is =
     let both : 1 ∷ framed x ++ (records_of a ++ s) ≡ 1 ∷ framed y ++ (records_of b ++ t) = sym (record_first x a s) ∙ is ∙ record_first y b t in
     let size : length (records_of (x ∷ a) ++ s) ≡ 1 + (8 + length x) + length (records_of a ++ s) =
-        omega (arith, ap length (record_first x a s), length-append (1 ∷ framed x) (records_of a ++ s), length-framed x) in
+    omega (arith, ap length (record_first x a s), length-append (1 ∷ framed x) (records_of a ++ s), length-framed x) in
     let size_too : length (records_of (x ∷ a) ++ s) ≡ 1 + (8 + length y) + length (records_of b ++ t) =
-        omega (arith, ap length is, ap length (record_first y b t), length-append (1 ∷ framed y) (records_of b ++ t), length-framed y) in
+    omega (arith, ap length is, ap length (record_first y b t), length-append (1 ∷ framed y) (records_of b ++ t), length-framed y) in
     let apart = frames x y (records_of a ++ s) (records_of b ++ t) (omega (arith, short, size)) (omega (arith, short, size_too))
-        (rest_is 1 1 (framed x ++ (records_of a ++ s)) (framed y ++ (records_of b ++ t)) both) in
+    (rest_is 1 1 (framed x ++ (records_of a ++ s)) (framed y ++ (records_of b ++ t)) both) in
     let others = one_cut a b s t (omega (arith, short, size)) none none_too apart.1 in
     ((λ i. apart.0 i ∷ others.0 i), others.1)
 
@@ -95,7 +95,7 @@ cut_once kind file a b s t short none none_too is is_too =
 pub one_list : StandsForOneList
 one_list kind file bodies others short some other =
     (cut_once kind file bodies others (some.gate ∷ some.rest) (other.gate ∷ other.rest) short
-        (closed_is_none some.gate some.rest some.closed) (closed_is_none other.gate other.rest other.closed) some.bytes other.bytes).0
+    (closed_is_none some.gate some.rest some.closed) (closed_is_none other.gate other.rest other.closed) some.bytes other.bytes).0
 
 closed_or_broken : (gate : ℕ) (rest tail : List ℕ) → gate ≢ 1 → IsBroken tail → gate ∷ rest ≡ tail → ⊥
 closed_or_broken gate rest [] closed broken is = cc
@@ -105,10 +105,10 @@ pub bad_for_none : BadStandsForNone
 bad_for_none kind file at bodies short bad stands =
     closed_or_broken stands.gate stands.rest bad.read.tail stands.closed bad.broken
     (cut_once kind file bodies bad.bodies (stands.gate ∷ stands.rest) bad.read.tail short
-        (closed_is_none stands.gate stands.rest stands.closed) (broken_is_none bad.read.tail bad.broken) stands.bytes bad.read.bytes).1
+    (closed_is_none stands.gate stands.rest stands.closed) (broken_is_none bad.read.tail bad.broken) stands.bytes bad.read.bytes).1
 
 pub one_gate : IsBadAtOneGate
 one_gate kind file at other short bad worse =
     let same = cut_once kind file bad.bodies worse.bodies bad.read.tail worse.read.tail short
-        (broken_is_none bad.read.tail bad.broken) (broken_is_none worse.read.tail worse.broken) bad.read.bytes worse.read.bytes in
+    (broken_is_none bad.read.tail bad.broken) (broken_is_none worse.read.tail worse.broken) bad.read.bytes worse.read.bytes in
     omega (arith, bad.read.place, worse.read.place, ap extent same.0)

@@ -1,5 +1,5 @@
 -- How runs of calls of a disk go on.
-use Rattle.std.proofs.Common.{inl, inr, ⊎_elim, ℕ, List, ◌≤◌, arith}
+use Rattle.std.proofs.Common.{inl, inr, ⊎_elim, ℕ, List, arith}
 use Rattle.pol_disk.specs.Disk.{Elapses, Follows, LeavesOnly}
 use Rattle.pol_journal.specs.Crash.{After, LeavesAfter}
 

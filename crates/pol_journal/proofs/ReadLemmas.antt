@@ -1,5 +1,5 @@
 -- What a journal's reads tell of the bytes of its disk.
-use Rattle.std.proofs.Common.{◌≡◌, ◌≢◌, inl, inr, Bool, true, false, IsTrue, ◌↔◌, eqb, Option, Some, None, IfSome, ℕ, ◌+◌, ◌-◌, ◌≤◌, ◌<◌, List, [], ◌∷◌, ◌++◌, length, get_or, take, drop, refl, sym, ◌∙◌, ap, subst, arith, take-append-drop, length-drop, length-append, append_assoc}
+use Rattle.std.proofs.Common.{◌≡◌, inl, inr, Bool, true, false, IsTrue, ◌↔◌, eqb, Option, Some, None, IfSome, ℕ, ◌+◌, ◌-◌, ◌≤◌, ◌<◌, List, [], ◌∷◌, ◌++◌, length, get_or, take, drop, refl, sym, ◌∙◌, ap, subst, arith, take-append-drop, length-drop, length-append, append_assoc}
 use Rattle.std.specs.Int.{w64, to_be_bytes, from_be_bytes}
 use Rattle.std.proofs.lemmas.List.{drop-drop, drop_at, length-take}
 use Rattle.std.proofs.lemmas.Bool.Decides.{Decides-eqb}

@@ -1,5 +1,5 @@
 -- What a journal's writes leave of a disk that stands for bodies.
-use Rattle.std.proofs.Common.{◌≡◌, inl, inr, Option, Some, None, IsSome, IfSome, ℕ, ◌+◌, List, [], ◌∷◌, ◌++◌, length, refl, sym, ◌∙◌, ap, subst, arith}
+use Rattle.std.proofs.Common.{◌≡◌, inl, Option, Some, None, IsSome, IfSome, ℕ, ◌+◌, List, [], ◌∷◌, ◌++◌, length, refl, sym, ◌∙◌, subst, arith}
 use Rattle.pol_disk.specs.Disk.{IsDurable, LeavesOnly, Told, Torn, written}
 use Rattle.pol_journal.specs.Crash.{KeepsFront, LeavesAfter}
 use Rattle.pol_journal.specs.Format.{framed, extent, StandsFor, IsStaged, IsBeforeOrAfter}

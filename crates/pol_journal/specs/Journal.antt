@@ -1,5 +1,5 @@
 -- What a journal over a disk promises, at rest and through its calls.
-use Rattle.std.specs.Prelude.{ℕ, ◌≡◌, ◌≢◌, ◌+◌, ◌-◌, ◌^◌, ◌<◌, ◌⊎◌, List, [], ◌∷◌, ◌++◌, length, Option, Some, None, IsSome, IfSome, Result, Ok, Err, ⊤}
+use Rattle.std.specs.Prelude.{ℕ, ◌≡◌, ◌+◌, ◌-◌, ◌^◌, ◌<◌, List, [], ◌∷◌, ◌++◌, length, Option, Some, None, IsSome, IfSome, Result, Ok, Err, ⊤}
 use Rattle.pol_disk.specs.Disk.{IsDurable}
 use Rattle.pol_journal.specs.Format.{StandsFor, IsStaged, IsBeforeOrAfter, IsReadTo, extent}
 use Rattle.pol_journal.specs.declared.kind.Kind.{Kind}

@@ -1,4 +1,4 @@
-use Rattle.std.proofs.Common.{◌≡◌, Some, ◌∙◌, length, arith, refl}
+use Rattle.std.proofs.Common.{◌≡◌, Some, ◌∙◌, length, arith}
 use Rattle.pol_journal.proofs.ReadLemmas.{when_told, told_of, few_left, too_long, has_record}
 use Rattle.pol_journal.proofs.reads.next_length.Goals as goal
 

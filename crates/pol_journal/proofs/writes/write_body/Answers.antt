@@ -1,7 +1,6 @@
-use Rattle.std.proofs.Common.{◌≡◌, ◌+◌, [], ◌∷◌, ◌++◌, IfSome, length, refl, sym, arith, append_assoc}
+use Rattle.std.proofs.Common.{◌+◌, [], ◌∷◌, ◌++◌, length, arith, append_assoc}
 use Rattle.std.proofs.lemmas.Result.{on_ok_weaker}
 use Rattle.std.specs.Int.{w64, to_be_bytes}
-use Rattle.pol_disk.specs.Disk.{Torn}
 use Rattle.pol_journal.specs.Crash.{KeepsFront}
 use Rattle.pol_journal.specs.Format.{framed}
 use Rattle.pol_journal.proofs.Moments.{one_call, two_runs}

@@ -1,4 +1,4 @@
-use Rattle.std.proofs.Common.{◌+◌, [], ◌∷◌, ◌++◌, ℕ, refl, subst, arith}
+use Rattle.std.proofs.Common.{[], ◌∷◌, ◌++◌, ℕ, refl, subst, arith}
 use Rattle.pol_journal.specs.Journal.{Stands}
 use Rattle.pol_journal.proofs.journal.Journal.append.Goals as goal
 

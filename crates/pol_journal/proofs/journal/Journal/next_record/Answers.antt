@@ -1,7 +1,6 @@
-use Rattle.std.proofs.Common.{List, ℕ, drop, refl, sym, ap, arith}
+use Rattle.std.proofs.Common.{drop, arith}
 use Rattle.std.proofs.lemmas.Result.{err_from_is_err_and}
 use Rattle.pol_journal.specs.Format.{IsClosed, IsRecord}
-use Rattle.pol_journal.specs.Journal.{HasRead}
 use Rattle.pol_journal.proofs.JournalLemmas.{ends, goes_on}
 use Rattle.pol_journal.proofs.ReadLemmas.{told_of, bad_in}
 use Rattle.pol_journal.proofs.journal.Journal.next_record.Goals as goal
