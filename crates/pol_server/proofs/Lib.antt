@@ -1,3 +1,4 @@
+pub mod CauseLemmas
 pub mod EndsLemmas
 pub mod GoesLemmas
 pub mod HandleLemmas

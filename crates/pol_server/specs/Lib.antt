@@ -1,4 +1,5 @@
 pub mod Ends
+pub mod Laws
 pub mod Link
 pub mod Serving
 pub mod Turn

@@ -4,6 +4,7 @@
 mod connection;
 mod ends;
 mod handle;
+pub mod laws;
 mod serve;
 mod served;
 
