@@ -26,11 +26,12 @@ needs-none NoMemory before after turns taken rest text none few ends = tt
 
 each-drawn : (turns : List Turn) → failed_draws turns ≡ 0 → AllByRecursion (λ turn. turn.case ≢ undrawn) turns
 each-drawn [] none = tt
-each-drawn (turn ∷ turns) none =
-    (λ is.
-        let one : failed_in turn.case ≡ 1 = ap failed_in is in
-        omega (arith, none, one),
-     each-drawn turns (omega (arith, none)))
+each-drawn (turn ∷ turns) none = (
+  λ is.
+      let one : failed_in turn.case ≡ 1 = ap failed_in is in
+      omega (arith, none, one),
+  each-drawn turns (omega (arith, none)),
+)
 
 no-write-fault : (ending : Ending) → NeedsNoFault ending → ending ≢ WriteFault
 no-write-fault Ended needs is = cc

@@ -1,11 +1,11 @@
 -- Laws of served links.
-use Rattle.std.specs.Prelude.{◌≡◌, ◌≢◌, ◌<◌, ◌≤◌, ◌-◌, ◌^◌, ⊤, ℕ, List, [], length}
+use Rattle.std.specs.Prelude.{◌≡◌, ◌≢◌, ◌<◌, ◌≤◌, ◌-◌, ◌^◌, ⊤, ℕ, List, [], length, Some}
 use Rattle.std.specs.List.{AllByRecursion}
 use Rattle.pol_machine.specs.Rows.{Rows}
 use Rattle.pol_shared.specs.declared.entry.Entry.{Entry}
 use Rattle.pol_server.specs.Ends.{Ends}
 use Rattle.pol_server.specs.Link.{ServesLink, taken_bound}
-use Rattle.pol_server.specs.Turn.{Turn, undrawn}
+use Rattle.pol_server.specs.Turn.{Case, Turn, full, stepped, undrawn, unplanned, without_memory}
 use Rattle.pol_server.specs.declared.served.Ending.{Ending}
 use Rattle.pol_server.specs.declared.served.Ending.TheVariants.{Ended, Cut, Closed, ReadFault, WriteFault, Spent, NoMemory}
 use Rattle.pol_server.specs.declared.served.Served.{Served}
@@ -38,3 +38,45 @@ FaultsHaveCauses =
     (base : Rows) (number : ℕ) (before after : Ends) (old new : List Entry) (served : Served)
     → (link : ServesLink base number before after old new served) → NoEndFails before after → length link.taken < taken_bound
     → NeedsNoFault served.ending × AllByRecursion (λ turn. turn.case ≢ undrawn) link.turns × (link.missing ≡ [])
+
+-- what an end tells before the link is served
+pub record IsKnown (ends : Ends) : Type 0 where
+  pub bytes : List ℕ
+  pub moments : ℕ → ℕ
+  pub words : ℕ → ℕ
+  pub left_is : ends.left ≡ Some bytes
+  pub moments_are : ends.moments ≡ Some moments
+  pub words_are : ends.words ≡ Some words
+
+-- the link ended by its input
+abbrev pub IsByInput : Ending → Type 0
+IsByInput Ended = ⊤
+IsByInput Cut = ⊤
+IsByInput Closed = ⊤
+IsByInput ReadFault = ⊥
+IsByInput WriteFault = ⊥
+IsByInput Spent = ⊥
+IsByInput NoMemory = ⊥
+
+-- neither a draw failed nor memory was wanting
+abbrev pub IsUnhindered : Case → Type 0
+IsUnhindered unplanned = ⊤
+IsUnhindered undrawn = ⊥
+IsUnhindered (stepped place) = ⊤
+IsUnhindered (full count) = ⊤
+IsUnhindered without_memory = ⊥
+
+-- neither was the link's end nor a turn of it owed to a fault or to want of memory
+pub record IsServedByInput (ending : Ending) (turns : List Turn) : Type 0 where
+  pub by_input : IsByInput ending
+  pub unhindered : AllByRecursion (λ turn. IsUnhindered turn.case) turns
+
+-- what is given, the places, the ending and the history follow from the first state, the history before, and the
+-- bytes, moments and words that come
+abbrev pub OneOutput : Type 0
+OneOutput =
+    (base : Rows) (number : ℕ) (before after other_after : Ends) (old new other_new : List Entry) (served other_served : Served)
+    → (link : ServesLink base number before after old new served)
+    → (other : ServesLink base number before other_after old other_new other_served)
+    → IsKnown before → IsServedByInput served.ending link.turns → IsServedByInput other_served.ending other.turns
+    → (link.given ≡ other.given) × (served.places ≡ other_served.places) × (served.ending ≡ other_served.ending) × (new ≡ other_new)

@@ -1,0 +1,534 @@
+-- One output: two links that were served on the same input, turn by turn.
+use Rattle.std.proofs.Common.{◌≡◌, ◌≢◌, ◌<◌, ◌≤◌, ◌+◌, ◌-◌, ◌⊎◌, ℕ, true, false, List, [], ◌∷◌, ◌++◌, map, length, take, Option, Some, None, Ok, refl, sym, ap, subst, ◌∙◌, inl, inr, arith, append-nil, append_assoc, length-append}
+use Rattle.std.specs.Prelude.{⊤, IsTrue, slice_index}
+use Rattle.std.specs.List.{flat_map, AllByRecursion}
+use Rattle.std.specs.Io.KnownBytes.{Consumes, IsAtEnd}
+use Rattle.std.proofs.lemmas.Grind.{same_number_lists}
+use Rattle.std.proofs.lemmas.List.{get_or_append_left, get_or-append_right, take_at}
+use Rattle.std.proofs.lemmas.List.Elements.{All-nil, All-cons}
+use Rattle.std.proofs.lemmas.Str.{IsUtf8-from_ascii}
+use Rattle.std.proofs.lemmas.Str.Ascii.{IsAscii-cons, IsAscii-nil}
+use Rattle.httparse.specs.Grammar.{IsField, IsRequestHead, RequestHead, crlf, is_token_byte, is_uri_byte, print_request}
+use Rattle.pol_http.specs.Head.{closes}
+use Rattle.pol_http.specs.Message.{HasAskingHead, IsMessage, IsNotRefused, IsRefusedAs, Message, ReadsMessage, print_message}
+use Rattle.pol_http.proofs.HeadLemmas.{length-print_request}
+use Rattle.pol_http.proofs.MessageLemmas.{length-message, message_not_refused, message_unique, refused_stays, refused_unique}
+use Rattle.pol_machine.specs.Machine.{reply_of}
+use Rattle.pol_machine.specs.Rows.{Rows}
+use Rattle.pol_routes.specs.Plan.{command_of, plan_of}
+use Rattle.pol_routes.specs.Texts.{answer_of, refusal_answer}
+use Rattle.pol_routes.specs.declared.plans.Planned.{Planned}
+use Rattle.pol_machine.specs.declared.reply.Refusal.TheVariants as refusal
+use Rattle.pol_machine.specs.declared.reply.Reply.TheVariants.{Refused}
+use Rattle.pol_shared.specs.History.{state_at}
+use Rattle.pol_shared.specs.declared.entry.Entry.{Entry}
+use Rattle.pol_wire.specs.Streams.{IsShifted}
+use Rattle.pol_server.specs.Ends.{Ends}
+use Rattle.pol_server.specs.Laws.{IsByInput, IsKnown, IsUnhindered, OneOutput}
+use Rattle.pol_server.specs.Link.{EndsBy, IsRefusedRest, IsToldBefore, IsUnfinishedRest, ServesLink, refused_text}
+use Rattle.pol_server.specs.Turn.{AnsweredAs, Case, IsAnswered, IsFrom, IsFullAt, IsOrdered, IsRead, IsStepped, IsUnplanned, NoneCloses, Turn, full, low_after, output_of, place_of, stepped, text_of, undrawn, unplanned, without_memory, words_of}
+use Rattle.pol_server.specs.declared.served.Ending.{Ending}
+use Rattle.pol_server.specs.declared.served.Ending.TheVariants.{Ended, Cut, Closed, ReadFault, WriteFault, Spent, NoMemory}
+use Rattle.pol_server.specs.declared.served.Served.{Served}
+
+-- ---- streams
+
+-- the items are the first of a stream
+abbrev pub IsFront : (ℕ → ℕ) → List ℕ → Type 0
+IsFront stream items = (n : ℕ) → n < length items → slice_index items n ≡ stream n
+
+-- a stream without its first items
+abbrev pub behind : (ℕ → ℕ) → ℕ → ℕ → ℕ
+behind stream count n = stream (count + n)
+
+front-first : (stream : ℕ → ℕ) (xs ys : List ℕ) → IsFront stream (xs ++ ys) → IsFront stream xs
+front-first stream xs ys front n low = sym (get_or_append_left xs ys 0 n low) ∙ front n (omega (arith, low, length-append xs ys))
+
+front-later : (stream : ℕ → ℕ) (xs ys : List ℕ) → IsFront stream (xs ++ ys) → IsFront (behind stream (length xs)) ys
+front-later stream xs ys front n low =
+    let past : length xs ≤ length xs + n = omega arith in
+    let back : (length xs + n) - length xs ≡ n = omega arith in
+    ap (slice_index ys) (sym back) ∙ sym (get_or-append_right xs ys (length xs) (length xs + n) 0 refl past)
+    ∙ front (length xs + n) (omega (arith, low, length-append xs ys))
+
+front-same : (stream : ℕ → ℕ) (xs ys : List ℕ) → IsFront stream xs → IsFront stream ys → length xs ≡ length ys → xs ≡ ys
+front-same stream xs ys first second long =
+    same_number_lists xs ys long (λ n low. first n low ∙ sym (second n (omega (arith, low, long))))
+
+-- a known stream begins with what was read of it
+front-of : (a b : Option (ℕ → ℕ)) (stream : ℕ → ℕ) (items : List ℕ) → a ≡ Some stream → IsShifted a b items → IsFront stream items
+front-of a b stream items known shifted = of-known b (subst (λ a. IsShifted a b items) known shifted)
+  where
+    of-known : (b : Option (ℕ → ℕ)) → IsShifted (Some stream) b items → IsFront stream items
+    of-known None shifted = absurd shifted
+    of-known (Some rest) shifted = shifted.front
+
+-- ---- turns at their places
+
+-- ---- turns at their places
+
+-- the place of a case is the end of the history before it
+abbrev pub IsAt : ℕ → Case → Type 0
+IsAt low unplanned = ⊤
+IsAt low undrawn = ⊤
+IsAt low (stepped place) = place ≡ low
+IsAt low (full count) = count ≡ low
+IsAt low without_memory = ⊤
+
+module _ (base : Rows) (number : ℕ) (new : List Entry) where
+  -- what a turn entered stands below the later numbers
+  entered-below : (low : ℕ) (case : Case) (turn : Turn) → AnsweredAs base number new case turn → IsFrom low case → low + length turn.entries ≤ low_after low case
+  entered-below low unplanned turn is from = omega (arith, ap length is.entries)
+  entered-below low undrawn turn is from = omega (arith, ap length is.entries)
+  entered-below low (stepped place) turn is from = omega (arith, ap length is.entries, from)
+  entered-below low (full count) turn is from = omega (arith, ap length is.entries, from)
+  entered-below low without_memory turn is from = omega (arith, ap length is.entries)
+
+  ordered-room : (low : ℕ) (turns : List Turn) (high : ℕ) → AllByRecursion (IsAnswered base number new) turns → IsOrdered low turns high → low + length (flat_map (λ turn. turn.entries) turns) ≤ high
+  ordered-room low [] high answered ordered = omega (arith, ordered)
+  ordered-room low (turn ∷ turns) high answered ordered =
+      omega (
+        arith,
+        entered-below low turn.case turn answered.0 ordered.0,
+        ordered-room (low_after low turn.case) turns high answered.1 ordered.1,
+        length-append turn.entries (flat_map (λ turn. turn.entries) turns),
+      )
+
+  at-end : (low : ℕ) (case : Case) (turn : Turn) → AnsweredAs base number new case turn → IsFrom low case → low_after low case ≤ low + length turn.entries → IsAt low case
+  at-end low unplanned turn is from within = tt
+  at-end low undrawn turn is from within = tt
+  at-end low (stepped place) turn is from within = omega (arith, ap length is.entries, from, within)
+  at-end low (full count) turn is from within = omega (arith, ap length is.entries, from, within)
+  at-end low without_memory turn is from within = tt
+
+-- ---- traces
+
+-- turns from this end of the history, on these bytes and from these moments and words on
+pub record Trace (base : Rows) (number : ℕ) (new past : List Entry) (bytes : List ℕ) (moments words : ℕ → ℕ) (turns : List Turn) (rest left : List ℕ) : Type 0 where
+  pub bytes_are : bytes ≡ flat_map (λ turn. print_message turn.message) turns ++ (rest ++ left)
+  pub whole : AllByRecursion (λ turn. IsMessage turn.message) turns
+  pub moments_are : IsFront moments (flat_map (λ turn. turn.moments) turns)
+  pub words_are : IsFront words (flat_map (λ turn. turn.words) turns)
+  pub history : new ≡ past ++ flat_map (λ turn. turn.entries) turns
+  pub answered : AllByRecursion (IsAnswered base number new) turns
+  pub ordered : IsOrdered (length past) turns (length new)
+  pub unhindered : AllByRecursion (λ turn. IsUnhindered turn.case) turns
+
+module _ (base : Rows) (number : ℕ) (new past : List Entry) (bytes : List ℕ) (moments words : ℕ → ℕ) (turn : Turn) (turns : List Turn) (rest left : List ℕ) where
+  abbrev Begins : Type 0
+  Begins = Trace base number new past bytes moments words (turn ∷ turns) rest left
+
+  later-entries : List Entry
+  later-entries = flat_map (λ turn. turn.entries) turns
+
+  after-first : Begins → low_after (length past) turn.case ≡ length past + length turn.entries
+  unfolding later-entries
+  after-first trace =
+      let below = entered-below base number new (length past) turn.case turn trace.answered.0 trace.ordered.0 in
+      let room = ordered-room base number new (low_after (length past) turn.case) turns (length new) trace.answered.1 trace.ordered.1 in
+      omega (arith, below, room, ap length trace.history, length-append past (turn.entries ++ later-entries), length-append turn.entries later-entries)
+
+  first-at : Begins → IsAt (length past) turn.case
+  first-at trace =
+      let after = after-first trace in
+      let within : low_after (length past) turn.case ≤ length past + length turn.entries = omega (arith, after) in
+      at-end base number new (length past) turn.case turn trace.answered.0 trace.ordered.0 within
+
+  abbrev later-bytes : List ℕ
+  later-bytes = flat_map (λ turn. print_message turn.message) turns ++ (rest ++ left)
+
+  first-reads : Begins → ReadsMessage bytes turn.message later-bytes
+  first-reads trace = record {
+    whole = trace.whole.0;
+    bytes_are = trace.bytes_are ∙ append_assoc (print_message turn.message) (flat_map (λ turn. print_message turn.message) turns) (rest ++ left);
+  }
+
+  first-moments : Begins → IsFront moments turn.moments
+  first-moments trace = front-first moments turn.moments (flat_map (λ turn. turn.moments) turns) trace.moments_are
+
+  first-words : Begins → IsFront words turn.words
+  first-words trace = front-first words turn.words (flat_map (λ turn. turn.words) turns) trace.words_are
+
+  before-first : Begins → take (length past) new ≡ past
+  before-first trace = ap (take (length past)) trace.history ∙ take_at past (flat_map (λ turn. turn.entries) (turn ∷ turns)) (length past) refl
+
+  trace-later : Begins → Trace base number new (past ++ turn.entries) later-bytes (behind moments (length turn.moments)) (behind words (length turn.words)) turns rest left
+  trace-later trace =
+      let after : low_after (length past) turn.case ≡ length (past ++ turn.entries) = after-first trace ∙ sym (length-append past turn.entries) in
+      record {
+        bytes_are = refl;
+        whole = trace.whole.1;
+        moments_are = front-later moments turn.moments (flat_map (λ turn. turn.moments) turns) trace.moments_are;
+        words_are = front-later words turn.words (flat_map (λ turn. turn.words) turns) trace.words_are;
+        history = trace.history ∙ sym (append_assoc past turn.entries (flat_map (λ turn. turn.entries) turns));
+        answered = trace.answered.1;
+        ordered = subst (λ low. IsOrdered low turns (length new)) after trace.ordered.1;
+        unhindered = trace.unhindered.1;
+      }
+
+-- ---- one turn
+
+-- what two turns on one message share before they are answered
+record Alike (past new other : List Entry) (moments words : ℕ → ℕ) (a b : Turn) : Type 0 where
+  pub message : a.message ≡ b.message
+  pub first_moments : IsFront moments a.moments
+  pub second_moments : IsFront moments b.moments
+  pub first_words : IsFront words a.words
+  pub second_words : IsFront words b.words
+  pub first_past : take (length past) new ≡ past
+  pub second_past : take (length past) other ≡ past
+
+same-parts : (a b : Turn) → a.message ≡ b.message → a.moments ≡ b.moments → a.words ≡ b.words → a.entries ≡ b.entries → a.case ≡ b.case → a.answer ≡ b.answer → a ≡ b
+same-parts a b message moments words entries case answer =
+    λ i. record { message = message i; moments = moments i; words = words i; entries = entries i; case = case i; answer = answer i }
+
+module _ (base : Rows) (number : ℕ) (past new other : List Entry) (moments words : ℕ → ℕ) (a b : Turn) (alike : Alike past new other moments words a b) where
+  same-plan : (p q : Planned) → plan_of a.message ≡ Ok p → plan_of b.message ≡ Ok q → p ≡ q
+  same-plan p q first second =
+      let plans : plan_of a.message ≡ plan_of b.message = ap plan_of alike.message in
+      cc (first, second, plans)
+
+  unplanned-twice : a.case ≡ b.case → IsUnplanned a → IsUnplanned b → a ≡ b
+  unplanned-twice case x y =
+      let plans : plan_of a.message ≡ plan_of b.message = ap plan_of alike.message in
+      let first = x.refused in
+      let second = y.refused in
+      let why : x.why ≡ y.why = cc (first, second, plans) in
+      same-parts a b alike.message (x.moments ∙ sym y.moments) (x.words ∙ sym y.words) (x.entries ∙ sym y.entries) case
+      (x.answer ∙ (λ i. text_of (alike.message i) (refusal_answer (why i))) ∙ sym y.answer)
+
+  planned-refused : (p : Planned) → plan_of a.message ≡ Ok p → IsUnplanned b → ⊥
+  planned-refused p first y =
+      let plans : plan_of a.message ≡ plan_of b.message = ap plan_of alike.message in
+      let second = y.refused in
+      cc (first, second, plans)
+
+  refused-planned : (q : Planned) → IsUnplanned a → plan_of b.message ≡ Ok q → ⊥
+  refused-planned q x second =
+      let plans : plan_of a.message ≡ plan_of b.message = ap plan_of alike.message in
+      let first = x.refused in
+      cc (first, second, plans)
+
+  same-moments : (p q : Planned) (m n : ℕ) → IsRead a p m → IsRead b q n → a.moments ≡ b.moments
+  same-moments p q m n x y =
+      front-same moments a.moments b.moments alike.first_moments alike.second_moments (omega (arith, ap length x.moments, ap length y.moments))
+
+  same-moment : (p q : Planned) (m n : ℕ) → IsRead a p m → IsRead b q n → m ≡ n
+  same-moment p q m n x y =
+      let both = same-moments p q m n x y in
+      let first = x.moments in
+      let second = y.moments in
+      cc (both, first, second)
+
+  same-words : (p q : Planned) (m n : ℕ) → p ≡ q → IsRead a p m → IsRead b q n → a.words ≡ b.words
+  same-words p q m n plans x y =
+      front-same words a.words b.words alike.first_words alike.second_words (x.words ∙ ap (λ plan. plan.words) plans ∙ sym y.words)
+
+  same-front : (m n : ℕ) → m ≡ length past → n ≡ length past → take m new ≡ take n other
+  same-front m n first second =
+      ap (λ m. take m new) first ∙ alike.first_past ∙ sym (ap (λ n. take n other) second ∙ alike.second_past)
+
+  stepped-twice : (m n : ℕ) → m ≡ length past → n ≡ length past → a.case ≡ stepped m → b.case ≡ stepped n → IsStepped base number new a m → IsStepped base number other b n → a ≡ b
+  stepped-twice m n at_m at_n case_a case_b x y =
+      let plans = same-plan x.plan y.plan x.read.planned y.read.planned in
+      let moment = same-moment x.plan y.plan x.moment y.moment x.read y.read in
+      let drawn = same-words x.plan y.plan x.moment y.moment plans x.read y.read in
+      let fronts = same-front m n at_m at_n in
+      let entry : x.entry ≡ y.entry =
+      x.entry_is ∙ (λ i. record { number = number; command = command_of (plans i) (moment i) (words_of (drawn i)) }) ∙ sym y.entry_is in
+      same-parts a b alike.message (same-moments x.plan y.plan x.moment y.moment x.read y.read) drawn
+      (x.entries ∙ ap (λ entry. entry ∷ []) entry ∙ sym y.entries) (case_a ∙ ap stepped (at_m ∙ sym at_n) ∙ sym case_b)
+      (x.answer ∙ (λ i. text_of (alike.message i) (answer_of (reply_of (state_at base (fronts i)) (entry i).command))) ∙ sym y.answer)
+
+  full-twice : (m n : ℕ) → m ≡ length past → n ≡ length past → a.case ≡ full m → b.case ≡ full n → IsFullAt base number new a m → IsFullAt base number other b n → a ≡ b
+  full-twice m n at_m at_n case_a case_b x y =
+      let plans = same-plan x.plan y.plan x.read.planned y.read.planned in
+      let drawn = same-words x.plan y.plan x.moment y.moment plans x.read y.read in
+      let charged : x.charged ≡ y.charged = x.charged_is ∙ ap (λ front. (state_at base front).charged) (same-front m n at_m at_n) ∙ sym y.charged_is in
+      same-parts a b alike.message (same-moments x.plan y.plan x.moment y.moment x.read y.read) drawn
+      (x.entries ∙ sym y.entries) (case_a ∙ ap full (at_m ∙ sym at_n) ∙ sym case_b)
+      (x.answer ∙ (λ i. text_of (alike.message i) (answer_of (Refused (refusal.RunFull (charged i) ((plans i).charge))))) ∙ sym y.answer)
+
+  room-or-full : (m n : ℕ) → m ≡ length past → n ≡ length past → IsStepped base number new a m → IsFullAt base number other b n → ⊥
+  room-or-full m n at_m at_n x y =
+      let plans = same-plan x.plan y.plan x.read.planned y.read.planned in
+      let charge : x.plan.charge ≡ y.plan.charge = ap (λ plan. plan.charge) plans in
+      let charged : (state_at base (take m new)).charged ≡ y.charged = ap (λ front. (state_at base front).charged) (same-front m n at_m at_n) ∙ sym y.charged_is in
+      omega (arith, x.has_room, y.full, charge, charged)
+
+  full-or-room : (m n : ℕ) → m ≡ length past → n ≡ length past → IsFullAt base number new a m → IsStepped base number other b n → ⊥
+  full-or-room m n at_m at_n x y =
+      let plans = same-plan x.plan y.plan x.read.planned y.read.planned in
+      let charge : x.plan.charge ≡ y.plan.charge = ap (λ plan. plan.charge) plans in
+      let charged : x.charged ≡ (state_at base (take n other)).charged = x.charged_is ∙ ap (λ front. (state_at base front).charged) (same-front m n at_m at_n) in
+      omega (arith, x.full, y.has_room, charge, charged)
+
+  same-turn : (c d : Case) → a.case ≡ c → b.case ≡ d → IsAt (length past) c → IsAt (length past) d → IsUnhindered c → IsUnhindered d
+      → AnsweredAs base number new c a → AnsweredAs base number other d b → a ≡ b
+  same-turn undrawn d case_a case_b at_c at_d free_c free_d x y = absurd free_c
+  same-turn without_memory d case_a case_b at_c at_d free_c free_d x y = absurd free_c
+  same-turn unplanned undrawn case_a case_b at_c at_d free_c free_d x y = absurd free_d
+  same-turn unplanned without_memory case_a case_b at_c at_d free_c free_d x y = absurd free_d
+  same-turn unplanned unplanned case_a case_b at_c at_d free_c free_d x y = unplanned-twice (case_a ∙ sym case_b) x y
+  same-turn unplanned (stepped n) case_a case_b at_c at_d free_c free_d x y = absurd (refused-planned y.plan x y.read.planned)
+  same-turn unplanned (full n) case_a case_b at_c at_d free_c free_d x y = absurd (refused-planned y.plan x y.read.planned)
+  same-turn (stepped m) undrawn case_a case_b at_c at_d free_c free_d x y = absurd free_d
+  same-turn (stepped m) without_memory case_a case_b at_c at_d free_c free_d x y = absurd free_d
+  same-turn (stepped m) unplanned case_a case_b at_c at_d free_c free_d x y = absurd (planned-refused x.plan x.read.planned y)
+  same-turn (stepped m) (stepped n) case_a case_b at_c at_d free_c free_d x y = stepped-twice m n at_c at_d case_a case_b x y
+  same-turn (stepped m) (full n) case_a case_b at_c at_d free_c free_d x y = absurd (room-or-full m n at_c at_d x y)
+  same-turn (full m) undrawn case_a case_b at_c at_d free_c free_d x y = absurd free_d
+  same-turn (full m) without_memory case_a case_b at_c at_d free_c free_d x y = absurd free_d
+  same-turn (full m) unplanned case_a case_b at_c at_d free_c free_d x y = absurd (planned-refused x.plan x.read.planned y)
+  same-turn (full m) (stepped n) case_a case_b at_c at_d free_c free_d x y = absurd (full-or-room m n at_c at_d x y)
+  same-turn (full m) (full n) case_a case_b at_c at_d free_c free_d x y = full-twice m n at_c at_d case_a case_b x y
+
+-- ---- the ends of two links
+
+-- a head that stands behind no bytes
+witness : RequestHead
+witness = record { blank = []; method = 65 ∷ []; target = 47 ∷ []; minor = 1; line_end = crlf; fields = []; last = crlf }
+
+is_witness : IsRequestHead witness
+unfolding witness is_token_byte
+is_witness = record {
+  method = (omega arith, All-cons (λ byte. IsTrue (is_token_byte byte)) 65 [] refl (All-nil (λ byte. IsTrue (is_token_byte byte))));
+  target = (omega arith, All-cons (λ byte. IsTrue (is_uri_byte byte)) 47 [] refl (All-nil (λ byte. IsTrue (is_uri_byte byte))));
+  target_text = IsUtf8-from_ascii (47 ∷ []) (IsAscii-cons 47 [] (omega arith) IsAscii-nil);
+  minor = omega arith;
+  fields = All-nil IsField;
+}
+
+-- no bytes at all are not refused
+empty_not_refused : IsNotRefused []
+empty_not_refused why (inl (bad, inl never)) = never (print_request witness) witness [] (is_witness, sym (append-nil (print_request witness)))
+empty_not_refused why (inl (bad, inr (over, none))) = omega (arith, over)
+empty_not_refused why (inr (head, rest, reads, refused)) =
+    omega (arith, ap length reads.1, length-append (print_request head) rest, length-print_request head reads.0)
+
+-- how a link ends where no turn is left
+abbrev pub Stops : Ending → List ℕ → List ℕ → List ℕ → Type 0
+Stops Ended rest left text = (rest ≡ []) × (left ≡ []) × (text ≡ [])
+Stops Cut rest left text = (rest ≢ []) × (left ≡ []) × IsUnfinishedRest rest text
+Stops Closed rest left text = IsRefusedRest rest text
+Stops ReadFault rest left text = ⊥
+Stops WriteFault rest left text = ⊥
+Stops Spent rest left text = ⊥
+Stops NoMemory rest left text = ⊥
+
+-- how a link ends behind its turns
+abbrev pub EndsAfter : Ending → List Turn → List ℕ → List ℕ → List ℕ → Type 0
+EndsAfter ending [] rest left text = Stops ending rest left text
+EndsAfter ending (turn ∷ turns) rest left text =
+    ((closes turn.message.head ≡ true) × (turns ≡ []) × (ending ≡ Closed) × (text ≡ [])) ⊎ ((closes turn.message.head ≡ false) × EndsAfter ending turns rest left text)
+
+module _ (rest left text : List ℕ) where
+  stops-after : (ending : Ending) (turns : List Turn) → NoneCloses turns → Stops ending rest left text → EndsAfter ending turns rest left text
+  stops-after ending [] open_ stops = stops
+  stops-after ending (turn ∷ turns) open_ stops = inr (open_.0, stops-after ending turns open_.1 stops)
+
+  last-after : (front : List Turn) (last : Turn) → NoneCloses front → closes last.message.head ≡ true → text ≡ [] → EndsAfter Closed (front ++ last ∷ []) rest left text
+  last-after [] last open_ closing none = inl (closing, refl, refl, none)
+  last-after (turn ∷ front) last open_ closing none = inr (open_.0, last-after front last open_.1 closing none)
+
+  ends-after : (ending : Ending) (before after : Ends) (turns : List Turn) (taken : ℕ) → IsByInput ending → after.left ≡ Some left
+      → EndsBy ending before after turns taken rest text → EndsAfter ending turns rest left text
+  ends-after Ended before after turns taken by_input known ends =
+      stops-after Ended turns ends.0 (ends.2, subst IsAtEnd known ends.1, ends.3)
+  ends-after Cut before after turns taken by_input known ends =
+      stops-after Cut turns ends.0 (ends.2, subst IsAtEnd known ends.1, ends.3)
+  ends-after Closed before after turns taken by_input known (inl ((front, last, is, open_, closing), none)) =
+      subst (λ turns. EndsAfter Closed turns rest left text) (sym is) (last-after front last open_ closing none)
+  ends-after Closed before after turns taken by_input known (inr (open_, refused)) = stops-after Closed turns open_ refused
+  ends-after ReadFault before after turns taken by_input known ends = absurd by_input
+  ends-after WriteFault before after turns taken by_input known ends = absurd by_input
+  ends-after Spent before after turns taken by_input known ends = absurd by_input
+  ends-after NoMemory before after turns taken by_input known ends = absurd by_input
+
+  -- a rest with no byte behind it
+  all-rest : left ≡ [] → rest ++ left ≡ rest
+  all-rest none = ap (λ left. rest ++ left) none ∙ append-nil rest
+
+  -- no message stands where a link ends
+  stops-before : (ending : Ending) (message : Message) (later : List ℕ) → Stops ending rest left text → ReadsMessage (rest ++ left) message later → ⊥
+  stops-before Ended message later stops reads =
+      omega (arith, ap length reads.bytes_are, length-append rest left, ap length stops.0, ap length stops.1, length-append (print_message message) later, length-message message reads.whole)
+  stops-before Cut message later stops reads =
+      stops.2.no_message message later (subst (λ bytes. ReadsMessage bytes message later) (all-rest stops.1) reads)
+  stops-before Closed message later stops reads =
+      message_not_refused (rest ++ left) message later reads stops.why (refused_stays rest left stops.why stops.refused)
+  stops-before ReadFault message later stops reads = stops
+  stops-before WriteFault message later stops reads = stops
+  stops-before Spent message later stops reads = stops
+  stops-before NoMemory message later stops reads = stops
+
+same-told : (rest other text more : List ℕ) → rest ≡ other → IsToldBefore rest text → IsToldBefore other more → text ≡ more
+same-told rest other text more is (inl first) (inl second) = first.1 ∙ sym second.1
+same-told rest other text more is (inl first) (inr second) = absurd (second.0 (subst HasAskingHead is first.0))
+same-told rest other text more is (inr first) (inl second) = absurd (first.0 (subst HasAskingHead (sym is) second.0))
+same-told rest other text more is (inr first) (inr second) = first.1 ∙ sym second.1
+
+module _ (rest left text rest' left' text' : List ℕ) where
+  ended-cut : rest ++ left ≡ rest' ++ left' → Stops Ended rest left text → Stops Cut rest' left' text' → ⊥
+  ended-cut bytes x y =
+      y.0 (sym (all-rest rest' left' text' y.1) ∙ sym bytes ∙ all-rest rest left text x.1 ∙ x.0)
+
+  ended-refused : rest ++ left ≡ rest' ++ left' → Stops Ended rest left text → Stops Closed rest' left' text' → ⊥
+  ended-refused bytes x y =
+      empty_not_refused y.why (subst (λ bytes. IsRefusedAs bytes y.why) (sym bytes ∙ all-rest rest left text x.1 ∙ x.0) (refused_stays rest' left' y.why y.refused))
+
+  cut-refused : rest ++ left ≡ rest' ++ left' → Stops Cut rest left text → Stops Closed rest' left' text' → ⊥
+  cut-refused bytes x y =
+      x.2.not_refused y.why (subst (λ bytes. IsRefusedAs bytes y.why) (sym bytes ∙ all-rest rest left text x.1) (refused_stays rest' left' y.why y.refused))
+
+  cut-twice : rest ++ left ≡ rest' ++ left' → Stops Cut rest left text → Stops Cut rest' left' text' → text ≡ text'
+  cut-twice bytes x y =
+      same-told rest rest' text text' (sym (all-rest rest left text x.1) ∙ bytes ∙ all-rest rest' left' text' y.1) x.2.told y.2.told
+
+  refused-twice : rest ++ left ≡ rest' ++ left' → Stops Closed rest left text → Stops Closed rest' left' text' → text ≡ text'
+  refused-twice bytes x y =
+      let first : IsRefusedAs (rest' ++ left') x.why = subst (λ bytes. IsRefusedAs bytes x.why) bytes (refused_stays rest left x.why x.refused) in
+      x.text_is ∙ ap refused_text (refused_unique (rest' ++ left') x.why y.why first (refused_stays rest' left' y.why y.refused)) ∙ sym y.text_is
+
+same-stop : (rest left text rest' left' text' : List ℕ) (one two : Ending) → rest ++ left ≡ rest' ++ left' → Stops one rest left text → Stops two rest' left' text' → (one ≡ two) × (text ≡ text')
+same-stop rest left text rest' left' text' Ended Ended bytes x y = (refl, x.2 ∙ sym y.2)
+same-stop rest left text rest' left' text' Ended Cut bytes x y = absurd (ended-cut rest left text rest' left' text' bytes x y)
+same-stop rest left text rest' left' text' Ended Closed bytes x y = absurd (ended-refused rest left text rest' left' text' bytes x y)
+same-stop rest left text rest' left' text' Ended ReadFault bytes x y = absurd y
+same-stop rest left text rest' left' text' Ended WriteFault bytes x y = absurd y
+same-stop rest left text rest' left' text' Ended Spent bytes x y = absurd y
+same-stop rest left text rest' left' text' Ended NoMemory bytes x y = absurd y
+same-stop rest left text rest' left' text' Cut Ended bytes x y = absurd (ended-cut rest' left' text' rest left text (sym bytes) y x)
+same-stop rest left text rest' left' text' Cut Cut bytes x y = (refl, cut-twice rest left text rest' left' text' bytes x y)
+same-stop rest left text rest' left' text' Cut Closed bytes x y = absurd (cut-refused rest left text rest' left' text' bytes x y)
+same-stop rest left text rest' left' text' Cut ReadFault bytes x y = absurd y
+same-stop rest left text rest' left' text' Cut WriteFault bytes x y = absurd y
+same-stop rest left text rest' left' text' Cut Spent bytes x y = absurd y
+same-stop rest left text rest' left' text' Cut NoMemory bytes x y = absurd y
+same-stop rest left text rest' left' text' Closed Ended bytes x y = absurd (ended-refused rest' left' text' rest left text (sym bytes) y x)
+same-stop rest left text rest' left' text' Closed Cut bytes x y = absurd (cut-refused rest' left' text' rest left text (sym bytes) y x)
+same-stop rest left text rest' left' text' Closed Closed bytes x y = (refl, refused-twice rest left text rest' left' text' bytes x y)
+same-stop rest left text rest' left' text' Closed ReadFault bytes x y = absurd y
+same-stop rest left text rest' left' text' Closed WriteFault bytes x y = absurd y
+same-stop rest left text rest' left' text' Closed Spent bytes x y = absurd y
+same-stop rest left text rest' left' text' Closed NoMemory bytes x y = absurd y
+same-stop rest left text rest' left' text' ReadFault two bytes x y = absurd x
+same-stop rest left text rest' left' text' WriteFault two bytes x y = absurd x
+same-stop rest left text rest' left' text' Spent two bytes x y = absurd x
+same-stop rest left text rest' left' text' NoMemory two bytes x y = absurd x
+
+-- ---- two links
+
+module _ (base : Rows) (number : ℕ) (new other : List Entry) (rest left text rest' left' text' : List ℕ) (one two : Ending) where
+  first-same : (past : List Entry) (bytes : List ℕ) (moments words : ℕ → ℕ) (a b : Turn) (a_later b_later : List Turn)
+      → Trace base number new past bytes moments words (a ∷ a_later) rest left → Trace base number other past bytes moments words (b ∷ b_later) rest' left'
+      → (a ≡ b) × (later-bytes base number new past bytes moments words a a_later rest left ≡ later-bytes base number other past bytes moments words b b_later rest' left')
+  first-same past bytes moments words a b a_later b_later x y =
+      let messages = message_unique bytes a.message b.message _ _ (first-reads base number new past bytes moments words a a_later rest left x) (first-reads base number other past bytes moments words b b_later rest' left' y) in
+      let alike : Alike past new other moments words a b = record {
+        message = messages.0;
+        first_moments = first-moments base number new past bytes moments words a a_later rest left x;
+        second_moments = first-moments base number other past bytes moments words b b_later rest' left' y;
+        first_words = first-words base number new past bytes moments words a a_later rest left x;
+        second_words = first-words base number other past bytes moments words b b_later rest' left' y;
+        first_past = before-first base number new past bytes moments words a a_later rest left x;
+        second_past = before-first base number other past bytes moments words b b_later rest' left' y;
+      } in (
+        same-turn base number past new other moments words a b alike a.case b.case refl refl
+            (first-at base number new past bytes moments words a a_later rest left x) (first-at base number other past bytes moments words b b_later rest' left' y)
+            x.unhindered.0 y.unhindered.0 x.answered.0 y.answered.0,
+        messages.1,
+      )
+
+  -- the second link behind its first turn, told by the first link's
+  later-alike : (past : List Entry) (moments words : ℕ → ℕ) (bytes bytes' : List ℕ) (a b : Turn) (b_later : List Turn) → a ≡ b → bytes ≡ bytes'
+      → Trace base number other (past ++ b.entries) bytes' (behind moments (length b.moments)) (behind words (length b.words)) b_later rest' left'
+      → Trace base number other (past ++ a.entries) bytes (behind moments (length a.moments)) (behind words (length a.words)) b_later rest' left'
+  later-alike past moments words bytes bytes' a b b_later turn is trace =
+      subst (λ turn. Trace base number other (past ++ turn.entries) bytes (behind moments (length turn.moments)) (behind words (length turn.words)) b_later rest' left') (sym turn)
+      (subst (λ bytes. Trace base number other (past ++ b.entries) bytes (behind moments (length b.moments)) (behind words (length b.words)) b_later rest' left') (sym is) trace)
+
+  closes-alike : (a b : Turn) → a ≡ b → closes a.message.head ≡ true → closes b.message.head ≡ false → ⊥
+  closes-alike a b is closing open_ =
+      let both : closes a.message.head ≡ closes b.message.head = ap (λ turn. closes turn.message.head) is in
+      cc (both, closing, open_)
+
+  same-link : (past : List Entry) (bytes : List ℕ) (moments words : ℕ → ℕ) (turns others : List Turn)
+      → Trace base number new past bytes moments words turns rest left → Trace base number other past bytes moments words others rest' left'
+      → EndsAfter one turns rest left text → EndsAfter two others rest' left' text' → (turns ≡ others) × (one ≡ two) × (text ≡ text')
+  same-link past bytes moments words [] [] x y first second =
+      let ends = same-stop rest left text rest' left' text' one two (sym x.bytes_are ∙ y.bytes_are) first second in
+      (refl, ends.0, ends.1)
+  same-link past bytes moments words [] (b ∷ b_later) x y first second =
+      absurd (stops-before rest left text one b.message (later-bytes base number other past bytes moments words b b_later rest' left') first (subst (λ all. ReadsMessage all b.message (later-bytes base number other past bytes moments words b b_later rest' left')) x.bytes_are (first-reads base number other past bytes moments words b b_later rest' left' y)))
+  same-link past bytes moments words (a ∷ a_later) [] x y first second =
+      absurd (stops-before rest' left' text' two a.message (later-bytes base number new past bytes moments words a a_later rest left) second (subst (λ all. ReadsMessage all a.message (later-bytes base number new past bytes moments words a a_later rest left)) y.bytes_are (first-reads base number new past bytes moments words a a_later rest left x)))
+  same-link past bytes moments words (a ∷ a_later) (b ∷ b_later) x y (inl first) (inl second) =
+      let turn = (first-same past bytes moments words a b a_later b_later x y).0 in
+      let later : a_later ≡ b_later = first.1 ∙ sym second.1 in
+      (λ i. turn i ∷ later i, first.2 ∙ sym second.2, first.3 ∙ sym second.3)
+  same-link past bytes moments words (a ∷ a_later) (b ∷ b_later) x y (inl first) (inr second) =
+      absurd (closes-alike a b (first-same past bytes moments words a b a_later b_later x y).0 first.0 second.0)
+  same-link past bytes moments words (a ∷ a_later) (b ∷ b_later) x y (inr first) (inl second) =
+      absurd (closes-alike b a (sym (first-same past bytes moments words a b a_later b_later x y).0) second.0 first.0)
+  same-link past bytes moments words (a ∷ a_later) (b ∷ b_later) x y (inr first) (inr second) =
+      let same = first-same past bytes moments words a b a_later b_later x y in
+      let later = same-link (past ++ a.entries) _ (behind moments (length a.moments)) (behind words (length a.words)) a_later b_later
+      (trace-later base number new past bytes moments words a a_later rest left x)
+      (later-alike past moments words _ _ a b b_later same.0 same.1 (trace-later base number other past bytes moments words b b_later rest' left' y))
+      first.1 second.1 in
+      (λ i. same.0 i ∷ later.0 i, later.1, later.2)
+
+-- the bytes that are left of a known source
+left-of : (a b : Option (List ℕ)) (bytes taken : List ℕ) → a ≡ Some bytes → Consumes a b taken → (left : List ℕ) × (b ≡ Some left) × (bytes ≡ taken ++ left)
+left-of None b bytes taken known takes = cc
+left-of (Some all) None bytes taken known takes = absurd takes
+left-of (Some all) (Some left) bytes taken known takes =
+    let is : all ≡ bytes = cc known in
+    (left, refl, sym is ∙ takes)
+
+-- a served link as a trace
+link-trace : (base : Rows) (number : ℕ) (before after : Ends) (old new : List Entry) (served : Served) (link : ServesLink base number before after old new served) (known : IsKnown before) (left : List ℕ)
+    → known.bytes ≡ link.taken ++ left → AllByRecursion (λ turn. IsUnhindered turn.case) link.turns
+    → Trace base number new old known.bytes known.moments known.words link.turns link.rest left
+link-trace base number before after old new served link known left bytes unhindered = record {
+  bytes_are = bytes ∙ ap (λ taken. taken ++ left) link.cut ∙ append_assoc (flat_map (λ turn. print_message turn.message) link.turns) link.rest left;
+  whole = link.whole;
+  moments_are = front-of before.moments after.moments known.moments _ known.moments_are link.moments;
+  words_are = front-of before.words after.words known.words _ known.words_are link.words;
+  history = link.history;
+  answered = link.answered;
+  ordered = link.ordered;
+  unhindered = unhindered;
+}
+
+-- an ending by the input is no fault of the sink
+by-input : (ending : Ending) → IsByInput ending → ending ≢ WriteFault
+by-input Ended by_input is = cc
+by-input Cut by_input is = cc
+by-input Closed by_input is = cc
+by-input ReadFault by_input is = by_input
+by-input WriteFault by_input is = by_input
+by-input Spent by_input is = by_input
+by-input NoMemory by_input is = by_input
+
+-- all that was to be written was given
+given-whole : (base : Rows) (number : ℕ) (before after : Ends) (old new : List Entry) (served : Served) (link : ServesLink base number before after old new served) → IsByInput served.ending
+    → link.given ≡ flat_map output_of link.turns ++ link.text
+given-whole base number before after old new served link by_input =
+    sym (append-nil link.given) ∙ ap (λ missing. link.given ++ missing) (sym (link.complete (by-input served.ending by_input))) ∙ link.output
+
+pub one_output : OneOutput
+one_output base number before after other_after old new other_new served other_served link other known first second =
+    let left = left-of before.left after.left known.bytes link.taken known.left_is link.takes in
+    let left' = left-of before.left other_after.left known.bytes other.taken known.left_is other.takes in
+    let same = same-link base number new other_new link.rest left.0 link.text other.rest left'.0 other.text served.ending other_served.ending old known.bytes known.moments known.words link.turns other.turns
+    (link-trace base number before after old new served link known left.0 left.2 first.unhindered)
+    (link-trace base number before other_after old other_new other_served other known left'.0 left'.2 second.unhindered)
+    (ends-after link.rest left.0 link.text served.ending before after link.turns (length link.taken) first.by_input left.1 link.ends)
+    (ends-after other.rest left'.0 other.text other_served.ending before other_after other.turns (length other.taken) second.by_input left'.1 other.ends) in (
+      given-whole base number before after old new served link first.by_input ∙ (λ i. flat_map output_of (same.0 i) ++ same.2 i) ∙ sym (given-whole base number before other_after old other_new other_served other second.by_input),
+      link.places ∙ ap (map place_of) same.0 ∙ sym other.places,
+      same.1,
+      link.history ∙ ap (λ turns. old ++ flat_map (λ turn. turn.entries) turns) same.0 ∙ sym other.history,
+    )
