@@ -47,58 +47,58 @@ module _ (old now new : Ends) where
   -- one more piece of the text
   pub front-more : {E : Type 0} (text piece : List ℕ) (count taken : ℕ) → piece ≡ drop count text → GivesFront old now text count → Gives {E = E} now new (Ok taken) piece → taken ≤ length piece → GivesFront old new text (count + taken)
   front-more text piece count taken is front gives bound = record {
-      within = omega (arith, front.within, bound, length-drop count text, ap length is);
-      same = gives.same ∙ ap as_given front.same;
-      kept = omega (arith, front.kept, gives.count.kept);
-      gives = subst (Appends old.given new.given) (sym (take-add count taken text)) (Appends-trans old.given now.given new.given (take count text) (take taken (drop count text)) front.gives (subst (λ piece. Appends now.given new.given (take taken piece)) is gives.bytes));
-    }
+    within = omega (arith, front.within, bound, length-drop count text, ap length is);
+    same = gives.same ∙ ap as_given front.same;
+    kept = omega (arith, front.kept, gives.count.kept);
+    gives = subst (Appends old.given new.given) (sym (take-add count taken text)) (Appends-trans old.given now.given new.given (take count text) (take taken (drop count text)) front.gives (subst (λ piece. Appends now.given new.given (take taken piece)) is gives.bytes));
+  }
 
   -- the sink failed behind the front
   pub front-failed : {E F : Type 0} (text piece : List ℕ) (count : ℕ) (error : E) (result : Result Unit F) → IsErr result → GivesFront old now text count → Gives now new (Err error) piece → GivesAll old new text result
   front-failed text piece count error (Ok done) fails front gives = cc
   front-failed text piece count error (Err other) fails front gives = record {
-      given = take count text;
-      missing = drop count text;
-      same = gives.same ∙ ap as_given front.same;
-      kept = omega (arith, front.kept, gives.count.kept);
-      bytes_are = sym (take-append-drop count text);
-      gives = Appends-kept old.given now.given new.given (take count text) front.gives gives.bytes;
-      complete = tt;
-      caused = rises-earlier old.sink_faults now.sink_faults new.sink_faults front.kept gives.count.caused;
-    }
+    given = take count text;
+    missing = drop count text;
+    same = gives.same ∙ ap as_given front.same;
+    kept = omega (arith, front.kept, gives.count.kept);
+    bytes_are = sym (take-append-drop count text);
+    gives = Appends-kept old.given now.given new.given (take count text) front.gives gives.bytes;
+    complete = tt;
+    caused = rises-earlier old.sink_faults now.sink_faults new.sink_faults front.kept gives.count.caused;
+  }
 
   -- one more word
   pub drawn-more : {E : Type 0} (drawn : List ℕ) (word : ℕ) → DrawsFront old now drawn → Draws {E = E} now new (Ok word) → DrawsFront old new (drawn ++ word ∷ [])
   drawn-more drawn word front draws = record {
-      same = draws.same ∙ ap as_drawn front.same;
-      kept = omega (arith, front.kept, draws.count.kept);
-      shifted = IsShifted-trans old.words now.words new.words drawn (word ∷ []) front.shifted draws.word;
-    }
+    same = draws.same ∙ ap as_drawn front.same;
+    kept = omega (arith, front.kept, draws.count.kept);
+    shifted = IsShifted-trans old.words now.words new.words drawn (word ∷ []) front.shifted draws.word;
+  }
 
   -- no more word
   pub drawn-failed : {E F : Type 0} (drawn : List ℕ) (count : ℕ) (error : E) (result : Result Words4 F) → IsErr result → DrawsFront old now drawn → length drawn < count → Draws now new (Err error) → DrawsWords old new count result
   drawn-failed drawn count error (Ok done) fails front few draws = cc
   drawn-failed drawn count error (Err other) fails front few draws = record {
-      words = drawn;
-      same = draws.same ∙ ap as_drawn front.same;
-      shifted = IsShifted-kept old.words now.words new.words drawn front.shifted draws.word;
-      kept = omega (arith, front.kept, draws.count.kept);
-      drawn = (few, λ below. risen-below old.draw_faults now.draw_faults new.draw_faults front.kept draws.count.caused below);
-    }
+    words = drawn;
+    same = draws.same ∙ ap as_drawn front.same;
+    shifted = IsShifted-kept old.words now.words new.words drawn front.shifted draws.word;
+    kept = omega (arith, front.kept, draws.count.kept);
+    drawn = (few, λ below. risen-below old.draw_faults now.draw_faults new.draw_faults front.kept draws.count.caused below);
+  }
 
 -- the words that were kept of those drawn, with one more
 pub kept-more : (words longer drawn : List ℕ) (place word : ℕ) → length drawn ≡ place
     → ((k : ℕ) → k < 4 → slice_index words k ≡ slice_index drawn k) → (place < 4 → slice_index longer place ≡ word) → ((k : ℕ) → k ≢ place → slice_index longer k ≡ slice_index words k)
     → (k : ℕ) → k < 4 → slice_index longer k ≡ slice_index (drawn ++ word ∷ []) k
 kept-more words longer drawn place word at before there others k within = elim (cases_lt k place) [
-    inl below ↦ others k (omega arith) ∙ before k within ∙ sym (get_or_append_left drawn (word ∷ []) 0 k (omega (arith, at, below)))
+  | inl below ↦ others k (omega arith) ∙ before k within ∙ sym (get_or_append_left drawn (word ∷ []) 0 k (omega (arith, at, below)))
   | inr above ↦ elim (cases_lt place k) [
-        inl past ↦ others k (omega arith) ∙ before k within ∙ get_or_past drawn k 0 (omega (arith, at, past)) ∙ sym (get_or_past (drawn ++ word ∷ []) k 0 (omega (arith, at, past, length-append drawn (word ∷ []))))
-      | inr same ↦
-          let is : k ≡ place = omega arith in
-          ap (λ k. slice_index longer k) is ∙ there (omega (arith, is, within)) ∙ sym (get_or-append_seam drawn word [] 0) ∙ ap (λ k. slice_index (drawn ++ word ∷ []) k) (at ∙ sym is)
-      ]
+    | inl past ↦ others k (omega arith) ∙ before k within ∙ get_or_past drawn k 0 (omega (arith, at, past)) ∙ sym (get_or_past (drawn ++ word ∷ []) k 0 (omega (arith, at, past, length-append drawn (word ∷ []))))
+    | inr same ↦
+        let is : k ≡ place = omega arith in
+        ap (λ k. slice_index longer k) is ∙ there (omega (arith, is, within)) ∙ sym (get_or-append_seam drawn word [] 0) ∙ ap (λ k. slice_index (drawn ++ word ∷ []) k) (at ∙ sym is)
   ]
+]
 
 -- the rest of a text
 pub rest-whole : (text : List ℕ) (count : ℕ) → take (length text - count) (drop count text) ≡ drop count text

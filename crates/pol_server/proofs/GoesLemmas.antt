@@ -47,37 +47,37 @@ module _ (a b c : Standing) (turns others : List Turn) where
   -- what went on between a first and a second moment, and between the second and a third
   pub goes-trans : (taken later out more : List ℕ) → Goes a b turns taken out → Goes b c others later more → Goes a c (turns ++ others) (taken ++ later) (out ++ more)
   goes-trans taken later out more first second = record {
-      base = second.base ∙ first.base;
-      bytes = Consumes-trans a.ends.left b.ends.left c.ends.left taken later first.bytes second.bytes;
-      output = Appends-trans a.ends.given b.ends.given c.ends.given out more first.output second.output;
-      moments = subst (IsShifted a.ends.moments c.ends.moments) (sym (flat_map-append (λ turn. turn.moments) turns others)) (IsShifted-trans a.ends.moments b.ends.moments c.ends.moments _ _ first.moments second.moments);
-      words = subst (IsShifted a.ends.words c.ends.words) (sym (flat_map-append (λ turn. turn.words) turns others)) (IsShifted-trans a.ends.words b.ends.words c.ends.words _ _ first.words second.words);
-      source_faults = omega (arith, first.source_faults, second.source_faults);
-      sink_faults = omega (arith, first.sink_faults, second.sink_faults);
-      draw_faults = omega (arith, first.draw_faults, second.draw_faults);
-      draws = λ below.
-          let early : b.ends.draw_faults < 2 ^ 64 - 1 = omega (arith, second.draw_faults, below) in
-          omega (arith, first.draws early, second.draws below, failed_draws-append turns others);
-      history = second.history ∙ ap (λ front. front ++ flat_map (λ turn. turn.entries) others) first.history ∙ both (λ turn. turn.entries) a.log.history turns others;
-      cut = joined (λ turn. print_message turn.message) turns others a.buffer taken b.buffer later c.buffer first.cut second.cut;
-      places = second.places ∙ ap (λ front. front ++ map place_of others) first.places ∙ append_assoc a.places (map place_of turns) (map place_of others)
-          ∙ ap (λ back. a.places ++ back) (sym (map-append place_of turns others));
-      budget = omega (arith, first.budget, second.budget, length-append taken later);
-      whole = each-append _ turns others first.whole second.whole;
-      answered = answered-both first.base (flat_map (λ turn. turn.entries) others) second.base second.history first.answered second.answered;
-      ordered = ordered-append (length a.log.history) turns others (length b.log.history) (length c.log.history) first.ordered second.ordered;
-    }
+    base = second.base ∙ first.base;
+    bytes = Consumes-trans a.ends.left b.ends.left c.ends.left taken later first.bytes second.bytes;
+    output = Appends-trans a.ends.given b.ends.given c.ends.given out more first.output second.output;
+    moments = subst (IsShifted a.ends.moments c.ends.moments) (sym (flat_map-append (λ turn. turn.moments) turns others)) (IsShifted-trans a.ends.moments b.ends.moments c.ends.moments _ _ first.moments second.moments);
+    words = subst (IsShifted a.ends.words c.ends.words) (sym (flat_map-append (λ turn. turn.words) turns others)) (IsShifted-trans a.ends.words b.ends.words c.ends.words _ _ first.words second.words);
+    source_faults = omega (arith, first.source_faults, second.source_faults);
+    sink_faults = omega (arith, first.sink_faults, second.sink_faults);
+    draw_faults = omega (arith, first.draw_faults, second.draw_faults);
+    draws = λ below.
+        let early : b.ends.draw_faults < 2 ^ 64 - 1 = omega (arith, second.draw_faults, below) in
+        omega (arith, first.draws early, second.draws below, failed_draws-append turns others);
+    history = second.history ∙ ap (λ front. front ++ flat_map (λ turn. turn.entries) others) first.history ∙ both (λ turn. turn.entries) a.log.history turns others;
+    cut = joined (λ turn. print_message turn.message) turns others a.buffer taken b.buffer later c.buffer first.cut second.cut;
+    places = second.places ∙ ap (λ front. front ++ map place_of others) first.places ∙ append_assoc a.places (map place_of turns) (map place_of others)
+        ∙ ap (λ back. a.places ++ back) (sym (map-append place_of turns others));
+    budget = omega (arith, first.budget, second.budget, length-append taken later);
+    whole = each-append _ turns others first.whole second.whole;
+    answered = answered-both first.base (flat_map (λ turn. turn.entries) others) second.base second.history first.answered second.answered;
+    ordered = ordered-append (length a.log.history) turns others (length b.log.history) (length c.log.history) first.ordered second.ordered;
+  }
 
 -- a link that goes on twice goes on
 pub continues-trans : (a b c : Standing) → Continues a b → Continues b c → Continues a c
 continues-trans a b c first second = record {
-    turns = first.turns ++ second.turns;
-    taken = first.taken ++ second.taken;
-    out = first.out ++ second.out;
-    goes = goes-trans a b c first.turns second.turns first.taken second.taken first.out second.out first.goes second.goes;
-    said = joined output_of first.turns second.turns (told_text a.told) first.out (told_text b.told) second.out (told_text c.told) first.said second.said;
-    open_ = each-append _ first.turns second.turns first.open_ second.open_;
-  }
+  turns = first.turns ++ second.turns;
+  taken = first.taken ++ second.taken;
+  out = first.out ++ second.out;
+  goes = goes-trans a b c first.turns second.turns first.taken second.taken first.out second.out first.goes second.goes;
+  said = joined output_of first.turns second.turns (told_text a.told) first.out (told_text b.told) second.out (told_text c.told) first.said second.said;
+  open_ = each-append _ first.turns second.turns first.open_ second.open_;
+}
 
 -- turns that close nothing may come before an ending's
 fits-after : (ending : Ending) (turns others : List Turn) (rest text : List ℕ) → NoneCloses turns → FitsEnding ending others rest text → FitsEnding ending (turns ++ others) rest text
@@ -95,18 +95,18 @@ fits-after NoMemory turns others rest text open_ fits = (each-append _ turns oth
 -- a link that goes on and then ends, ends
 pub finishes-after : (ending : Ending) (a b c : Standing) → Continues a b → Finishes ending b c → Finishes ending a c
 finishes-after ending a b c first second = record {
-    turns = first.turns ++ second.turns;
-    taken = first.taken ++ second.taken;
-    out = first.out ++ second.out;
-    missing = second.missing;
-    text = second.text;
-    goes = goes-trans a b c first.turns second.turns first.taken second.taken first.out second.out first.goes second.goes;
-    said = ap (λ all. told_text a.told ++ all) (append_assoc first.out second.out second.missing)
-        ∙ joined output_of first.turns second.turns (told_text a.told) first.out (told_text b.told) (second.out ++ second.missing) second.text first.said second.said;
-    complete = second.complete;
-    fits = fits-after ending first.turns second.turns c.buffer second.text first.open_ second.fits;
-    caused = λ failed. rises-earlier a.ends.sink_faults b.ends.sink_faults c.ends.sink_faults first.goes.sink_faults (second.caused failed);
-  }
+  turns = first.turns ++ second.turns;
+  taken = first.taken ++ second.taken;
+  out = first.out ++ second.out;
+  missing = second.missing;
+  text = second.text;
+  goes = goes-trans a b c first.turns second.turns first.taken second.taken first.out second.out first.goes second.goes;
+  said = ap (λ all. told_text a.told ++ all) (append_assoc first.out second.out second.missing)
+      ∙ joined output_of first.turns second.turns (told_text a.told) first.out (told_text b.told) (second.out ++ second.missing) second.text first.said second.said;
+  complete = second.complete;
+  fits = fits-after ending first.turns second.turns c.buffer second.text first.open_ second.fits;
+  caused = λ failed. rises-earlier a.ends.sink_faults b.ends.sink_faults c.ends.sink_faults first.goes.sink_faults (second.caused failed);
+}
 
 -- nothing but the ends and what was told has changed
 pub record Stays (a b : Standing) : Type 0 where
@@ -126,66 +126,66 @@ module _ (a b : Standing) where
   pub goes-given : (out : List ℕ) → Stays a b → b.ends ≡ record a.ends { given = b.ends.given; sink_faults = b.ends.sink_faults }
       → Appends a.ends.given b.ends.given out → a.ends.sink_faults ≤ b.ends.sink_faults → Goes a b [] [] out
   goes-given out stays same gives kept = record {
-      base = ap (λ log. log.base) stays.log;
-      bytes = subst (λ left. Consumes a.ends.left left []) (sym (ap (λ ends. ends.left) same)) (Consumes-nil a.ends.left);
-      output = gives;
-      moments = subst (λ moments. IsShifted a.ends.moments moments []) (sym (ap (λ ends. ends.moments) same)) (IsShifted-nil a.ends.moments);
-      words = subst (λ words. IsShifted a.ends.words words []) (sym (ap (λ ends. ends.words) same)) (IsShifted-nil a.ends.words);
-      source_faults = omega (arith, ap (λ ends. ends.source_faults) same);
-      sink_faults = kept;
-      draw_faults = omega (arith, ap (λ ends. ends.draw_faults) same);
-      draws = λ below. omega (arith, ap (λ ends. ends.draw_faults) same);
-      history = stays-history stays.log;
-      cut = append-nil a.buffer ∙ sym stays.buffer;
-      places = stays.places ∙ sym (append-nil a.places);
-      budget = omega (arith, stays.budget);
-      whole = tt;
-      answered = tt;
-      ordered = stays-ordered stays.log;
-    }
+    base = ap (λ log. log.base) stays.log;
+    bytes = subst (λ left. Consumes a.ends.left left []) (sym (ap (λ ends. ends.left) same)) (Consumes-nil a.ends.left);
+    output = gives;
+    moments = subst (λ moments. IsShifted a.ends.moments moments []) (sym (ap (λ ends. ends.moments) same)) (IsShifted-nil a.ends.moments);
+    words = subst (λ words. IsShifted a.ends.words words []) (sym (ap (λ ends. ends.words) same)) (IsShifted-nil a.ends.words);
+    source_faults = omega (arith, ap (λ ends. ends.source_faults) same);
+    sink_faults = kept;
+    draw_faults = omega (arith, ap (λ ends. ends.draw_faults) same);
+    draws = λ below. omega (arith, ap (λ ends. ends.draw_faults) same);
+    history = stays-history stays.log;
+    cut = append-nil a.buffer ∙ sym stays.buffer;
+    places = stays.places ∙ sym (append-nil a.places);
+    budget = omega (arith, stays.budget);
+    whole = tt;
+    answered = tt;
+    ordered = stays-ordered stays.log;
+  }
 
   -- taking bytes alone
   pub goes-read : (taken : List ℕ) → b.log ≡ a.log → b.places ≡ a.places → b.ends ≡ record a.ends { left = b.ends.left; source_faults = b.ends.source_faults }
       → Consumes a.ends.left b.ends.left taken → a.ends.source_faults ≤ b.ends.source_faults → b.buffer ≡ a.buffer ++ taken → b.budget + length taken ≡ a.budget
       → Goes a b [] taken []
   goes-read taken log places same takes kept grown spent = record {
-      base = ap (λ log. log.base) log;
-      bytes = takes;
-      output = subst (λ given. Appends a.ends.given given []) (sym (ap (λ ends. ends.given) same)) (Appends-nil a.ends.given);
-      moments = subst (λ moments. IsShifted a.ends.moments moments []) (sym (ap (λ ends. ends.moments) same)) (IsShifted-nil a.ends.moments);
-      words = subst (λ words. IsShifted a.ends.words words []) (sym (ap (λ ends. ends.words) same)) (IsShifted-nil a.ends.words);
-      source_faults = kept;
-      sink_faults = omega (arith, ap (λ ends. ends.sink_faults) same);
-      draw_faults = omega (arith, ap (λ ends. ends.draw_faults) same);
-      draws = λ below. omega (arith, ap (λ ends. ends.draw_faults) same);
-      history = stays-history log;
-      cut = sym grown;
-      places = places ∙ sym (append-nil a.places);
-      budget = spent;
-      whole = tt;
-      answered = tt;
-      ordered = stays-ordered log;
-    }
+    base = ap (λ log. log.base) log;
+    bytes = takes;
+    output = subst (λ given. Appends a.ends.given given []) (sym (ap (λ ends. ends.given) same)) (Appends-nil a.ends.given);
+    moments = subst (λ moments. IsShifted a.ends.moments moments []) (sym (ap (λ ends. ends.moments) same)) (IsShifted-nil a.ends.moments);
+    words = subst (λ words. IsShifted a.ends.words words []) (sym (ap (λ ends. ends.words) same)) (IsShifted-nil a.ends.words);
+    source_faults = kept;
+    sink_faults = omega (arith, ap (λ ends. ends.sink_faults) same);
+    draw_faults = omega (arith, ap (λ ends. ends.draw_faults) same);
+    draws = λ below. omega (arith, ap (λ ends. ends.draw_faults) same);
+    history = stays-history log;
+    cut = sym grown;
+    places = places ∙ sym (append-nil a.places);
+    budget = spent;
+    whole = tt;
+    answered = tt;
+    ordered = stays-ordered log;
+  }
 
   -- one message that was handled, whose answer is still to be given
   pub goes-turn : (message : Message) (place : Place) (text : Option (List ℕ)) (handles : Handles a.ends b.ends a.log b.log message place text)
       → IsMessage message → a.buffer ≡ print_message message ++ b.buffer → b.places ≡ a.places ++ place ∷ [] → b.budget ≡ a.budget
       → Goes a b (handles.turn ∷ []) [] []
   goes-turn message place text handles whole front added budget = record {
-      base = handles.base;
-      bytes = subst (λ left. Consumes a.ends.left left []) (sym (ap (λ ends. ends.left) handles.same)) (Consumes-nil a.ends.left);
-      output = subst (λ given. Appends a.ends.given given []) (sym (ap (λ ends. ends.given) handles.same)) (Appends-nil a.ends.given);
-      moments = subst (IsShifted a.ends.moments b.ends.moments) (sym (append-nil handles.turn.moments)) handles.moments;
-      words = subst (IsShifted a.ends.words b.ends.words) (sym (append-nil handles.turn.words)) handles.words;
-      source_faults = omega (arith, ap (λ ends. ends.source_faults) handles.same);
-      sink_faults = omega (arith, ap (λ ends. ends.sink_faults) handles.same);
-      draw_faults = handles.kept;
-      draws = λ below. omega (arith, handles.draws below);
-      history = handles.history ∙ ap (λ entries. a.log.history ++ entries) (sym (append-nil handles.turn.entries));
-      cut = append-nil a.buffer ∙ front ∙ ap (λ message. print_message message ++ b.buffer) (sym handles.message_is) ∙ ap (λ bytes. bytes ++ b.buffer) (sym (append-nil (print_message handles.turn.message)));
-      places = added ∙ ap (λ place. a.places ++ place ∷ []) handles.place_is;
-      budget = omega (arith, budget);
-      whole = (subst IsMessage (sym handles.message_is) whole, tt);
-      answered = (handles.answered, tt);
-      ordered = (handles.from, handles.below);
-    }
+    base = handles.base;
+    bytes = subst (λ left. Consumes a.ends.left left []) (sym (ap (λ ends. ends.left) handles.same)) (Consumes-nil a.ends.left);
+    output = subst (λ given. Appends a.ends.given given []) (sym (ap (λ ends. ends.given) handles.same)) (Appends-nil a.ends.given);
+    moments = subst (IsShifted a.ends.moments b.ends.moments) (sym (append-nil handles.turn.moments)) handles.moments;
+    words = subst (IsShifted a.ends.words b.ends.words) (sym (append-nil handles.turn.words)) handles.words;
+    source_faults = omega (arith, ap (λ ends. ends.source_faults) handles.same);
+    sink_faults = omega (arith, ap (λ ends. ends.sink_faults) handles.same);
+    draw_faults = handles.kept;
+    draws = λ below. omega (arith, handles.draws below);
+    history = handles.history ∙ ap (λ entries. a.log.history ++ entries) (sym (append-nil handles.turn.entries));
+    cut = append-nil a.buffer ∙ front ∙ ap (λ message. print_message message ++ b.buffer) (sym handles.message_is) ∙ ap (λ bytes. bytes ++ b.buffer) (sym (append-nil (print_message handles.turn.message)));
+    places = added ∙ ap (λ place. a.places ++ place ∷ []) handles.place_is;
+    budget = omega (arith, budget);
+    whole = (subst IsMessage (sym handles.message_is) whole, tt);
+    answered = (handles.answered, tt);
+    ordered = (handles.from, handles.below);
+  }

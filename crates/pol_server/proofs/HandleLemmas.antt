@@ -59,41 +59,41 @@ module _ (ends : Ends) (log : Log) (message : Message) where
   -- memory was wanting before the clock was read
   pub handles-nothing : Handles ends ends log log message NoEntry None
   handles-nothing = record {
-      turn = record { message = message; moments = []; words = []; entries = []; case = without_memory; answer = INSUFFICIENT_STORAGE.now };
-      message_is = refl;
-      same = refl;
-      moments = IsShifted-nil ends.moments;
-      words = IsShifted-nil ends.words;
-      kept = omega arith;
-      draws = λ below. omega arith;
-      base = refl;
-      history = sym (append-nil log.history);
-      answered = record { reads = inl (refl, refl); entries = refl; answer = refl };
-      from = tt;
-      below = omega arith;
-      place_is = refl;
-      text_is = refl;
-    }
+    turn = record { message = message; moments = []; words = []; entries = []; case = without_memory; answer = INSUFFICIENT_STORAGE.now };
+    message_is = refl;
+    same = refl;
+    moments = IsShifted-nil ends.moments;
+    words = IsShifted-nil ends.words;
+    kept = omega arith;
+    draws = λ below. omega arith;
+    base = refl;
+    history = sym (append-nil log.history);
+    answered = record { reads = inl (refl, refl); entries = refl; answer = refl };
+    from = tt;
+    below = omega arith;
+    place_is = refl;
+    text_is = refl;
+  }
 
   -- the plan was refused
   pub handles-refused : (why : RouteRefused) (text : Option (List ℕ)) → plan_of message ≡ Err why → IfSome text (λ bytes. bytes ≡ text_of message (refusal_answer why)) → Handles ends ends log log message NoEntry text
   handles-refused why None refused text_is = handles-nothing
   handles-refused why (Some bytes) refused text_is = record {
-      turn = record { message = message; moments = []; words = []; entries = []; case = unplanned; answer = bytes };
-      message_is = refl;
-      same = refl;
-      moments = IsShifted-nil ends.moments;
-      words = IsShifted-nil ends.words;
-      kept = omega arith;
-      draws = λ below. omega arith;
-      base = refl;
-      history = sym (append-nil log.history);
-      answered = record { why = why; refused = refused; moments = refl; words = refl; entries = refl; answer = text_is };
-      from = tt;
-      below = omega arith;
-      place_is = refl;
-      text_is = refl;
-    }
+    turn = record { message = message; moments = []; words = []; entries = []; case = unplanned; answer = bytes };
+    message_is = refl;
+    same = refl;
+    moments = IsShifted-nil ends.moments;
+    words = IsShifted-nil ends.words;
+    kept = omega arith;
+    draws = λ below. omega arith;
+    base = refl;
+    history = sym (append-nil log.history);
+    answered = record { why = why; refused = refused; moments = refl; words = refl; entries = refl; answer = text_is };
+    from = tt;
+    below = omega arith;
+    place_is = refl;
+    text_is = refl;
+  }
 
   -- the plan was refused, and the text was made or not
   pub handles-refusal : {E : Type 0} (why : RouteRefused) (result : Result (Vec ℕ Global) E) (close head_only : Bool) → Plans (plan_of message) (Err why) → close ≡ closes message.head → head_only ≡ is_head message
@@ -124,11 +124,11 @@ module _ (old now new : Ends) (moment : ℕ) where
 
   pub read-for : {E : Type 0} (count : ℕ) (result : Result Words4 E) → Reads old now moment → (draws : DrawsWords now new count result) → IsReadFor old new moment draws.words
   read-for count result reads draws = record {
-      same = same-both reads.same draws.same;
-      moments = subst (λ moments. IsShifted old.moments moments (moment ∷ [])) (sym (ap (λ ends. ends.moments) draws.same)) reads.shifted;
-      words_are = subst (λ words. IsShifted words new.words draws.words) (ap (λ ends. ends.words) reads.same) draws.shifted;
-      kept = omega (arith, draws.kept, ap (λ ends. ends.draw_faults) reads.same);
-    }
+    same = same-both reads.same draws.same;
+    moments = subst (λ moments. IsShifted old.moments moments (moment ∷ [])) (sym (ap (λ ends. ends.moments) draws.same)) reads.shifted;
+    words_are = subst (λ words. IsShifted words new.words draws.words) (ap (λ ends. ends.words) reads.same) draws.shifted;
+    kept = omega (arith, draws.kept, ap (λ ends. ends.draw_faults) reads.same);
+  }
     where
       same-both : now ≡ record old { moments = now.moments } → new ≡ record now { words = new.words; draw_faults = new.draw_faults }
           → new ≡ record old { moments = new.moments; words = new.words; draw_faults = new.draw_faults }
@@ -138,42 +138,42 @@ module _ (old new : Ends) (log : Log) (message : Message) (plan : Planned) (mome
   -- memory was wanting
   wanting : (after : Log) → after ≡ log → length words ≤ plan.words → Handles old new log after message NoEntry None
   wanting after same few = record {
-      turn = record { message = message; moments = moment ∷ []; words = words; entries = []; case = without_memory; answer = INSUFFICIENT_STORAGE.now };
-      message_is = refl;
-      same = read.same;
-      moments = read.moments;
-      words = read.words_are;
-      kept = read.kept;
-      draws = λ below. omega (arith, read.kept);
-      base = ap (λ log. log.base) same;
-      history = ap (λ log. log.history) same ∙ sym (append-nil log.history);
-      answered = record { reads = inr (plan, planned, refl, few); entries = refl; answer = refl };
-      from = tt;
-      below = omega (arith, ap (λ log. length log.history) same);
-      place_is = refl;
-      text_is = refl;
-    }
+    turn = record { message = message; moments = moment ∷ []; words = words; entries = []; case = without_memory; answer = INSUFFICIENT_STORAGE.now };
+    message_is = refl;
+    same = read.same;
+    moments = read.moments;
+    words = read.words_are;
+    kept = read.kept;
+    draws = λ below. omega (arith, read.kept);
+    base = ap (λ log. log.base) same;
+    history = ap (λ log. log.history) same ∙ sym (append-nil log.history);
+    answered = record { reads = inr (plan, planned, refl, few); entries = refl; answer = refl };
+    from = tt;
+    below = omega (arith, ap (λ log. length log.history) same);
+    place_is = refl;
+    text_is = refl;
+  }
 
   -- a draw failed
   pub handles-undrawn : (text : Option (List ℕ)) → length words < plan.words → (new.draw_faults < 2 ^ 64 - 1 → old.draw_faults + 1 ≤ new.draw_faults)
       → IfSome text (λ bytes. bytes ≡ text_of message draw_fault_answer) → Handles old new log log message NoEntry text
   handles-undrawn None few draws text_is = wanting log refl (omega (arith, few))
   handles-undrawn (Some bytes) few draws text_is = record {
-      turn = record { message = message; moments = moment ∷ []; words = words; entries = []; case = undrawn; answer = bytes };
-      message_is = refl;
-      same = read.same;
-      moments = read.moments;
-      words = read.words_are;
-      kept = read.kept;
-      draws = draws;
-      base = refl;
-      history = sym (append-nil log.history);
-      answered = record { plan = plan; planned = planned; moments = refl; words = few; entries = refl; answer = text_is };
-      from = tt;
-      below = omega arith;
-      place_is = refl;
-      text_is = refl;
-    }
+    turn = record { message = message; moments = moment ∷ []; words = words; entries = []; case = undrawn; answer = bytes };
+    message_is = refl;
+    same = read.same;
+    moments = read.moments;
+    words = read.words_are;
+    kept = read.kept;
+    draws = draws;
+    base = refl;
+    history = sym (append-nil log.history);
+    answered = record { plan = plan; planned = planned; moments = refl; words = few; entries = refl; answer = text_is };
+    from = tt;
+    below = omega arith;
+    place_is = refl;
+    text_is = refl;
+  }
 
   module _ (after : Log) (drawn : length words ≡ plan.words) where
     abbrev command : Command
@@ -195,9 +195,9 @@ module _ (old new : Ends) (log : Log) (message : Message) (plan : Planned) (mome
         let longer : after.history ≡ log.history ++ entry ∷ [] = ap (λ log. log.history) enters in
         let based : after.base ≡ log.base = ap (λ log. log.base) enters in
         let before : state_at after.base (take (length log.history) after.history) ≡ state_of log =
-            ap (λ base. state_at base (take (length log.history) after.history)) based
-            ∙ ap (λ history. state_at log.base (take (length log.history) history)) longer
-            ∙ ap (state_at log.base) (take-append_seam log.history (entry ∷ [])) in
+        ap (λ base. state_at base (take (length log.history) after.history)) based
+        ∙ ap (λ history. state_at log.base (take (length log.history) history)) longer
+        ∙ ap (state_at log.base) (take-append_seam log.history (entry ∷ [])) in
         record {
           turn = record { message = message; moments = moment ∷ []; words = words; entries = entry ∷ []; case = stepped (length log.history); answer = bytes };
           message_is = refl;
@@ -230,7 +230,7 @@ module _ (old new : Ends) (log : Log) (message : Message) (plan : Planned) (mome
         → bytes ≡ text_of message (answer_of (Refused (refusal.RunFull (state_of log).charged command.charge))) → Handles old new log after message NoEntry (Some bytes)
     handles-full bytes same over text_is =
         let before : state_at after.base (take (length log.history) after.history) ≡ state_of log =
-            ap (λ one. state_at one.base (take (length log.history) one.history)) same ∙ ap (state_at log.base) (take-length log.history) in
+        ap (λ one. state_at one.base (take (length log.history) one.history)) same ∙ ap (state_at log.base) (take-length log.history) in
         record {
           turn = record { message = message; moments = moment ∷ []; words = words; entries = []; case = full (length log.history); answer = bytes };
           message_is = refl;

@@ -74,17 +74,17 @@ module _ (a b : Standing) (stays : Stays a b) (text given missing : List ℕ) (b
   -- a text that was given for an ending
   finishes-with : (ending : Ending) → FitsEnding ending [] b.buffer (told_text a.told ++ text) → (ending ≢ WriteFault → missing ≡ []) → (ending ≡ WriteFault → Rises a.ends.sink_faults b.ends.sink_faults) → Finishes ending a b
   finishes-with ending fits complete caused = record {
-      turns = [];
-      taken = [];
-      out = given;
-      missing = missing;
-      text = told_text a.told ++ text;
-      goes = goes;
-      said = ap (λ bytes. told_text a.told ++ bytes) (sym bytes_are);
-      complete = complete;
-      fits = fits;
-      caused = caused;
-    }
+    turns = [];
+    taken = [];
+    out = given;
+    missing = missing;
+    text = told_text a.told ++ text;
+    goes = goes;
+    said = ap (λ bytes. told_text a.told ++ bytes) (sym bytes_are);
+    complete = complete;
+    fits = fits;
+    caused = caused;
+  }
 
 -- a text that is to end the link
 pub moves-saying : (a b : Standing) (text : List ℕ) (done : Ending) (result : Option Ending) → Says a.ends b.ends text (Some done) result → Stays a b → done ≢ WriteFault
@@ -93,6 +93,7 @@ moves-saying a b text done result says stays other fits faulty = by says.outcome
   where
     goes : Goes a b [] [] says.given
     goes = goes-given a b says.given stays says.same says.gives says.kept
+
     by : ((result ≡ Some done) × (says.missing ≡ [])) ⊎ ((result ≡ Some WriteFault) × Rises a.ends.sink_faults b.ends.sink_faults) → Moves result a b
     by (inl said) = subst (λ r. Moves r a b) (sym said.0) (finishes-with a b stays text says.given says.missing says.bytes_are goes done fits (λ _. said.1) (λ is. absurd (other is)))
     by (inr fault) = subst (λ r. Moves r a b) (sym fault.0) (finishes-with a b stays text says.given says.missing says.bytes_are goes WriteFault faulty (λ differs. absurd (differs refl)) (λ _. fault.1))
@@ -100,9 +101,9 @@ moves-saying a b text done result says stays other fits faulty = by says.outcome
 -- the ending of a text that was given
 pub ending-saying : (P : Ending → Type 0) (old new : Ends) (text : List ℕ) (done : Ending) (result : Option Ending) → Says old new text (Some done) result → P done → P WriteFault → IsSomeAnd result P
 ending-saying P old new text done result says holds faulty = elim says.outcome [
-    inl said ↦ subst (λ r. IsSomeAnd r P) (sym said.0) holds
+  | inl said ↦ subst (λ r. IsSomeAnd r P) (sym said.0) holds
   | inr fault ↦ subst (λ r. IsSomeAnd r P) (sym fault.0) faulty
-  ]
+]
 
 -- one message: it was handled, and then its answer was given
 module _ (a b : Standing) (now : Ends) (message : Message) (place : Place) (text : Option (List ℕ)) (closing : Bool) (result : Option Ending)
@@ -137,28 +138,28 @@ module _ (a b : Standing) (now : Ends) (message : Message) (place : Place) (text
 
   goes-on : closing ≡ false → says.missing ≡ [] → Continues a b
   goes-on is none = record {
-      turns = turn ∷ [];
-      taken = [];
-      out = says.given;
-      goes = goes-answered;
-      said = ap (λ bytes. told_text a.told ++ bytes) (sym (append-nil says.given)) ∙ ap (λ missing. told_text a.told ++ (says.given ++ missing)) (sym none)
-          ∙ said-answer ∙ ap (λ told. flat_map output_of (turn ∷ []) ++ told_text told) (sym untold);
-      open_ = (closes-turn false is, tt);
-    }
+    turns = turn ∷ [];
+    taken = [];
+    out = says.given;
+    goes = goes-answered;
+    said = ap (λ bytes. told_text a.told ++ bytes) (sym (append-nil says.given)) ∙ ap (λ missing. told_text a.told ++ (says.given ++ missing)) (sym none)
+        ∙ said-answer ∙ ap (λ told. flat_map output_of (turn ∷ []) ++ told_text told) (sym untold);
+    open_ = (closes-turn false is, tt);
+  }
 
   finishes-answer : (ending : Ending) → FitsEnding ending (turn ∷ []) b.buffer [] → (ending ≢ WriteFault → says.missing ≡ []) → (ending ≡ WriteFault → Rises now.sink_faults b.ends.sink_faults) → Finishes ending a b
   finishes-answer ending fits complete caused = record {
-      turns = turn ∷ [];
-      taken = [];
-      out = says.given;
-      missing = says.missing;
-      text = [];
-      goes = goes-answered;
-      said = said-answer;
-      complete = complete;
-      fits = fits;
-      caused = λ is. rises-earlier a.ends.sink_faults now.sink_faults b.ends.sink_faults sink-kept (caused is);
-    }
+    turns = turn ∷ [];
+    taken = [];
+    out = says.given;
+    missing = says.missing;
+    text = [];
+    goes = goes-answered;
+    said = said-answer;
+    complete = complete;
+    fits = fits;
+    caused = λ is. rises-earlier a.ends.sink_faults now.sink_faults b.ends.sink_faults sink-kept (caused is);
+  }
 
   last-closes : closing ≡ true → LastCloses (turn ∷ [])
   last-closes is = ([], turn, refl, tt, closes-turn true is)
@@ -173,35 +174,35 @@ module _ (a b : Standing) (now : Ends) (message : Message) (place : Place) (text
 
   pub moves-turn : Moves result a b
   moves-turn = elim says.outcome [
-      inl said ↦ said-all closing refl said.0 said.1
+    | inl said ↦ said-all closing refl said.0 said.1
     | inr fault ↦ subst (λ r. Moves r a b) (sym fault.0) (finishes-answer WriteFault (inl (some-closing closing refl, refl)) (λ differs. absurd (differs refl)) (λ _. fault.1))
-    ]
+  ]
 
 -- the source gave some bytes, or stopped
 pub reads-on : (before after : Ends) (old new : Connection) (log : Log) → ReadsOn before after old new → Continues (standing before log old) (standing after log new)
 reads-on before after old new log reads = record {
-    turns = [];
-    taken = reads.taken;
-    out = [];
-    goes = goes-read (standing before log old) (standing after log new) reads.taken refl reads.places reads.same reads.bytes reads.kept reads.buffer reads.budget;
-    said = append-nil (told_text old.told) ∙ ap told_text (sym reads.told);
-    open_ = tt;
-  }
+  turns = [];
+  taken = reads.taken;
+  out = [];
+  goes = goes-read (standing before log old) (standing after log new) reads.taken refl reads.places reads.same reads.bytes reads.kept reads.buffer reads.budget;
+  said = append-nil (told_text old.told) ∙ ap told_text (sym reads.told);
+  open_ = tt;
+}
 
 -- nothing was given for an ending
 pub finishes-quiet : (a : Standing) (ending : Ending) → FitsEnding ending [] a.buffer (told_text a.told) → ending ≢ WriteFault → Finishes ending a a
 finishes-quiet a ending fits other = record {
-    turns = [];
-    taken = [];
-    out = [];
-    missing = [];
-    text = told_text a.told;
-    goes = goes-given a a [] (record { log = refl; places = refl; buffer = refl; budget = refl }) refl (Appends-nil a.ends.given) (omega arith);
-    said = append-nil (told_text a.told);
-    complete = λ _. refl;
-    fits = fits;
-    caused = λ is. absurd (other is);
-  }
+  turns = [];
+  taken = [];
+  out = [];
+  missing = [];
+  text = told_text a.told;
+  goes = goes-given a a [] (record { log = refl; places = refl; buffer = refl; budget = refl }) refl (Appends-nil a.ends.given) (omega arith);
+  said = append-nil (told_text a.told);
+  complete = λ _. refl;
+  fits = fits;
+  caused = λ is. absurd (other is);
+}
 
 -- where the source is at its end
 pub finishes-at_end : (a : Standing) (ending : Ending) → ((ending ≡ Ended) × (a.buffer ≡ []) × (a.told ≡ false)) ⊎ ((ending ≡ Cut) × (a.buffer ≢ [])) → IsUnfinishedRest a.buffer (told_text a.told) → Finishes ending a a
@@ -228,14 +229,14 @@ told-both false asked = refl
 
 pub continues-telling : {E : Type 0} (a b : Standing) (asked : Bool) (result : Result Unit E) → GivesAll a.ends b.ends (if a.told then [] else told_text asked) result → IsOk result → Stays a b → b.told ≡ (a.told || asked) → Continues a b
 continues-telling a b asked (Ok done) gives ok stays told = record {
-    turns = [];
-    taken = [];
-    out = gives.given;
-    goes = goes-given a b gives.given stays gives.same gives.gives gives.kept;
-    said = ap (λ bytes. told_text a.told ++ bytes) (sym (append-nil gives.given) ∙ ap (λ missing. gives.given ++ missing) (sym gives.complete) ∙ sym gives.bytes_are)
-        ∙ told-both a.told asked ∙ ap told_text (sym told);
-    open_ = tt;
-  }
+  turns = [];
+  taken = [];
+  out = gives.given;
+  goes = goes-given a b gives.given stays gives.same gives.gives gives.kept;
+  said = ap (λ bytes. told_text a.told ++ bytes) (sym (append-nil gives.given) ∙ ap (λ missing. gives.given ++ missing) (sym gives.complete) ∙ sym gives.bytes_are)
+      ∙ told-both a.told asked ∙ ap told_text (sym told);
+  open_ = tt;
+}
 continues-telling a b asked (Err error) gives ok stays told = cc
 
 pub finishes-telling : {E : Type 0} (a b : Standing) (result : Result Unit E) → GivesAll a.ends b.ends CONTINUE.now result → IsErr result → Stays a b → a.told ≡ false → HasAskingHead b.buffer → Finishes WriteFault a b

@@ -52,30 +52,30 @@ stopped-on before now new old connection within is (inr stopped) = stopped-earli
 -- before anything is done
 pub continues-start : (a : Standing) → Continues a a
 continues-start a = record {
-    turns = [];
-    taken = [];
-    out = [];
-    goes = goes-given a a [] (record { log = refl; places = refl; buffer = refl; budget = refl }) refl (Appends-nil a.ends.given) (omega arith);
-    said = append-nil (told_text a.told);
-    open_ = tt;
-  }
+  turns = [];
+  taken = [];
+  out = [];
+  goes = goes-given a a [] (record { log = refl; places = refl; buffer = refl; budget = refl }) refl (Appends-nil a.ends.given) (omega arith);
+  said = append-nil (told_text a.told);
+  open_ = tt;
+}
 
 pub served-start : (before : Ends) (first : Log) (start : Connection) → start.stop ≡ None → start.told ≡ false → IsServed before before first first start start
 served-start before first start none untold = record {
-    goes = continues-start (standing before first start);
-    told = λ told. let contrary : false ≡ true = sym untold ∙ told in cc;
-    stopped = subst (λ why. IsStopped why before before start.budget) (sym none) tt;
-  }
+  goes = continues-start (standing before first start);
+  told = λ told. let contrary : false ≡ true = sym untold ∙ told in cc;
+  stopped = subst (λ why. IsStopped why before before start.budget) (sym none) tt;
+}
 
 -- one call of the source or one message more
 pub served-on : (before now new : Ends) (first log after : Log) (start connection next : Connection) → IsServed before now first log start connection
     → Continues (standing now log connection) (standing new after next) → IsToldAsked next.told next.buffer.items → KeepsStop now new connection next
     → IsServed before new first after start next
 served-on before now new first log after start connection next served goes told stops = record {
-    goes = continues-trans (standing before first start) (standing now log connection) (standing new after next) served.goes goes;
-    told = told;
-    stopped = stopped-on before now new connection next served.goes.goes.source_faults served.stopped stops;
-  }
+  goes = continues-trans (standing before first start) (standing now log connection) (standing new after next) served.goes goes;
+  told = told;
+  stopped = stopped-on before now new connection next served.goes.goes.source_faults served.stopped stops;
+}
 
 -- how the link ended, by what has caused it
 ends-by : (ending : Ending) (why : Option Stop) (before after : Ends) (turns : List Turn) (budget taken : ℕ) (rest text : List ℕ)

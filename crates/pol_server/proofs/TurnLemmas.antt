@@ -93,9 +93,10 @@ from-earlier low high without_memory within from = tt
 
 pub ordered-earlier : (low later : ℕ) (turns : List Turn) (high : ℕ) → low ≤ later → IsOrdered later turns high → IsOrdered low turns high
 ordered-earlier low later [] high within ordered = omega (arith, within, ordered)
-ordered-earlier low later (turn ∷ turns) high within ordered =
-    (from-earlier low later turn.case within ordered.0,
-     ordered-earlier (low_after low turn.case) (low_after later turn.case) turns high (low_after-later low later turn.case within) ordered.1)
+ordered-earlier low later (turn ∷ turns) high within ordered = (
+  from-earlier low later turn.case within ordered.0,
+  ordered-earlier (low_after low turn.case) (low_after later turn.case) turns high (low_after-later low later turn.case within) ordered.1,
+)
 
 pub ordered-append : (low : ℕ) (turns others : List Turn) (middle high : ℕ) → IsOrdered low turns middle → IsOrdered middle others high → IsOrdered low (turns ++ others) high
 ordered-append low [] others middle high first second = ordered-earlier low middle others high first second

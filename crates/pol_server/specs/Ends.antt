@@ -1,7 +1,7 @@
 -- What the four ends of a link tell at a moment.
-use Rattle.std.specs.Prelude.{◌≡◌, ◌<◌, ◌≤◌, ◌-◌, ◌+◌, ◌^◌, ◌++◌, ℕ, List, [], ◌∷◌, length, Option, Result, MatchResult, OnOk, OnErr}
-use Rattle.std.specs.Io.KnownBytes.{Appends, ReadConsumes, WriteAppends}
-use Rattle.pol_wire.specs.Faults.{CountsFaults, Rises}
+use Rattle.std.specs.Prelude.{◌≡◌, ℕ, List, [], ◌∷◌, Option, Result}
+use Rattle.std.specs.Io.KnownBytes.{ReadConsumes, WriteAppends}
+use Rattle.pol_wire.specs.Faults.{CountsFaults}
 use Rattle.pol_wire.specs.Streams.{IsShifted, GivesNext}
 use Rattle.pol_wire.specs.declared.link.Link.{Link}
 

@@ -1,5 +1,5 @@
 -- A served link: what was taken, answered and given, and how it ended (RFC 9112, section 9).
-use Rattle.std.specs.Prelude.{◌≡◌, ◌≢◌, ◌<◌, ◌≤◌, ◌+◌, ◌-◌, ◌^◌, ◌⊎◌, ⊤, ℕ, List, [], ◌∷◌, ◌++◌, length, map, true, false}
+use Rattle.std.specs.Prelude.{◌≡◌, ◌≢◌, ◌<◌, ◌≤◌, ◌+◌, ◌-◌, ◌^◌, ◌⊎◌, ℕ, List, [], ◌++◌, length, map, true, false}
 use Rattle.std.specs.List.{flat_map, AllByRecursion}
 use Rattle.std.specs.Io.KnownBytes.{Appends, Consumes, IsAtEnd}
 use Rattle.pol_http.specs.Answer.{answer_text}
@@ -73,21 +73,17 @@ pub record ServesLink (base : Rows) (number : ℕ) (before after : Ends) (old ne
   pub text : List ℕ
   pub given : List ℕ
   pub missing : List ℕ
-
   pub takes : Consumes before.left after.left taken
   pub within : length taken ≤ taken_bound
   pub whole : AllByRecursion (λ turn. IsMessage turn.message) turns
   pub cut : taken ≡ flat_map (λ turn. print_message turn.message) turns ++ rest
-
   pub moments : IsShifted before.moments after.moments (flat_map (λ turn. turn.moments) turns)
   pub words : IsShifted before.words after.words (flat_map (λ turn. turn.words) turns)
   pub draws : after.draw_faults < 2 ^ 64 - 1 → before.draw_faults + failed_draws turns ≤ after.draw_faults
-
   pub places : served.places ≡ map place_of turns
   pub history : new ≡ old ++ flat_map (λ turn. turn.entries) turns
   pub answered : AllByRecursion (IsAnswered base number new) turns
   pub ordered : IsOrdered (length old) turns (length new)
-
   pub gives : Appends before.given after.given given
   pub output : given ++ missing ≡ flat_map output_of turns ++ text
   pub complete : served.ending ≢ WriteFault → missing ≡ []

@@ -45,7 +45,7 @@ pub record DrawsWords {E : Type 0} (old new : Ends) (count : ℕ) (result : Resu
   pub shifted : IsShifted old.words new.words words
   pub kept : old.draw_faults ≤ new.draw_faults
   pub drawn : MatchResult result (λ four. (length words ≡ count) × (four ≡ words_of words))
-    (λ _. (length words < count) × (new.draw_faults < 2 ^ 64 - 1 → old.draw_faults + 1 ≤ new.draw_faults))
+      (λ _. (length words < count) × (new.draw_faults < 2 ^ 64 - 1 → old.draw_faults + 1 ≤ new.draw_faults))
 
 -- the bytes of an answer that was made, or of the one that needs no memory
 abbrev pub text_by : Option (List ℕ) → List ℕ

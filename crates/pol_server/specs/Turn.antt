@@ -11,7 +11,6 @@ use Rattle.pol_machine.specs.Machine.{reply_of}
 use Rattle.pol_machine.specs.Rows.{Rows}
 use Rattle.pol_machine.specs.declared.command.Words4.{Words4}
 use Rattle.pol_machine.specs.declared.reply.Refusal.TheVariants as refusal
-use Rattle.pol_machine.specs.declared.reply.Reply.{Reply}
 use Rattle.pol_machine.specs.declared.reply.Reply.TheVariants.{Refused}
 use Rattle.pol_routes.specs.Plan.{plan_of, command_of}
 use Rattle.pol_routes.specs.Texts.{answer_of, refusal_answer, draw_fault_answer}
@@ -88,7 +87,7 @@ pub record IsRead (turn : Turn) (plan : Planned) (moment : ℕ) : Type 0 where
 -- nothing was entered, and what was read is nothing, or one moment and some of the words that the plan asks for
 pub record IsWithoutMemory (turn : Turn) : Type 0 where
   pub reads : ((turn.moments ≡ []) × (turn.words ≡ []))
-    ⊎ ((plan : Planned) × (plan_of turn.message ≡ Ok plan) × (length turn.moments ≡ 1) × (length turn.words ≤ plan.words))
+      ⊎ ((plan : Planned) × (plan_of turn.message ≡ Ok plan) × (length turn.moments ≡ 1) × (length turn.words ≤ plan.words))
   pub entries : turn.entries ≡ []
   pub answer : turn.answer ≡ INSUFFICIENT_STORAGE.now
 

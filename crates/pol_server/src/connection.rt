@@ -13,7 +13,9 @@ use crate::handle::{handle, head_refused_text};
 use crate::{Ending, Place};
 use bytes::BytesMut;
 use httparse::spans::Span;
-use pol_http::{CONTINUE, Head, HeadRefused, INSUFFICIENT_STORAGE, Next, missing_bytes, next_message};
+use pol_http::{
+    CONTINUE, Head, HeadRefused, INSUFFICIENT_STORAGE, Next, missing_bytes, next_message,
+};
 use pol_shared::Kept;
 use pol_types::OutOfMemory;
 use pol_wire::Failed;

@@ -18,7 +18,10 @@ use crate::ends::{Linked, draw_words};
 use httparse::spans::Span;
 use pol_http::{Answer, Head, HeadRefused, write_answer};
 use pol_machine::{Command, Reply};
-use pol_routes::{Planned, RouteRefused, answer_of, command_of, draw_fault_answer, head_refused_answer, plan, refusal_answer};
+use pol_routes::{
+    Planned, RouteRefused, answer_of, command_of, draw_fault_answer, head_refused_answer, plan,
+    refusal_answer,
+};
 use pol_shared::{Kept, Render, Stepped};
 use pol_types::OutOfMemory;
 use std::alloc::Global;
@@ -102,7 +105,11 @@ pub(crate) fn handle<L: Linked>(
 }
 
 /// The text of a refusal, which has none where memory was wanting.
-fn refusal_text(alloc: Global, refused: &RouteRefused, framing: Framing) -> Result<Vec<u8>, OutOfMemory>
+fn refusal_text(
+    alloc: Global,
+    refused: &RouteRefused,
+    framing: Framing,
+) -> Result<Vec<u8>, OutOfMemory>
     ensures refused { OnOk result (refused.now ≢ RouteRefused.OutOfMemory) }
     ensures text { IfOk result (λ bytes. bytes.items ≡ answer_text (framed framing.close framing.head_only (text.refusal_answer refused.now))) }
 {
@@ -142,7 +149,12 @@ fn answer_plan<L: Linked>(
 {
     let moment = link.now();
     match draw_words(link, planned.words) {
-        Ok(words) => step(alloc, catalogue, command_of(planned, moment, words), framing),
+        Ok(words) => step(
+            alloc,
+            catalogue,
+            command_of(planned, moment, words),
+            framing,
+        ),
         Err(_) => Handled {
             place: Place::NoEntry,
             text: draw_fault_text(alloc, framing).ok(),

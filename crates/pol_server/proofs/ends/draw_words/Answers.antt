@@ -5,11 +5,12 @@ use Rattle.pol_server.proofs.ends.draw_words.Goals as goal
 pub loop-place-preserved : goal.loop-place-preserved
 loop-place-preserved g c =
     let before = c.loop-place.invariant in
-    let after = c.with_word-words.ensures in
-    (before.0 ++ c.in_ok-word.word ∷ [],
-     drawn-more _ _ _ before.0 c.in_ok-word.word before.1 c.in_ok-word.ensures,
-     omega (arith, before.2, length-append before.0 (c.in_ok-word.word ∷ [])),
-     kept-more c.loop-place.words c.with_word-words.result before.0 c.loop-place.place c.in_ok-word.word before.2 before.3 after.there after.others)
+    let after = c.with_word-words.ensures in (
+      before.0 ++ c.in_ok-word.word ∷ [],
+      drawn-more _ _ _ before.0 c.in_ok-word.word before.1 c.in_ok-word.ensures,
+      omega (arith, before.2, length-append before.0 (c.in_ok-word.word ∷ [])),
+      kept-more c.loop-place.words c.with_word-words.result before.0 c.loop-place.place c.in_ok-word.word before.2 before.3 after.there after.others,
+    )
 
 pub returns-in_err-word : goal.returns-in_err-word
 returns-in_err-word g c =

@@ -29,4 +29,4 @@ returns-in-Err g c = λ message planned closing heading.
     let read = read-for (ends c.args.link.now) (ends c.now-moment.new.self) (ends c.draw_words.new.link) c.now-moment.result c.args.planned.words (Err c.in-Err.field-0) c.now-moment.ensures.moment draws in
     subst (λ text. Handles (ends c.args.link.now) (ends c.draw_words.new.link) c.args.catalogue.now c.args.catalogue.now message NoEntry (option_map (λ text. text.items) text)) (sym c.ok.ensures.value)
     (handles-undrawn (ends c.args.link.now) (ends c.draw_words.new.link) c.args.catalogue.now message c.args.planned c.now-moment.result draws.words planned read _ draws.drawn.0 (λ below. omega (arith, draws.drawn.1 below, reads-draws (ends c.args.link.now) (ends c.now-moment.new.self) c.now-moment.result c.now-moment.ensures.moment))
-     (kept-text message draw_fault_answer c.args.framing.close c.args.framing.head_only c.draw_fault_text.result closing heading c.draw_fault_text.ensures))
+    (kept-text message draw_fault_answer c.args.framing.close c.args.framing.head_only c.draw_fault_text.result closing heading c.draw_fault_text.ensures))

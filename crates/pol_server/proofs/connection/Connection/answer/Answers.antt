@@ -21,10 +21,11 @@ pub answer_told-requires-clause-parts : goal.answer_told-requires-clause-parts
 answer_told-requires-clause-parts g c =
     let message = c.requires.parts.0 in
     let at = c.requires.parts.1 in
-    let told = c.in-Ok.ensures.told in
-    (message,
-     subst (λ self. IsMessageAt self.buffer.items c.args.head.now c.args.body c.args.body.end message) (sym told) at,
-     ap (λ self. self.told) told ∙ told-or c.args.self.now.buffer.items message (drop c.args.body.end c.args.self.now.buffer.items) c.args.self.now.told c.args.head.now.asks at.reads c.requires.told at.head_is.asks)
+    let told = c.in-Ok.ensures.told in (
+      message,
+      subst (λ self. IsMessageAt self.buffer.items c.args.head.now c.args.body c.args.body.end message) (sym told) at,
+      ap (λ self. self.told) told ∙ told-or c.args.self.now.buffer.items message (drop c.args.body.end c.args.self.now.buffer.items) c.args.self.now.told c.args.head.now.asks at.reads c.requires.told at.head_is.asks,
+    )
 
 pub returns-clause-moves : goal.returns-clause-moves
 returns-clause-moves g c =
@@ -32,6 +33,6 @@ returns-clause-moves g c =
     let told = c.in-Ok.ensures.told in
     moves-after c.answer_told.result (standing (ends c.args.link.now) c.args.catalogue.now c.args.self.now) (standing (ends c.tell.new.link) c.args.catalogue.now c.tell.new.self) (standing (ends c.answer_told.new.link) c.answer_told.new.catalogue c.answer_told.new.self)
     (continues-telling (standing (ends c.args.link.now) c.args.catalogue.now c.args.self.now) (standing (ends c.tell.new.link) c.args.catalogue.now c.tell.new.self) c.args.head.now.asks (Ok c.in-Ok.field-0) c.in-Ok.ensures.given refl
-     (record { log = refl; places = ap (λ self. self.places.items) told; buffer = ap (λ self. self.buffer.items) told; budget = ap (λ self. self.budget) told })
-     (ap (λ self. self.told) told))
+    (record { log = refl; places = ap (λ self. self.places.items) told; buffer = ap (λ self. self.buffer.items) told; budget = ap (λ self. self.budget) told })
+    (ap (λ self. self.told) told))
     c.answer_told.ensures.moves

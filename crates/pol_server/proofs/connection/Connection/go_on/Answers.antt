@@ -32,6 +32,6 @@ returns-clause-moves g c = λ log.
     let told = c.in-Ok.ensures.told in
     moves-after c.wait.result (standing (ends c.args.link.now) log c.args.self.now) (standing (ends c.tell.new.link) log c.tell.new.self) (standing (ends c.wait.new.link) log c.wait.new.self)
     (continues-telling (standing (ends c.args.link.now) log c.args.self.now) (standing (ends c.tell.new.link) log c.tell.new.self) true (Ok c.in-Ok.field-0) c.in-Ok.ensures.given refl
-     (record { log = refl; places = ap (λ self. self.places.items) told; buffer = ap (λ self. self.buffer.items) told; budget = ap (λ self. self.budget) told })
-     (ap (λ self. self.told) told))
+    (record { log = refl; places = ap (λ self. self.places.items) told; buffer = ap (λ self. self.buffer.items) told; budget = ap (λ self. self.budget) told })
+    (ap (λ self. self.told) told))
     (c.wait.ensures.moves log)

@@ -16,4 +16,4 @@ returns-clause-moves g c =
     at.reads.whole (at.reads.bytes_are ∙ ap (λ rest. print_message message ++ rest) (sym c.advance.ensures.items))
     c.in-Ok.ensures.items refl refl (ap told_text c.requires.parts.2) at.head_is.closes
     (subst (λ text. Says (ends c.handle-handled.new.link) (ends c.say.new.link) text (if c.args.head.now.closes then Some Closed else None) c.say.result) c.text_or_none.ensures
-     (subst (λ done. Says (ends c.handle-handled.new.link) (ends c.say.new.link) c.text_or_none.result.now done c.say.result) c.ending_after.ensures c.say.ensures))
+    (subst (λ done. Says (ends c.handle-handled.new.link) (ends c.say.new.link) c.text_or_none.result.now done c.say.result) c.ending_after.ensures c.say.ensures))
