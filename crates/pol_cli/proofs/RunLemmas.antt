@@ -1,0 +1,107 @@
+-- What the reason of a run tells of its link.
+use Rattle.std.proofs.Common.{◌≡◌, ◌≢◌, ◌<◌, ◌≤◌, ◌+◌, ◌⊎◌, ℕ, List, [], ◌++◌, length, Option, Some, None, refl, sym, ap, subst, ◌∙◌, inl, inr, arith, length-append}
+use Rattle.std.specs.Prelude.{IfSome, IsSome, ⊤}
+use Rattle.std.specs.Io.KnownBytes.{Consumes}
+use Rattle.pol_machine.specs.Rows.{Rows, fresh_state}
+use Rattle.pol_shared.specs.History.{Log}
+use Rattle.pol_shared.specs.declared.entry.Entry.{Entry}
+use Rattle.pol_wire.specs.Faults.{Rises}
+use Rattle.pol_cli.specs.declared.words.Plan.{Plan}
+use Rattle.pol_cli.specs.declared.words.Plan.TheVariants.{ExecFresh}
+use Rattle.pol_server.specs.Ends.{Ends}
+use Rattle.pol_server.specs.Link.{EndsBy, taken_bound}
+use Rattle.pol_server.specs.Turn.{Turn}
+use Rattle.pol_server.specs.declared.served.Ending.{Ending}
+use Rattle.pol_server.specs.declared.served.Ending.TheVariants as ending
+use Rattle.pol_cli.specs.Words.{root_secret}
+use Rattle.pol_cli.specs.Run.{HasCause, IsDecided, IsUnfailing, RunsLink, Serves, reason_of, report_of, status_of}
+use Rattle.pol_cli.specs.declared.report.Reason.{Reason}
+use Rattle.pol_cli.specs.declared.report.Reason.TheVariants.{Done, ReadFault, WriteFault, Usage, NoMemory, InputCut, Spent}
+use Rattle.pol_cli.specs.declared.report.Report.{Report}
+
+module _ (before after : Ends) (turns : List Turn) (taken rest text : List ℕ) (takes : Consumes before.left after.left taken) where
+  cause-by : (how : Ending) → EndsBy how before after turns (length taken) rest text → HasCause before after (reason_of how)
+  cause-by ending.Ended ends = record { read_fault = λ is. cc; write_fault = λ is. cc; spent = λ is. cc }
+  cause-by ending.Cut ends = record { read_fault = λ is. cc; write_fault = λ is. cc; spent = λ is. cc }
+  cause-by ending.Closed ends = record { read_fault = λ is. cc; write_fault = λ is. cc; spent = λ is. cc }
+  cause-by ending.ReadFault ends = record { read_fault = λ is. ends.1; write_fault = λ is. cc; spent = λ is. cc }
+  cause-by ending.WriteFault ends = record { read_fault = λ is. cc; write_fault = λ is. ends.0; spent = λ is. cc }
+  cause-by ending.Spent ends = record { read_fault = λ is. cc; write_fault = λ is. cc; spent = λ is. (taken, takes, ends.1) }
+  cause-by ending.NoMemory ends = record { read_fault = λ is. cc; write_fault = λ is. cc; spent = λ is. cc }
+
+-- a run without a fault of its own
+no-cause : (before after : Ends) → HasCause before after NoMemory
+no-cause before after = record { read_fault = λ is. cc; write_fault = λ is. cc; spent = λ is. cc }
+
+cause-serves : (base : Rows) (old new : List Entry) (before after : Ends) (report : Report) → Serves base old before after new report → HasCause before after report.reason
+cause-serves base old new before after report (inl serves) =
+    subst (HasCause before after) (sym (ap (λ report. report.reason) serves.report_is))
+    (cause-by before after serves.link.turns serves.link.taken serves.link.rest serves.link.text serves.link.takes serves.served.ending serves.link.ends)
+cause-serves base old new before after report (inr wanting) =
+    subst (HasCause before after) (sym (ap (λ report. report.reason) wanting.1)) (no-cause before after)
+
+pub cause-run : (secret : List ℕ) (before after : Ends) (report : Report) → RunsLink secret before after report → HasCause before after report.reason
+cause-run secret before after report runs = cause-serves (fresh_state secret) [] runs.0 before after report runs.1
+
+-- fewer bytes than the bound can't be spent
+fewer : (left after : Option (List ℕ)) (taken : List ℕ) → IsSome left → IfSome left (λ bytes. length bytes < taken_bound) → Consumes left after taken → length taken ≢ taken_bound
+fewer None after taken known short takes is = cc
+fewer (Some bytes) None taken known short takes is = absurd takes
+fewer (Some bytes) (Some rest) taken known short takes is = absurd (omega (arith, short, is, ap length takes, length-append taken rest))
+
+pub decided : (before after : Ends) (reason : Reason) → HasCause before after reason → IsUnfailing before after → IsDecided reason
+decided before after Done cause unfailing = tt
+decided before after ReadFault cause unfailing = unfailing.source (cause.read_fault refl)
+decided before after WriteFault cause unfailing = unfailing.sink (cause.write_fault refl)
+decided before after Usage cause unfailing = tt
+decided before after NoMemory cause unfailing = tt
+decided before after InputCut cause unfailing = tt
+decided before after Spent cause unfailing =
+    let spent = cause.spent refl in
+    absurd (fewer before.left after.left spent.0 unfailing.known unfailing.input spent.1 spent.2)
+
+other-by : (how : Ending) → reason_of how ≢ Usage
+other-by ending.Ended is = cc
+other-by ending.Cut is = cc
+other-by ending.Closed is = cc
+other-by ending.ReadFault is = cc
+other-by ending.WriteFault is = cc
+other-by ending.Spent is = cc
+other-by ending.NoMemory is = cc
+
+other-serves : (base : Rows) (old new : List Entry) (before after : Ends) (report : Report) → Serves base old before after new report → report.reason ≢ Usage
+other-serves base old new before after report (inl serves) is = other-by serves.served.ending (sym (ap (λ report. report.reason) serves.report_is) ∙ is)
+other-serves base old new before after report (inr wanting) is = let contrary : NoMemory ≡ Usage = sym (ap (λ report. report.reason) wanting.1) ∙ is in cc
+
+-- a link that was served is no faulty line
+pub other-run : (secret : List ℕ) (before after : Ends) (report : Report) → RunsLink secret before after report → report.reason ≢ Usage
+other-run secret before after report runs = other-serves (fresh_state secret) [] runs.0 before after report runs.1
+
+status-serves : (base : Rows) (old new : List Entry) (before after : Ends) (report : Report) → Serves base old before after new report → report.status ≡ status_of report.reason
+status-serves base old new before after report (inl serves) = ap (λ report. report.status) serves.report_is ∙ ap (λ report. status_of report.reason) (sym serves.report_is)
+status-serves base old new before after report (inr wanting) = ap (λ report. report.status) wanting.1 ∙ ap (λ report. status_of report.reason) (sym wanting.1)
+
+-- the status of a run is that of its reason
+pub status-run : (secret : List ℕ) (before after : Ends) (report : Report) → RunsLink secret before after report → report.status ≡ status_of report.reason
+status-run secret before after report runs = status-serves (fresh_state secret) [] runs.0 before after report runs.1
+
+-- memory was wanting before the link was called
+pub runs-nothing : (secret : List ℕ) (ends : Ends) (report : Report) → report ≡ report_of NoMemory [] → RunsLink secret ends ends report
+runs-nothing secret ends report is = ([], inr (refl, is))
+
+-- what a catalogue that is fresh serves
+pub runs-fresh : (secret : List ℕ) (log : Log) (new : List Entry) (before after : Ends) (report : Report) → log ≡ record { base = fresh_state secret; history = [] }
+    → Serves log.base log.history before after new report → RunsLink secret before after report
+runs-fresh secret log new before after report is serves = (new, subst (λ log. Serves log.base log.history before after new report) is serves)
+
+-- a plan is that of its words
+pub planned-secret : (found : Option Plan) (plan : Plan) (secret : List ℕ) → Some plan ≡ found → found ≡ Some (ExecFresh secret) → root_secret plan ≡ secret
+planned-secret found plan secret one other = let is : plan ≡ ExecFresh secret = cc in ap root_secret is
+
+-- a link that was not called
+pub cause-quiet : (ends : Ends) (report : Report) → (report ≡ report_of Usage []) ⊎ (report ≡ report_of NoMemory []) → HasCause ends ends report.reason
+cause-quiet ends report (inl is) = subst (HasCause ends ends) (sym (ap (λ report. report.reason) is)) (record { read_fault = λ is. cc; write_fault = λ is. cc; spent = λ is. cc })
+cause-quiet ends report (inr is) = subst (HasCause ends ends) (sym (ap (λ report. report.reason) is)) (no-cause ends ends)
+
+pub status-told : (reason : Reason) (report : Report) → report ≡ report_of reason [] → report.status ≡ status_of report.reason
+status-told reason report is = ap (λ report. report.status) is ∙ ap (λ report. status_of report.reason) (sym is)

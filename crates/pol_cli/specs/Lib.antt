@@ -1,0 +1,3 @@
+pub mod Reason
+pub mod Run
+pub mod Words
