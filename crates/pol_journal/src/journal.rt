@@ -43,7 +43,9 @@ impl<D: Disk> Model for Journal<D> {
 }
 
 impl<D: Disk> Journal<D> {
-    /// Makes a journal of a disk without bytes. `first` is what follows the header: records, and a closed gate.
+    /// Makes a journal of this kind on a disk of length 0. `first` is what follows the header: records, and a closed
+    /// gate. A disk that has bytes is `JournalThere` and isn't touched. After a `DiskFault` there is no journal on it, or
+    /// this one.
     pub fn create(disk: &mut D, kind: Kind, first: &[u8]) -> Result<(), JournalRefused>
         ensures moments { (bodies : List (List ℕ)) → first.now ≡ area_of bodies → IsBlank (D.seen disk.old) (D.may_leave disk.old)
             → LeavesOnly D.clock D.left_since disk.old disk.new (IsNoneOrStandsFor kind bodies) }
@@ -116,7 +118,8 @@ impl<D: Disk> Journal<D> {
         }
     }
 
-    /// The next record's body, or None where all were read.
+    /// The next record's body, or None where all were read. `BadRecord` tells the place of the gate whose record is bad;
+    /// after it, as after a fault or want of memory, the next call reads at the same gate again.
     pub fn next_record(&mut self, alloc: Global) -> Result<Option<Vec<u8>>, JournalRefused>
         // The bodies are those that the file's bytes stand for, one after the other, and a refusal is theirs.
         ensures next { (file : List ℕ) (bodies : List (List ℕ)) → HasRead D.seen D.may_leave file bodies self.old
@@ -146,7 +149,9 @@ impl<D: Disk> Journal<D> {
         Ok(Some(body))
     }
 
-    /// Appends a record. After `Unknown` it may be there or not, until a repair.
+    /// Appends a record: at `Ok` no crash takes it away. All records must have been read, and an append that failed been
+    /// repaired. `JournalFull` is a journal that would reach beyond 2^40 bytes, which it leaves as it was. After `Unknown`
+    /// the disk has failed, and the record may be there or not, until a repair. It takes no memory.
     pub fn append(&mut self, body: &[u8]) -> Result<(), JournalRefused>
         requires { IsReady self.old }
         ensures moments { (bodies : List (List ℕ)) → IsAtRest D.seen D.may_leave bodies self.old
@@ -180,8 +185,9 @@ impl<D: Disk> Journal<D> {
         Ok(())
     }
 
-    /// Takes back an append that failed, and syncs. It writes the closed gate only where that append had begun its gate
-    /// write.
+    /// Takes back an append that failed, and syncs: at `Ok` its record is gone, whatever a crash leaves. It writes the
+    /// closed gate only where that append had begun its gate write. After a `DiskFault` it can be called again. It takes
+    /// no memory.
     pub fn repair(&mut self) -> Result<(), JournalRefused>
         requires { HasFailed self.old }
         ensures moments { (bodies : List (List ℕ)) (body : List ℕ) → IsUnsettled D.seen D.may_leave bodies body self.old
