@@ -4,6 +4,8 @@
 
 mod program;
 mod report;
+#[cfg(test)]
+mod tests;
 mod words;
 
 use pol_types::{Listed, Text};

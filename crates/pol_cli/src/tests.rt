@@ -1,0 +1,358 @@
+use crate::program::{Devices, run};
+use crate::words::Words;
+use pol_types::{Listed, Text};
+use pol_wire::{CountingDraw, Draw, Link, MemoryClock, MemoryDraw, MemorySink, MemorySource};
+use std::alloc::{AllocError, Global};
+use std::test::Fail;
+
+/// The line that serves a link.
+const EXEC: &str = "exec --root-secret s3cr3t";
+
+/// The form that opens a session for root.
+const FORM: &str =
+    "grant_type=client_credentials&client_id=root&client_secret=s3cr3t&scope=PRINCIPAL_ROLE%3AALL";
+
+/// The same form with another secret.
+const OTHER_SECRET: &str =
+    "grant_type=client_credentials&client_id=root&client_secret=s3cr3u&scope=PRINCIPAL_ROLE%3AALL";
+
+/// The answer to a client that isn't known by its secret.
+const INVALID_CLIENT: &str =
+    "HTTP/1.1 401 Unauthorized\r\ncontent-type: application/json\r\ncontent-length: 26\r\n\r\n{\"error\":\"invalid_client\"}";
+
+/// The calls that are to fail, counted from 1; 0 stands for none.
+#[derive(Clone, Copy, Default)]
+struct Failing {
+    take: u64,
+    give: u64,
+    word: u64,
+}
+
+/// What came of a run.
+#[derive(Drop)]
+struct Ran {
+    status: u8,
+    output: Vec<u8>,
+}
+
+/// The token request with this form.
+fn token_request(alloc: Global, form: &str) -> Result<String, AllocError> {
+    let length = form.len();
+    format!(in alloc;
+        "POST /api/catalog/v1/oauth/tokens HTTP/1.1\r\nhost: l\r\ncontent-length: {length}\r\n\r\n{form}"
+    )
+}
+
+/// The answer that gives the token of this text.
+fn token_answer(alloc: Global, token: &str) -> Result<String, AllocError> {
+    format!(in alloc;
+        "HTTP/1.1 200 OK\r\ncontent-type: application/json\r\ncontent-length: 175\r\ncache-control: no-store\r\npragma: no-cache\r\n\r\n{{\"access_token\":\"{token}\",\"expires_in\":3600,\"issued_token_type\":\"urn:ietf:params:oauth:token-type:access_token\",\"token_type\":\"bearer\"}}"
+    )
+}
+
+/// The words of a line, which stand between single spaces.
+fn words(alloc: Global, line: &str) -> Result<Words, AllocError> {
+    let mut list = Vec::new(alloc);
+    for word in line.split(' ') {
+        list.push(Text::from(String::from_str(alloc, word)?))?;
+    }
+    Ok(Words {
+        list: Listed::from(list),
+    })
+}
+
+/// Calls that are to fail.
+fn calls(alloc: Global, number: u64) -> Result<Vec<u64>, AllocError> {
+    let mut list = Vec::new(alloc);
+    if number > 0 {
+        list.push(number)?;
+    }
+    Ok(list)
+}
+
+/// Runs a line of words over devices in memory: the input in pieces that end at these places, the clock at 1,000,
+/// and this draw of words.
+fn run_line<W: Draw + Drop>(
+    rt: &HostRuntime,
+    line: &str,
+    input: &[u8],
+    ends: Vec<usize>,
+    draw: W,
+    failing: Failing,
+) -> Result<Ran, Fail> {
+    let alloc = rt.alloc();
+    let devices = Devices {
+        link: Link {
+            source: MemorySource::new(input.to_vec(alloc)?, ends, calls(alloc, failing.take)?),
+            sink: MemorySink::new(Vec::new(alloc), usize::MAX, calls(alloc, failing.give)?),
+            clock: MemoryClock::new(vec![in alloc; 1_000]?),
+            words: draw,
+        },
+    };
+    let (report, devices) = run(rt, &words(alloc, line)?, devices);
+    Ok(Ran {
+        status: report.status,
+        output: devices.link.sink.bytes().to_vec(alloc)?,
+    })
+}
+
+/// Runs `exec` with root's secret over an input in one piece, with words that count from 0.
+fn exec(rt: &HostRuntime, input: &str) -> Result<Ran, Fail> {
+    let alloc = rt.alloc();
+    let draw = CountingDraw::new(Vec::new(alloc));
+    run_line(
+        rt,
+        EXEC,
+        input.as_bytes(),
+        Vec::new(alloc),
+        draw,
+        Failing::default(),
+    )
+}
+
+/// Checks what came of a run.
+fn check(ran: &Ran, status: u8, output: &str) -> Result<(), Fail> {
+    if ran.status != status {
+        return Err(Fail::new("the status is another"));
+    }
+    if ran.output.as_slice() != output.as_bytes() {
+        return Err(Fail::new("the output is another"));
+    }
+    Ok(())
+}
+
+/// Checks what comes of `exec` over an input.
+fn check_exec(rt: &HostRuntime, input: &str, status: u8, output: &str) -> Result<(), Fail> {
+    let ran = exec(rt, input)?;
+    check(&ran, status, output)
+}
+
+/// A text with another behind it.
+fn joined(alloc: Global, text: &str, other: &str) -> Result<String, AllocError> {
+    let mut joined = String::from_str(alloc, text)?;
+    joined.push_str(other)?;
+    Ok(joined)
+}
+
+/// The input of these requests with a token request behind them.
+fn before_token(alloc: Global, requests: &str) -> Result<String, AllocError> {
+    let request = token_request(alloc, FORM)?;
+    joined(alloc, requests, request.as_str())
+}
+
+/// Runs `exec` over an input whose words are these two.
+fn exec_with_words(rt: &HostRuntime, input: &str, first: u64, second: u64) -> Result<Ran, Fail> {
+    let alloc = rt.alloc();
+    let words = vec![in alloc; first, second]?;
+    run_line(
+        rt,
+        EXEC,
+        input.as_bytes(),
+        Vec::new(alloc),
+        MemoryDraw::new(words, Vec::new(alloc)),
+        Failing::default(),
+    )
+}
+
+#[test]
+fn token_is_answered_by_its_exact_bytes(rt: HostRuntime) -> Result<(), Fail> {
+    let alloc = rt.alloc();
+    let input = token_request(alloc, FORM)?;
+    let ran = exec_with_words(
+        &rt,
+        input.as_str(),
+        0x0123_4567_89ab_cdef,
+        0xfedc_ba98_7654_3210,
+    )?;
+    let answer = token_answer(alloc, "00000000000000000123456789abcdeffedcba9876543210")?;
+    check(&ran, 0, answer.as_str())
+}
+
+#[test]
+fn refused_client_takes_no_serial(rt: HostRuntime) -> Result<(), Fail> {
+    let alloc = rt.alloc();
+    let refused = token_request(alloc, OTHER_SECRET)?;
+    let input = before_token(alloc, refused.as_str())?;
+    let token = token_answer(alloc, "000000000000000000000000000000020000000000000003")?;
+    let answers = joined(alloc, INVALID_CLIENT, token.as_str())?;
+    check_exec(&rt, input.as_str(), 0, answers.as_str())
+}
+
+#[test]
+fn input_may_end_anywhere(rt: HostRuntime) -> Result<(), Fail> {
+    check_exec(&rt, "", 0, "")?;
+    check_exec(&rt, "G", 7, "")
+}
+
+/// Runs `exec` over an input in pieces that end at these places.
+fn exec_pieces(rt: &HostRuntime, input: &str, ends: Vec<usize>) -> Result<Ran, Fail> {
+    let draw = CountingDraw::new(Vec::new(rt.alloc()));
+    run_line(rt, EXEC, input.as_bytes(), ends, draw, Failing::default())
+}
+
+/// Checks that an input cut after each byte in turn, and after every byte, comes to the same as in one piece.
+fn check_pieces(rt: &HostRuntime, input: &str, output: &str) -> Result<(), Fail> {
+    let alloc = rt.alloc();
+    let mut every_byte = Vec::new(alloc);
+    for end in 0..input.len() {
+        every_byte.push(end)?;
+        check(&exec_pieces(rt, input, vec![in alloc; end]?)?, 0, output)?;
+    }
+    check(&exec_pieces(rt, input, every_byte)?, 0, output)
+}
+
+#[test]
+fn pieces_make_no_difference(rt: HostRuntime) -> Result<(), Fail> {
+    let alloc = rt.alloc();
+    let refused = token_request(alloc, OTHER_SECRET)?;
+    let input = before_token(alloc, refused.as_str())?;
+    let token = token_answer(alloc, "000000000000000000000000000000020000000000000003")?;
+    let answers = joined(alloc, INVALID_CLIENT, token.as_str())?;
+    check_pieces(&rt, input.as_str(), answers.as_str())
+}
+
+/// Checks the answer of a request with a token request behind it, which is answered unless the first one closes.
+fn check_request(rt: &HostRuntime, request: &str, answer: &str, closes: bool) -> Result<(), Fail> {
+    let alloc = rt.alloc();
+    let input = before_token(alloc, request)?;
+    if closes {
+        return check_exec(rt, input.as_str(), 0, answer);
+    }
+    let token = token_answer(alloc, "000000000000000000000000000000000000000000000001")?;
+    let answers = joined(alloc, answer, token.as_str())?;
+    check_exec(rt, input.as_str(), 0, answers.as_str())
+}
+
+#[test]
+fn each_request_has_its_answer(rt: HostRuntime) -> Result<(), Fail> {
+    let cases = [
+        (
+            "GET /objects/b/x HTTP/1.1\r\nhost: l\r\n\r\n",
+            "HTTP/1.1 501 Not Implemented\r\ncontent-type: application/json\r\ncontent-length: 83\r\n\r\n{\"error\":{\"code\":501,\"message\":\"Not built\",\"type\":\"UnsupportedOperationException\"}}",
+            false,
+        ),
+        (
+            "POST /api/catalog/v1/oauth/tokens HTTP/1.1\r\ntransfer-encoding: chunked\r\n\r\n",
+            "HTTP/1.1 411 Length Required\r\ncontent-type: application/json\r\ncontent-length: 76\r\nconnection: close\r\n\r\n{\"error\":{\"code\":411,\"message\":\"LengthNeeded\",\"type\":\"BadRequestException\"}}",
+            true,
+        ),
+        (
+            "HEAD /x HTTP/1.1\r\n\r\n",
+            "HTTP/1.1 501 Not Implemented\r\n\r\n",
+            false,
+        ),
+        (
+            "GET /x HTTP/1.0\r\n\r\n",
+            "HTTP/1.1 501 Not Implemented\r\ncontent-type: application/json\r\ncontent-length: 83\r\nconnection: close\r\n\r\n{\"error\":{\"code\":501,\"message\":\"Not built\",\"type\":\"UnsupportedOperationException\"}}",
+            true,
+        ),
+        (
+            "POST /api/catalog/v1/oauth/tokens HTTP/1.1\r\nexpect: 100-continue\r\ncontent-length: 29\r\n\r\ngrant_type=client_credentials",
+            "HTTP/1.1 100 Continue\r\n\r\nHTTP/1.1 400 Bad Request\r\ncontent-type: application/json\r\ncontent-length: 27\r\n\r\n{\"error\":\"invalid_request\"}",
+            false,
+        ),
+    ];
+    for (request, answer, closes) in cases {
+        check_request(&rt, request, answer, closes)?;
+    }
+    Ok(())
+}
+
+/// Three token requests, each a piece of its own, over devices where these calls are to fail: the status, and how
+/// many tokens and failed draws are told.
+fn exec_failing(
+    rt: &HostRuntime,
+    request: &str,
+    failing: Failing,
+) -> Result<(u8, usize, usize), Fail> {
+    let alloc = rt.alloc();
+    let input = request.repeat(alloc, 3)?;
+    let length = request.len();
+    let ends = vec![in alloc; length, length * 2]?;
+    let draw = CountingDraw::new(calls(alloc, failing.word)?);
+    let ran = run_line(rt, EXEC, input.as_bytes(), ends, draw, failing)?;
+    Ok((
+        ran.status,
+        count(ran.output.as_slice(), b"HTTP/1.1 200 OK"),
+        count(ran.output.as_slice(), b"HTTP/1.1 503 Service Unavailable"),
+    ))
+}
+
+/// How often a text stands in the bytes.
+fn count(bytes: &[u8], text: &[u8]) -> usize {
+    bytes
+        .windows(text.len().max(1))
+        .filter(|window| *window == text)
+        .count()
+}
+
+#[test]
+fn each_fault_is_told(rt: HostRuntime) -> Result<(), Fail> {
+    let request = token_request(rt.alloc(), FORM)?;
+    for number in 1..=3u8 {
+        let call = u64::from(number);
+        let before = usize::from(number) - 1;
+        let take = Failing {
+            take: call,
+            ..Failing::default()
+        };
+        assert_eq!(&rt; exec_failing(&rt, request.as_str(), take)?, (1, before, 0));
+        let give = Failing {
+            give: call,
+            ..Failing::default()
+        };
+        assert_eq!(&rt; exec_failing(&rt, request.as_str(), give)?, (1, before, 0));
+        let word = Failing {
+            word: call,
+            ..Failing::default()
+        };
+        assert_eq!(&rt; exec_failing(&rt, request.as_str(), word)?, (0, 2, 1));
+    }
+    Ok(())
+}
+
+/// Runs a line of words over one token request.
+fn run_request(rt: &HostRuntime, line: &str) -> Result<Ran, Fail> {
+    let alloc = rt.alloc();
+    let request = token_request(alloc, FORM)?;
+    let draw = CountingDraw::new(Vec::new(alloc));
+    run_line(
+        rt,
+        line,
+        request.as_bytes(),
+        Vec::new(alloc),
+        draw,
+        Failing::default(),
+    )
+}
+
+#[test]
+fn faulty_words_touch_no_device(rt: HostRuntime) -> Result<(), Fail> {
+    for line in [
+        "",
+        "exec",
+        "exec --root-secret",
+        "exec --root-secret=",
+        "exec --root-secret -x",
+        "exec --root-secret a b",
+        "exec --secret a",
+        "serve --root-secret a",
+        "--help",
+    ] {
+        check(&run_request(&rt, line)?, 2, "")?;
+    }
+    Ok(())
+}
+
+#[test]
+fn secret_may_stand_in_one_word(rt: HostRuntime) -> Result<(), Fail> {
+    let token = token_answer(
+        rt.alloc(),
+        "000000000000000000000000000000000000000000000001",
+    )?;
+    check(
+        &run_request(&rt, "exec --root-secret=s3cr3t")?,
+        0,
+        token.as_str(),
+    )
+}
