@@ -16,6 +16,80 @@ const FORM: &str =
 const OTHER_SECRET: &str =
     "grant_type=client_credentials&client_id=root&client_secret=s3cr3u&scope=PRINCIPAL_ROLE%3AALL";
 
+/// Root's form without a scope.
+const ROOT_FORM: &str = "grant_type=client_credentials&client_id=root&client_secret=s3cr3t";
+
+/// A scope of 16 words, each all roles.
+const SIXTEEN_SCOPES: &str =
+    "&scope=PRINCIPAL_ROLE:ALL+PRINCIPAL_ROLE:ALL+PRINCIPAL_ROLE:ALL+PRINCIPAL_ROLE:ALL+PRINCIPAL_ROLE:ALL+PRINCIPAL_ROLE:ALL+PRINCIPAL_ROLE:ALL+PRINCIPAL_ROLE:ALL+PRINCIPAL_ROLE:ALL+PRINCIPAL_ROLE:ALL+PRINCIPAL_ROLE:ALL+PRINCIPAL_ROLE:ALL+PRINCIPAL_ROLE:ALL+PRINCIPAL_ROLE:ALL+PRINCIPAL_ROLE:ALL+PRINCIPAL_ROLE:ALL";
+
+/// Forms that are refused with status 400, and their errors.
+const REFUSED_FORMS: [(&str, &str); 18] = [
+    ("", "invalid_request"),
+    ("grant_type=client_credentials", "invalid_request"),
+    ("client_id=root&client_secret=s3cr3t", "invalid_request"),
+    (
+        "grant_type=&client_id=root&client_secret=s3cr3t",
+        "invalid_request",
+    ),
+    (
+        "grant_type=client_credentials&grant_type=client_credentials&client_id=root&client_secret=s3cr3t",
+        "invalid_request",
+    ),
+    (
+        "grant_type=client_credentials&client_secret=s3cr3t",
+        "invalid_request",
+    ),
+    (
+        "grant_type=client_credentials&client_id=&client_secret=s3cr3t",
+        "invalid_request",
+    ),
+    (
+        "grant_type=client_credentials&client_id=root&client_id=root&client_secret=s3cr3t",
+        "invalid_request",
+    ),
+    (
+        "grant_type=client_credentials&client_id=root",
+        "invalid_request",
+    ),
+    (
+        "grant_type=client_credentials&client_id=root&client_secret=",
+        "invalid_request",
+    ),
+    (
+        "grant_type=client_credentials&client_id=root&client_secret=s3cr3t&client_secret=s3cr3t",
+        "invalid_request",
+    ),
+    (
+        "grant_type=client_credentials&client_id=root&client_secret=s3cr3t&scope=&scope=",
+        "invalid_request",
+    ),
+    (
+        "grant_type=client_credentials&client_id=%ff&client_secret=s3cr3t",
+        "invalid_request",
+    ),
+    (
+        "grant_type=client_credentials&client_id=root&client_secret=s3cr3t&scope=PRINCIPAL_ROLE:ALL+PRINCIPAL_ROLE:ALL+PRINCIPAL_ROLE:ALL+PRINCIPAL_ROLE:ALL+PRINCIPAL_ROLE:ALL+PRINCIPAL_ROLE:ALL+PRINCIPAL_ROLE:ALL+PRINCIPAL_ROLE:ALL+PRINCIPAL_ROLE:ALL+PRINCIPAL_ROLE:ALL+PRINCIPAL_ROLE:ALL+PRINCIPAL_ROLE:ALL+PRINCIPAL_ROLE:ALL+PRINCIPAL_ROLE:ALL+PRINCIPAL_ROLE:ALL+PRINCIPAL_ROLE:ALL+PRINCIPAL_ROLE:ALL",
+        "invalid_request",
+    ),
+    (
+        "grant_type=password&client_secret=s3cr3t",
+        "invalid_request",
+    ),
+    (
+        "grant_type=password&client_id=root&client_secret=s3cr3t",
+        "unsupported_grant_type",
+    ),
+    (
+        "grant_type=client_credentials&client_id=root&client_secret=s3cr3t&scope=PRINCIPAL_ROLE:ALL++PRINCIPAL_ROLE:ALL",
+        "invalid_scope",
+    ),
+    (
+        "grant_type=client_credentials&client_id=root&client_secret=s3cr3t&scope=PRINCIPAL_ROLE:nobody",
+        "invalid_scope",
+    ),
+];
+
 /// The answer to a client that isn't known by its secret.
 const INVALID_CLIENT: &str =
     "HTTP/1.1 401 Unauthorized\r\ncontent-type: application/json\r\ncontent-length: 26\r\n\r\n{\"error\":\"invalid_client\"}";
@@ -182,6 +256,43 @@ fn refused_client_takes_no_serial(rt: HostRuntime) -> Result<(), Fail> {
 fn input_may_end_anywhere(rt: HostRuntime) -> Result<(), Fail> {
     check_exec(&rt, "", 0, "")?;
     check_exec(&rt, "G", 7, "")
+}
+
+/// Checks that a form is refused by this error.
+fn check_refused(rt: &HostRuntime, form: &str, error: &str) -> Result<(), Fail> {
+    let alloc = rt.alloc();
+    let input = token_request(alloc, form)?;
+    let body = format!(in alloc; "{{\"error\":\"{error}\"}}")?;
+    let length = body.len();
+    let answer = format!(in alloc;
+        "HTTP/1.1 400 Bad Request\r\ncontent-type: application/json\r\ncontent-length: {length}\r\n\r\n{body}"
+    )?;
+    check_exec(rt, input.as_str(), 0, answer.as_str())
+}
+
+#[test]
+fn refused_forms_are_told_why(rt: HostRuntime) -> Result<(), Fail> {
+    for (form, error) in REFUSED_FORMS {
+        check_refused(&rt, form, error)?;
+    }
+    Ok(())
+}
+
+/// Checks that root's form with this behind it is answered by a token.
+fn check_opened(rt: &HostRuntime, more: &str) -> Result<(), Fail> {
+    let alloc = rt.alloc();
+    let form = joined(alloc, ROOT_FORM, more)?;
+    let input = token_request(alloc, form.as_str())?;
+    let answer = token_answer(alloc, "000000000000000000000000000000000000000000000001")?;
+    check_exec(rt, input.as_str(), 0, answer.as_str())
+}
+
+#[test]
+fn scope_may_be_left_out_or_name_roles(rt: HostRuntime) -> Result<(), Fail> {
+    check_opened(&rt, "")?;
+    check_opened(&rt, "&scope=")?;
+    check_opened(&rt, "&scope=PRINCIPAL_ROLE:service_admin")?;
+    check_opened(&rt, SIXTEEN_SCOPES)
 }
 
 /// Runs `exec` over an input in pieces that end at these places.
