@@ -2,7 +2,7 @@ ghost use Rattle.std.specs.Prelude.{◌≡◌, ◌≤◌, IfOk, OnOk, is_err, le
 ghost use Rattle.pol_journal.specs.Journal.{IsReady};
 
 use crate::{Journal, JournalRefused, Kind};
-use pol_disk::{Content, Disk, FileDisk, MemoryDisk};
+use pol_disk::{Content, Disk, FileDisk, HollowDisk, MemoryDisk};
 use std::alloc::Global;
 use std::fs;
 use std::test::Fail;
@@ -98,19 +98,89 @@ fn rank_with(alloc: Global, content: &Content, filling: &[u8]) -> Result<Option<
     Ok(Some(rank_of(alloc, &image)?))
 }
 
+// The least and the greatest of these ranks and of that of the image with this filling, where there is one.
+fn ranks_with(
+    alloc: Global,
+    content: &Content,
+    ranks: (usize, usize),
+    filling: &[u8],
+) -> Result<(usize, usize), Fail> {
+    let Some(rank) = rank_with(alloc, content, filling)? else {
+        return Ok(ranks);
+    };
+    Ok((ranks.0.min(rank), ranks.1.max(rank)))
+}
+
 // The least and the greatest rank of the images of a moment that have one byte wherever a crash may leave any.
 fn ranks_at(alloc: Global, content: &Content, bytes: &[u8]) -> Result<(usize, usize), Fail> {
-    let (mut least, mut most) = (4, 0);
+    let mut ranks = (4, 0);
     for size in content.shortest_image()..=content.longest_image() {
         for byte in bytes {
             let filling = vec![in alloc; *byte; size]?;
-            if let Some(rank) = rank_with(alloc, content, &filling)? {
-                least = least.min(rank);
-                most = most.max(rank);
+            ranks = ranks_with(alloc, content, ranks, &filling)?;
+        }
+    }
+    Ok(ranks)
+}
+
+// The byte at a place of a file, or a zero past its end.
+fn byte_at(file: &[u8], place: usize) -> u8 {
+    file.get(place).copied().unwrap_or(0)
+}
+
+// So many bytes: those of one file in front of a place, and those of another behind it.
+fn mixed(
+    alloc: Global,
+    front: &[u8],
+    cut: usize,
+    rest: &[u8],
+    size: usize,
+) -> Result<Vec<u8>, Fail> {
+    let mut bytes = Vec::with_capacity(alloc, size)?;
+    for place in 0..size {
+        bytes.push(byte_at(if place < cut { front } else { rest }, place))?;
+    }
+    Ok(bytes)
+}
+
+// These ranks with those of the images of a moment that hold, wherever a crash may leave any bytes, those of one file
+// in front of a place, and those of another behind it. The places are those where the files differ, and the end.
+fn mixed_ranks(
+    alloc: Global,
+    content: &Content,
+    ranks: (usize, usize),
+    front: &[u8],
+    rest: &[u8],
+) -> Result<(usize, usize), Fail> {
+    let mut ranks = ranks;
+    for size in content.shortest_image()..=content.longest_image() {
+        for cut in 0..=size {
+            if cut == size || byte_at(front, cut) != byte_at(rest, cut) {
+                let filling = mixed(alloc, front, cut, rest, size)?;
+                ranks = ranks_with(alloc, content, ranks, &filling)?;
             }
         }
     }
-    Ok((least, most))
+    Ok(ranks)
+}
+
+// The ranks of the images of a moment: those that have one byte where a crash may leave any, and those that mix what
+// stood there a moment before with what stands there in the end.
+fn ranks_of_moment(
+    alloc: Global,
+    disk: &MemoryDisk,
+    moment: u64,
+    bytes: &[u8],
+) -> Result<(usize, usize), Fail>
+    requires { moment ≤ length disk.now.past }
+{
+    let content = disk.content_at(moment);
+    let single = content.shortest_image() == content.longest_image();
+    let ranks = ranks_at(alloc, content, if single { bytes } else { &[1, 2] })?;
+    let old = disk.content_at(moment.saturating_sub(1)).seen();
+    let new = disk.content_at(disk.moment()).seen();
+    let ranks = mixed_ranks(alloc, content, ranks, new, old)?;
+    mixed_ranks(alloc, content, ranks, old, new)
 }
 
 // The least rank of the last moment of a disk, of which no earlier moment is to have had more, nor one more than one
@@ -118,9 +188,7 @@ fn ranks_at(alloc: Global, content: &Content, bytes: &[u8]) -> Result<(usize, us
 fn last_rank(alloc: Global, disk: &MemoryDisk, bytes: &[u8]) -> Result<usize, Fail> {
     let mut least = 0;
     for moment in 0..=disk.moment() {
-        let content = disk.content_at(moment);
-        let single = content.shortest_image() == content.longest_image();
-        let (low, high) = ranks_at(alloc, content, if single { bytes } else { &[1, 2] })?;
+        let (low, high) = ranks_of_moment(alloc, disk, moment, bytes)?;
         if low < least || high - low.min(high) > 1 {
             return Err(Fail::new("a record is lost"));
         }
@@ -283,6 +351,46 @@ fn append_that_failed_is_there_or_not_until_it_is_repaired(rt: HostRuntime) -> R
         repaired(alloc, 16)?,
         (Err(JournalRefused::DiskFault), (1, 2))
     );
+    Ok(())
+}
+
+// Appends to a journal over a disk that never fails: it stays ready, whatever the answer.
+fn append_hollow(journal: &mut Journal<HollowDisk>, body: &[u8]) -> Result<(), JournalRefused>
+    requires { IsReady journal.old }
+    ensures { IsReady journal.new }
+{
+    journal.append(body)
+}
+
+// A journal over a hollow disk, with a record of this body for each number below 2^20 but 0.
+fn long_journal(body: &[u8]) -> Result<Journal<HollowDisk>, Fail>
+    ensures { IfOk result IsReady }
+{
+    let Ok(mut journal) = Journal::fresh(HollowDisk::new(0), Kind::Catalogue, &[0]) else {
+        return Err(Fail::new("no journal"));
+    };
+    for _ in 1..1_048_576 {
+        append_hollow(&mut journal, body)?;
+    }
+    Ok(journal)
+}
+
+#[test]
+fn journal_reaches_2_to_40_bytes_and_no_further(rt: HostRuntime) -> Result<(), Fail> {
+    let body = vec![in rt.alloc(); 7; 1_048_576]?;
+    let mut journal = long_journal(&body[9..])?;
+    let full = JournalRefused::JournalFull {
+        length: 1_099_510_579_265,
+        wanted: 1_099_511_627_777,
+    };
+    assert_eq!(rt; append_hollow(&mut journal, &body[73..]), Err(full));
+    assert_eq!(rt; append_hollow(&mut journal, &body[74..]), Ok(()));
+    let full = JournalRefused::JournalFull {
+        length: 1_099_511_627_776,
+        wanted: 1_099_511_627_785,
+    };
+    assert_eq!(rt; append_hollow(&mut journal, b""), Err(full));
+    assert_eq!(rt; journal.close().length(), Ok(1_099_511_627_776));
     Ok(())
 }
 
