@@ -10,7 +10,7 @@ use std::alloc::{AllocError, Global};
 use std::test::Fail;
 
 /// An answer of the reader without its ranges.
-#[derive(Clone, Copy, Debug, PartialEq, Eq)]
+#[derive(Clone, Copy, PartialEq)]
 enum Told {
     Whole { closes: bool, asks: bool },
     Continue,
@@ -268,7 +268,8 @@ fn head_with(alloc: Global, padding: usize, more: usize) -> Result<Vec<u8>, Allo
     ensures { IfOk result (λ head. 2 ≤ vec_len head) }
 {
     let mut head = Vec::from_slice(alloc, b"GET / HTTP/1.1\r\na:")?;
-    head.extend_from_slice(vec![in alloc; b'x'; padding]?.as_slice())?;
+    let length = head.len().saturating_add(padding);
+    head.resize(length, b'x')?;
     head.extend_from_slice(b"\r\n")?;
     for _ in 0..more {
         head.extend_from_slice(b"a:\r\n")?;
@@ -277,17 +278,10 @@ fn head_with(alloc: Global, padding: usize, more: usize) -> Result<Vec<u8>, Allo
     Ok(head)
 }
 
-/// Whether that head is answered alike however it is cut, once `settled` bytes are there.
-fn is_settled(
-    alloc: Global,
-    padding: usize,
-    more: usize,
-    last: Told,
-    settled: usize,
-) -> Result<bool, AllocError> {
-    let input = head_with(alloc, padding, more)?;
-    let different = first_difference(input.as_slice(), 0, last, settled);
-    Ok(input.len() == settled && different.is_none())
+/// Whether the input has so many bytes, and is answered alike however it is cut, once they are
+/// there.
+fn is_settled(input: &[u8], last: Told, settled: usize) -> bool {
+    input.len() == settled && first_difference(input, 0, last, settled).is_none()
 }
 
 #[test]
@@ -302,7 +296,8 @@ fn inputs_are_answered_alike_however_they_are_cut(rt: HostRuntime) -> Result<(),
         (0, 63, WHOLE, 274),
         (0, 64, BAD_HEAD, 278),
     ] {
-        let is_settled = is_settled(rt.alloc(), padding, more, last, settled)?;
+        let input = head_with(rt.alloc(), padding, more)?;
+        let is_settled = is_settled(&input, last, settled);
         assert!(rt; is_settled, "at {settled} bytes");
     }
     Ok(())
@@ -373,16 +368,22 @@ enum Kind {
     Length,
 }
 
+/// The bytes of the text.
+fn content(alloc: Global, text: &str) -> Result<Bytes, AllocError>
+    ensures { IfOk result (λ bytes. bytes ≡ text.now) }
+{
+    Ok(Bytes::from(Vec::from_slice(alloc, text.as_bytes())?))
+}
+
 /// A body of that kind made of the text, or of its length.
 fn body(alloc: Global, kind: Kind, text: &str) -> Result<Body, AllocError>
     ensures { IfOk result (λ body. (length_of body ≡ 0) ⊎ (length_of body ≡ length text.now)) }
 {
-    let bytes = Bytes::from(Vec::from_slice(alloc, text.as_bytes())?);
     Ok(match kind {
         Kind::Nothing => Body::Nothing,
-        Kind::Json => Body::Json(bytes),
-        Kind::Token => Body::Token(bytes),
-        Kind::Object => Body::Object(bytes),
+        Kind::Json => Body::Json(content(alloc, text)?),
+        Kind::Token => Body::Token(content(alloc, text)?),
+        Kind::Object => Body::Object(content(alloc, text)?),
         Kind::Length => Body::Length(text.len() as u64),
     })
 }
