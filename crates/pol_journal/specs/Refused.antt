@@ -1,10 +1,21 @@
 -- Why each call of a journal may be refused.
-use Rattle.std.specs.Prelude.{ℕ, ◌≡◌, ◌≢◌, ◌^◌, ◌-◌, ◌<◌, ◌≤◌, min, List, Option, IfSome, ⊤}
+use Rattle.std.specs.Prelude.{ℕ, ◌≡◌, ◌≢◌, ◌^◌, ◌-◌, ◌<◌, ◌≤◌, ◌++◌, min, List, Option, IfSome, ⊤, codes, decimal}
 use Rattle.pol_wire.specs.Faults.{Rises}
 use Rattle.pol_journal.specs.Format.{IsNoJournal, IsBadAt, IsBroken}
 use Rattle.pol_journal.specs.declared.kind.Kind.{Kind}
 use Rattle.pol_journal.specs.declared.refused.JournalRefused.{JournalRefused}
 use Rattle.pol_journal.specs.declared.refused.JournalRefused.TheVariants.{NotAJournal, JournalThere, BadRecord, JournalFull, Unknown, DiskFault, OutOfMemory}
+
+-- the text of a refusal
+abbrev pub refusal_text : JournalRefused → List ℕ
+refusal_text NotAJournal = codes "not a journal"
+refusal_text JournalThere = codes "a journal is there"
+refusal_text (BadRecord at) = codes "bad record at " ++ decimal at
+refusal_text (JournalFull length wanted) =
+    codes "journal of " ++ (decimal length ++ (codes " bytes is full for " ++ decimal wanted))
+refusal_text Unknown = codes "the record may be there or not"
+refusal_text DiskFault = codes "the disk failed"
+refusal_text OutOfMemory = codes "out of memory"
 
 -- the disk has bytes, or it failed in this call
 abbrev pub CreateRefused : Option ℕ → ℕ → ℕ → JournalRefused → Type 0

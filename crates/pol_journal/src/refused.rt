@@ -1,4 +1,4 @@
-ghost use Rattle.std.specs.Prelude.{◌≡◌};
+ghost use Rattle.std.specs.Prelude.{◌≡◌, Some};
 ghost use Rattle.pol_journal.specs.declared.refused.JournalRefused.TheVariants.{DiskFault, OutOfMemory};
 
 use pol_wire::Failed;
@@ -25,6 +25,10 @@ pub enum JournalRefused {
 }
 
 impl fmt::Display for JournalRefused {
+    ghost use Rattle.pol_journal.specs.Refused.{refusal_text};
+
+    ghost output = { λ why. Some (refusal_text why) };
+
     fn fmt<W: fmt::Write>(&self, f: &mut fmt::Formatter<W>) -> fmt::Result {
         match self {
             JournalRefused::NotAJournal => f.write_str("not a journal"),
