@@ -1,0 +1,5 @@
+pub mod BodyLemmas
+pub mod EntriesLemmas
+pub mod ListLemmas
+pub mod PathLemmas
+pub mod ReadingLemmas

@@ -1,0 +1,83 @@
+ghost use Rattle.std.specs.Prelude.{◌≡◌, [], IfOk};
+ghost use Rattle.pol_readers.specs.Reading.{IsUnder};
+
+use crate::path::{Path, Step};
+use pol_types::OutOfMemory;
+use std::alloc::{AllocError, AllocFailed, Global};
+use std::error::Error;
+use std::fmt;
+
+/// Why a value wasn't read: the first field of it that is bad, or want of memory.
+#[derive(Debug, Drop)]
+pub enum ReadError {
+    Field(Path),
+    OutOfMemory,
+}
+
+impl ReadError {
+    /// The value itself is bad. It takes no memory.
+    pub fn here(alloc: Global) -> Self
+        ensures { result ≡ ReadError.Field [] }
+    {
+        ReadError::Field(Path::here(alloc))
+    }
+
+    /// The same error, seen from one step further out. Where there is no memory for the step, that is told instead.
+    pub(crate) fn under(self, step: Result<Step, OutOfMemory>) -> Self
+        ensures { (reached : Step) → IfOk step (λ s. s ≡ reached) → IsUnder reached self result }
+    {
+        match (self, step) {
+            (ReadError::Field(mut path), Ok(step)) => match path.lead(step) {
+                Ok(()) => ReadError::Field(path),
+                Err(OutOfMemory) => ReadError::OutOfMemory,
+            },
+            _ => ReadError::OutOfMemory,
+        }
+    }
+}
+
+impl From<OutOfMemory> for ReadError {
+    ghost use Rattle.pol_readers.specs.declared.error.ReadError.{ReadError};
+
+    ghost from_gives = { λ _ error. error ≡ ReadError.OutOfMemory };
+
+    fn from(_error: OutOfMemory) -> Self {
+        ReadError::OutOfMemory
+    }
+}
+
+impl From<AllocError> for ReadError {
+    ghost use Rattle.pol_readers.specs.declared.error.ReadError.{ReadError};
+
+    ghost from_gives = { λ _ error. error ≡ ReadError.OutOfMemory };
+
+    fn from(_error: AllocError) -> Self {
+        ReadError::OutOfMemory
+    }
+}
+
+impl<T: Drop> From<AllocFailed<T>> for ReadError {
+    ghost use Rattle.pol_readers.specs.declared.error.ReadError.{ReadError};
+
+    ghost from_gives = { λ _ error. error ≡ ReadError.OutOfMemory };
+
+    fn from(_error: AllocFailed<T>) -> Self {
+        ReadError::OutOfMemory
+    }
+}
+
+impl fmt::Display for ReadError {
+    ghost use Rattle.std.specs.Prelude.{Some};
+    ghost use Rattle.pol_readers.specs.Path.{error_text};
+
+    ghost output = { λ error. Some (error_text error) };
+
+    fn fmt<W: fmt::Write>(&self, f: &mut fmt::Formatter<W>) -> fmt::Result {
+        match self {
+            ReadError::Field(path) => write!(f, "Unreadable: {path}"),
+            ReadError::OutOfMemory => write!(f, "{OutOfMemory}"),
+        }
+    }
+}
+
+impl Error for ReadError {}

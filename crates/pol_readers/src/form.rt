@@ -1,0 +1,130 @@
+//! What a form is, and the combinators that forms of objects are made of.
+ghost use Rattle.std.specs.Prelude.{◌≡◌, IfOk};
+ghost use Rattle.serde_json.specs.View.{view};
+ghost use Rattle.pol_readers.specs.Reading.{Reading, Gives, under, as_one};
+ghost use Rattle.pol_readers.specs.Forms as spec;
+ghost use Rattle.pol_readers.specs.declared.path.Step.TheVariants.{Key, Place};
+
+use crate::error::ReadError;
+use crate::path::Step;
+use pol_types::{OutOfMemory, Text};
+use serde_json::Value;
+use std::alloc::Global;
+
+/// A type whose values stand in JSON: its form says what a value of JSON stands for, or which field is the first bad
+/// one.
+pub trait Form: Drop {
+    ghost use Rattle.serde_json.specs.Data.{Data};
+
+    ghost form: { Data → Reading Self };
+
+    /// Reads a value of JSON.
+    fn read(alloc: Global, value: &Value) -> Result<Self, ReadError>
+        ensures { Gives result (form (view value.now)) };
+}
+
+/// What was read of the member of that key, seen from the object.
+pub fn under_key<T>(alloc: Global, key: &str, outcome: Result<T, ReadError>) -> Result<T, ReadError>
+    ensures { (reading : Reading T) → Gives outcome reading → Gives result (under (Key key.now) reading) }
+{
+    match outcome {
+        Ok(value) => Ok(value),
+        Err(error) => Err(error.under(key_step(alloc, key))),
+    }
+}
+
+/// What was read of the member at that place, seen from the list.
+pub fn under_place<T>(place: usize, outcome: Result<T, ReadError>) -> Result<T, ReadError>
+    ensures { (reading : Reading T) → Gives outcome reading → Gives result (under (Place place) reading) }
+{
+    match outcome {
+        Ok(value) => Ok(value),
+        Err(error) => Err(error.under(Ok(Step::Place(place)))),
+    }
+}
+
+/// The step to the member of that key.
+fn key_step(alloc: Global, key: &str) -> Result<Step, OutOfMemory>
+    ensures { IfOk result (λ step. step ≡ Key key.now) }
+{
+    Ok(Step::Key(Text::from(String::from_str(alloc, key)?)))
+}
+
+/// A rule that what was read must meet; else the value itself is bad.
+#[tactic(auto, unfolding(crate::specs::Forms::holds))]
+pub fn holds(alloc: Global, rule: bool) -> Result<(), ReadError>
+    ensures { Gives result (spec.holds rule) }
+{
+    if rule {
+        Ok(())
+    } else {
+        Err(ReadError::here(alloc))
+    }
+}
+
+/// The value must be an object. The form of an object begins with this.
+#[tactic(auto, unfolding(crate::specs::Forms::is_object))]
+pub fn object(alloc: Global, value: &Value) -> Result<(), ReadError>
+    ensures { Gives result (spec.is_object (view value.now)) }
+{
+    holds(alloc, value.is_object())
+}
+
+/// A field that must be there.
+#[tactic(auto, unfolding(crate::specs::Forms::field))]
+pub fn field<F: Form>(alloc: Global, value: &Value, key: &str) -> Result<F, ReadError>
+    ensures { Gives result (spec.field key.now F.form (view value.now)) }
+{
+    let outcome = match value.get(key) {
+        Some(member) => F::read(alloc, member),
+        None => Err(ReadError::here(alloc)),
+    };
+    under_key(alloc, key, outcome)
+}
+
+/// A field that may be absent or null.
+#[tactic(auto, unfolding(crate::specs::Forms::optional))]
+pub fn optional<F: Form>(alloc: Global, value: &Value, key: &str) -> Result<Option<F>, ReadError>
+    ensures { Gives result (spec.optional key.now F.form (view value.now)) }
+{
+    match value.get(key) {
+        Some(member) if !member.is_null() => {
+            let member = under_key(alloc, key, F::read(alloc, member))?;
+            Ok(Some(member))
+        }
+        _ => Ok(None),
+    }
+}
+
+/// A field that must be there and be that word.
+#[tactic(auto, unfolding(crate::specs::Forms::field))]
+pub fn fixed(alloc: Global, value: &Value, key: &str, word: &str) -> Result<(), ReadError>
+    ensures { Gives result (spec.field key.now (spec.fixed word.now) (view value.now)) }
+{
+    let outcome = match value.get(key) {
+        Some(member) => read_fixed(alloc, member, word),
+        None => Err(ReadError::here(alloc)),
+    };
+    under_key(alloc, key, outcome)
+}
+
+/// The value must be that word.
+#[tactic(auto, unfolding(crate::specs::Forms::fixed, crate::specs::Forms::one_of, crate::specs::Forms::text))]
+fn read_fixed(alloc: Global, value: &Value, word: &str) -> Result<(), ReadError>
+    ensures { Gives result (spec.fixed word.now (view value.now)) }
+{
+    match value.as_str() {
+        Some(text) if word == text => Ok(()),
+        _ => Err(ReadError::here(alloc)),
+    }
+}
+
+/// What was read as one field, into which no path goes.
+pub fn whole<T>(alloc: Global, outcome: Result<T, ReadError>) -> Result<T, ReadError>
+    ensures { (reading : Reading T) → Gives outcome reading → Gives result (as_one reading) }
+{
+    match outcome {
+        Err(ReadError::Field(_)) => Err(ReadError::here(alloc)),
+        other => other,
+    }
+}

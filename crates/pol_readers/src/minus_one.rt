@@ -1,0 +1,25 @@
+ghost use Rattle.pol_readers.specs.Forms as spec;
+
+use crate::error::ReadError;
+use crate::form::Form;
+use serde_json::Value;
+use std::alloc::Global;
+
+/// A number of another form, or -1, which some fields give a meaning of its own.
+#[derive(Debug, Drop)]
+pub enum OrMinusOne<F> {
+    MinusOne,
+    Other(F),
+}
+
+#[tactic(auto, unfolding(crate::specs::Forms::or_minus_one))]
+impl<F: Form> Form for OrMinusOne<F> {
+    ghost form = { spec.or_minus_one F.form };
+
+    fn read(alloc: Global, value: &Value) -> Result<Self, ReadError> {
+        match value.as_i64() {
+            Some(-1) => Ok(OrMinusOne::MinusOne),
+            _ => Ok(OrMinusOne::Other(F::read(alloc, value)?)),
+        }
+    }
+}

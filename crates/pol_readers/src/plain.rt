@@ -1,0 +1,31 @@
+//! The forms of texts and truth values.
+ghost use Rattle.pol_readers.specs.Forms as spec;
+
+use crate::error::ReadError;
+use crate::form::Form;
+use pol_types::Text;
+use serde_json::Value;
+use std::alloc::Global;
+
+/// A text.
+#[tactic(auto, unfolding(crate::specs::Forms::text))]
+impl Form for Text {
+    ghost form = { spec.text };
+
+    fn read(alloc: Global, value: &Value) -> Result<Self, ReadError> {
+        match value.as_str() {
+            Some(text) => Ok(Text::from(String::from_str(alloc, text)?)),
+            None => Err(ReadError::here(alloc)),
+        }
+    }
+}
+
+/// `true` or `false`.
+#[tactic(auto, unfolding(crate::specs::Forms::truth))]
+impl Form for bool {
+    ghost form = { spec.truth };
+
+    fn read(alloc: Global, value: &Value) -> Result<Self, ReadError> {
+        value.as_bool().ok_or_else(|| ReadError::here(alloc))
+    }
+}
