@@ -1,14 +1,10 @@
 -- The value that a body is.
-use Rattle.std.proofs.Common.{◌≡◌, ℕ, List, [], Bool, true, false, Some, None, Ok, Err, refl, cond}
+use Rattle.std.proofs.Common.{◌≡◌, ℕ, List, [], Bool, true, false, None, Err, refl, cond}
 use Rattle.std.specs.Str.{IsUtf8, is_utf8}
-use Rattle.std.proofs.lemmas.Str.{is_utf8-from_IsUtf8, IsUtf8-from_is_utf8}
-use Rattle.serde_json.specs.Data.{Data}
+use Rattle.std.proofs.lemmas.Str.{IsUtf8-from_is_utf8}
 use Rattle.serde_json.specs.Read.{read}
 use Rattle.pol_readers.specs.Reading.{found}
 use Rattle.pol_readers.specs.Forms.{data_of}
-
-pub data_read : (bytes : List ℕ) (d : Data) → IsUtf8 bytes → read bytes ≡ Some d → found (data_of bytes) ≡ Ok d
-data_read bytes d valid reads = rw (is_utf8-from_IsUtf8 bytes valid, reads) refl
 
 refused_at : (bytes : List ℕ) (b : Bool) → is_utf8 bytes ≡ b → (IsUtf8 bytes → read bytes ≡ None) → found (cond b (read bytes) None) ≡ Err []
 refused_at bytes true is unread = rw (unread (IsUtf8-from_is_utf8 bytes is)) refl

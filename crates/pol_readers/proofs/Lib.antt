@@ -1,5 +1,5 @@
 pub mod BodyLemmas
 pub mod EntriesLemmas
+pub mod KeyLemmas
 pub mod ListLemmas
 pub mod PathLemmas
-pub mod ReadingLemmas

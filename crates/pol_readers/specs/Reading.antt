@@ -43,9 +43,3 @@ abbrev pub GivesBy : {A B : Type 0} → (A → B) → Result A ReadError → Rea
 GivesBy meaning (Ok value) reading = reading ≡ Ok (meaning value)
 GivesBy meaning (Err (Field path)) reading = reading ≡ Err path
 GivesBy meaning (Err OutOfMemory) reading = ⊤
-
--- the second error is the first from one step further out, or want of memory
-abbrev pub IsUnder : Step → ReadError → ReadError → Type 0
-IsUnder step (Field path) (Field longer) = longer ≡ step ∷ path
-IsUnder step OutOfMemory (Field longer) = ⊥
-IsUnder step error OutOfMemory = ⊤

@@ -6,6 +6,7 @@ ghost use Rattle.pol_readers.specs.Reading.{Gives};
 
 use crate::error::ReadError;
 use crate::form::{Form, under_key};
+use crate::grammar::Exactly;
 use pol_types::Text;
 use serde_json::{Map, Value};
 use std::alloc::Global;
@@ -60,6 +61,15 @@ impl<F: Form> Form for Entries<F> {
             None => Err(ReadError::here(alloc)),
         }
     }
+}
+
+impl<F: Exactly> Exactly for Entries<F> {
+    ghost use Rattle.pol_readers.specs.Exactness.{entries_exact};
+    ghost use Rattle.pol_readers.specs.Grammar.{HasEntries};
+
+    ghost grammar = { HasEntries F.grammar };
+
+    ghost exact = { entries_exact F.exact };
 }
 
 /// Reads the members of an object.

@@ -1,7 +1,6 @@
-ghost use Rattle.std.specs.Prelude.{◌≡◌, [], IfOk};
-ghost use Rattle.pol_readers.specs.Reading.{IsUnder};
+ghost use Rattle.std.specs.Prelude.{◌≡◌, []};
 
-use crate::path::{Path, Step};
+use crate::path::Path;
 use pol_types::OutOfMemory;
 use std::alloc::{AllocError, AllocFailed, Global};
 use std::error::Error;
@@ -20,19 +19,6 @@ impl ReadError {
         ensures { result ≡ ReadError.Field [] }
     {
         ReadError::Field(Path::here(alloc))
-    }
-
-    /// The same error, seen from one step further out. Where there is no memory for the step, that is told instead.
-    pub(crate) fn under(self, step: Result<Step, OutOfMemory>) -> Self
-        ensures { (reached : Step) → IfOk step (λ s. s ≡ reached) → IsUnder reached self result }
-    {
-        match (self, step) {
-            (ReadError::Field(mut path), Ok(step)) => match path.lead(step) {
-                Ok(()) => ReadError::Field(path),
-                Err(OutOfMemory) => ReadError::OutOfMemory,
-            },
-            _ => ReadError::OutOfMemory,
-        }
     }
 }
 

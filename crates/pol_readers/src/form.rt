@@ -28,8 +28,11 @@ pub fn under_key<T>(alloc: Global, key: &str, outcome: Result<T, ReadError>) -> 
     ensures { (reading : Reading T) → Gives outcome reading → Gives result (under (Key key.now) reading) }
 {
     match outcome {
-        Ok(value) => Ok(value),
-        Err(error) => Err(error.under(key_step(alloc, key))),
+        Err(ReadError::Field(path)) => {
+            let step = key_step(alloc, key)?;
+            Err(ReadError::Field(path.under(step)?))
+        }
+        other => other,
     }
 }
 
@@ -38,8 +41,8 @@ pub fn under_place<T>(place: usize, outcome: Result<T, ReadError>) -> Result<T, 
     ensures { (reading : Reading T) → Gives outcome reading → Gives result (under (Place place) reading) }
 {
     match outcome {
-        Ok(value) => Ok(value),
-        Err(error) => Err(error.under(Ok(Step::Place(place)))),
+        Err(ReadError::Field(path)) => Err(ReadError::Field(path.under(Step::Place(place))?)),
+        other => other,
     }
 }
 

@@ -4,6 +4,7 @@ ghost use Rattle.pol_readers.specs.Reading.{Gives};
 
 use crate::error::ReadError;
 use crate::form::{Form, under_place};
+use crate::grammar::Exactly;
 use pol_types::Listed;
 use serde_json::Value;
 use std::alloc::Global;
@@ -19,6 +20,15 @@ impl<F: Form> Form for Listed<F> {
             None => Err(ReadError::here(alloc)),
         }
     }
+}
+
+impl<F: Exactly> Exactly for Listed<F> {
+    ghost use Rattle.pol_readers.specs.Exactness.{lists_exact};
+    ghost use Rattle.pol_readers.specs.Grammar.{IsList};
+
+    ghost grammar = { IsList F.grammar };
+
+    ghost exact = { lists_exact F.exact };
 }
 
 /// Reads the members of a list.

@@ -2,6 +2,7 @@ ghost use Rattle.pol_readers.specs.Forms as spec;
 
 use crate::error::ReadError;
 use crate::form::Form;
+use crate::grammar::Exactly;
 use serde_json::Value;
 use std::alloc::Global;
 
@@ -22,4 +23,13 @@ impl<F: Form> Form for OrMinusOne<F> {
             _ => Ok(OrMinusOne::Other(F::read(alloc, value)?)),
         }
     }
+}
+
+impl<F: Exactly> Exactly for OrMinusOne<F> {
+    ghost use Rattle.pol_readers.specs.Exactness.{numbers_or_minus_one_exact};
+    ghost use Rattle.pol_readers.specs.Grammar.{IsOrMinusOne};
+
+    ghost grammar = { IsOrMinusOne F.grammar };
+
+    ghost exact = { numbers_or_minus_one_exact F.exact };
 }

@@ -3,6 +3,7 @@ ghost use Rattle.pol_readers.specs.Forms as spec;
 
 use crate::error::ReadError;
 use crate::form::Form;
+use crate::grammar::Exactly;
 use serde_json::Value;
 use std::alloc::Global;
 use std::marker::Model;
@@ -45,4 +46,13 @@ impl<const LOW: u64, const HIGH: u64> Form for Ranged<LOW, HIGH> {
             _ => Err(ReadError::here(alloc)),
         }
     }
+}
+
+impl<const LOW: u64, const HIGH: u64> Exactly for Ranged<LOW, HIGH> {
+    ghost use Rattle.pol_readers.specs.Exactness.{numbers_exact};
+    ghost use Rattle.pol_readers.specs.Grammar.{IsWhole};
+
+    ghost grammar = { IsWhole LOW HIGH };
+
+    ghost exact = { numbers_exact LOW HIGH };
 }

@@ -1,4 +1,4 @@
-ghost use Rattle.std.specs.Prelude.{◌≡◌, ◌∷◌, [], OnOk, OnErr};
+ghost use Rattle.std.specs.Prelude.{◌≡◌, ◌∷◌, [], IfOk};
 
 use pol_types::{OutOfMemory, Text};
 use std::alloc::Global;
@@ -40,13 +40,12 @@ impl Path {
         }
     }
 
-    /// Puts one step before the others.
-    pub fn lead(&mut self, step: Step) -> Result<(), OutOfMemory>
-        ensures ok { OnOk result (self.new ≡ step ∷ self.old) }
-        ensures err { OnErr result (self.new ≡ self.old) }
+    /// The same path, seen from one step further out.
+    pub fn under(mut self, step: Step) -> Result<Self, OutOfMemory>
+        ensures { IfOk result (λ path. path ≡ step ∷ self) }
     {
         self.steps.push(step)?;
-        Ok(())
+        Ok(self)
     }
 }
 

@@ -3,6 +3,7 @@ ghost use Rattle.pol_readers.specs.Forms as spec;
 
 use crate::error::ReadError;
 use crate::form::Form;
+use crate::grammar::Exactly;
 use pol_types::Text;
 use serde_json::Value;
 use std::alloc::Global;
@@ -20,6 +21,15 @@ impl Form for Text {
     }
 }
 
+impl Exactly for Text {
+    ghost use Rattle.pol_readers.specs.Exactness.{texts_exact};
+    ghost use Rattle.pol_readers.specs.Grammar.{IsText};
+
+    ghost grammar = { IsText };
+
+    ghost exact = { texts_exact };
+}
+
 /// `true` or `false`.
 #[tactic(auto, unfolding(crate::specs::Forms::truth))]
 impl Form for bool {
@@ -28,4 +38,13 @@ impl Form for bool {
     fn read(alloc: Global, value: &Value) -> Result<Self, ReadError> {
         value.as_bool().ok_or_else(|| ReadError::here(alloc))
     }
+}
+
+impl Exactly for bool {
+    ghost use Rattle.pol_readers.specs.Exactness.{truth_values_exact};
+    ghost use Rattle.pol_readers.specs.Grammar.{IsTruth};
+
+    ghost grammar = { IsTruth };
+
+    ghost exact = { truth_values_exact };
 }

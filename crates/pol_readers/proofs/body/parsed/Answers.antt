@@ -1,5 +1,6 @@
 use Rattle.std.proofs.lemmas.Bool.{false≢true}
-use Rattle.pol_readers.proofs.BodyLemmas.{data_read, data_refused}
+use Rattle.pol_readers.specs.Exactness.{data_read}
+use Rattle.pol_readers.proofs.BodyLemmas.{data_refused}
 use Rattle.pol_readers.proofs.body.parsed.Goals as goal
 
 pub returns-in-Ok : goal.returns-in-Ok
