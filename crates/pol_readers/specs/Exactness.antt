@@ -49,6 +49,32 @@ then_exact {S} {A} {B} {first} {next} {P} {Q} p q = record { sound = sound; comp
 pub done_exact : {S A : Type 0} (made : A) → Exact {S = S} (λ s. Ok made) (λ s value. value ≡ made)
 done_exact made = record { sound = λ s value is. cc; complete = λ s value is. cc }
 
+-- the same grammar in another form
+pub regrouped : {S A : Type 0} {form : S → Reading A} {P Q : S → A → Type 0} → Exact form P → ((s : S) (value : A) → P s value → Q s value) → ((s : S) (value : A) → Q s value → P s value) → Exact form Q
+regrouped {S} {A} exact onward back = record {
+  sound = λ s value is. onward s value (exact.sound s value is);
+  complete = λ s value so. exact.complete s value (back s value so);
+}
+
+rule_sound : (rule : Bool) (nothing : Unit {0}) → form.holds rule ≡ Ok nothing → rule ≡ true
+unfolding form.holds
+rule_sound true nothing is = refl
+rule_sound false nothing is = absurd (cc)
+
+rule_complete : (rule : Bool) (nothing : Unit {0}) → rule ≡ true → form.holds rule ≡ Ok nothing
+unfolding form.holds
+rule_complete rule nothing is = rw is refl
+
+-- a rule that what was read must meet, told at the value itself or at a step
+pub rules_exact : {S : Type 0} (rule : Bool) → Exact {S = S} (λ s. form.holds rule) (λ s nothing. rule ≡ true)
+rules_exact rule = record { sound = λ s. rule_sound rule; complete = λ s. rule_complete rule }
+
+pub rules_under_exact : {S : Type 0} (step : Step) (rule : Bool) → Exact {S = S} (λ s. under step (form.holds rule)) (λ s nothing. rule ≡ true)
+rules_under_exact step rule = record {
+  sound = λ s nothing is. rule_sound rule nothing (under_ok step (form.holds rule) nothing is);
+  complete = λ s nothing so. rw (rule_complete rule nothing so) refl;
+}
+
 object_sound : (d : Data) (nothing : Unit {0}) → form.is_object d ≡ Ok nothing → IsObject d nothing
 unfolding form.is_object form.holds
 object_sound (object ms) nothing is = (ms, refl)

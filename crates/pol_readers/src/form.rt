@@ -1,7 +1,7 @@
 //! What a form is, and the combinators that forms of objects are made of.
 ghost use Rattle.std.specs.Prelude.{◌≡◌, IfOk};
 ghost use Rattle.serde_json.specs.View.{view};
-ghost use Rattle.pol_readers.specs.Reading.{Reading, Gives, under, as_one};
+ghost use Rattle.pol_readers.specs.Reading.{Reading, Gives, under};
 ghost use Rattle.pol_readers.specs.Forms as spec;
 ghost use Rattle.pol_readers.specs.declared.path.Step.TheVariants.{Key, Place};
 
@@ -32,7 +32,7 @@ pub fn under_key<T>(alloc: Global, key: &str, outcome: Result<T, ReadError>) -> 
             let step = key_step(alloc, key)?;
             Err(ReadError::Field(path.under(step)?))
         }
-        other => other,
+        outcome => outcome,
     }
 }
 
@@ -42,7 +42,7 @@ pub fn under_place<T>(place: usize, outcome: Result<T, ReadError>) -> Result<T, 
 {
     match outcome {
         Err(ReadError::Field(path)) => Err(ReadError::Field(path.under(Step::Place(place))?)),
-        other => other,
+        outcome => outcome,
     }
 }
 
@@ -122,12 +122,13 @@ fn read_fixed(alloc: Global, value: &Value, word: &str) -> Result<(), ReadError>
     }
 }
 
-/// What was read as one field, into which no path goes.
-pub fn whole<T>(alloc: Global, outcome: Result<T, ReadError>) -> Result<T, ReadError>
-    ensures { (reading : Reading T) → Gives outcome reading → Gives result (as_one reading) }
+/// Reads a value as one field, into which no path goes.
+#[tactic(auto, unfolding(crate::specs::Forms::whole))]
+pub fn whole<F: Form>(alloc: Global, value: &Value) -> Result<F, ReadError>
+    ensures { Gives result (spec.whole F.form (view value.now)) }
 {
-    match outcome {
+    match F::read(alloc, value) {
         Err(ReadError::Field(_)) => Err(ReadError::here(alloc)),
-        other => other,
+        outcome => outcome,
     }
 }
