@@ -98,7 +98,7 @@ held_at : (bytes : List ℕ) (d : Data) (b : Bool) → is_utf8 bytes ≡ b → c
 held_at bytes d true is reads = (IsUtf8-from_is_utf8 bytes is, reads)
 held_at bytes d false is reads = absurd (cc)
 
-data_held : (bytes : List ℕ) (d : Data) → form.data_of bytes ≡ Some d → IsUtf8 bytes × (read bytes ≡ Some d)
+pub data_held : (bytes : List ℕ) (d : Data) → form.data_of bytes ≡ Some d → IsUtf8 bytes × (read bytes ≡ Some d)
 data_held bytes d is = held_at bytes d (is_utf8 bytes) refl is
 
 text_sound : (d : Data) (text : List ℕ) → form.text d ≡ Ok text → IsText d text

@@ -1,8 +1,9 @@
 -- Laws of forms: each is exact where its parts are, and none sees keys that it doesn't name.
-use Rattle.std.specs.Prelude.{◌≡◌, ◌≢◌, ℕ, List}
+use Rattle.std.specs.Prelude.{◌≡◌, ◌≢◌, ℕ, List, Some, IsUtf8}
 use Rattle.serde_json.specs.Data.{Data, object, Members, put}
+use Rattle.serde_json.specs.Read.{read}
 use Rattle.pol_readers.specs.declared.path.Step.TheVariants.{Key}
-use Rattle.pol_readers.specs.Reading.{Reading, under}
+use Rattle.pol_readers.specs.Reading.{Reading, bad, under}
 use Rattle.pol_readers.specs.Forms as form
 use Rattle.pol_readers.specs.Grammar.{Exact, IsObject, IsText, IsTruth, IsWhole, IsOrMinusOne, IsOneOf, IsFixed, HasField, MayHaveField, IsList, HasEntries, IsBody}
 
@@ -44,6 +45,11 @@ WholesAreExact part grammar = Exact (form.whole part) grammar
 
 abbrev pub BodiesAreExact : {A : Type 0} → (Data → Reading A) → (Data → A → Type 0) → Type 0
 BodiesAreExact part grammar = Exact (form.body part) (IsBody grammar)
+
+-- bytes that aren't an object in JSON and UTF-8 are bad as a whole
+abbrev pub OtherBodiesAreBad : {A : Type 0} → (Data → Reading A) → Type 0
+OtherBodiesAreBad part =
+    (bytes : List ℕ) → ((ms : Members) → IsUtf8 bytes → read bytes ≢ Some (object ms)) → form.body part bytes ≡ bad
 
 -- a field reads what was put at its key last
 abbrev pub LastOfEqualKeysCounts : {A : Type 0} → (Data → Reading A) → Type 0

@@ -31,6 +31,7 @@ impl<F> Model for Entries<F> {
 }
 
 impl<F> Entries<F> {
+    /// The keys with their values, by rising keys.
     pub fn as_slice(&self) -> &[(Text, F)]
         ensures same { result.now ≡ self.now }
         ensures rise { KeysRise result.now }
@@ -50,7 +51,7 @@ impl<F> From<Entries<F>> for Vec<(Text, F)> {
     }
 }
 
-/// An object whose values are of one form, tested by key.
+/// An object whose values are of one form. They are tested by rising keys, and a bad one's path begins with its key.
 #[tactic(auto, unfolding(crate::specs::Forms::entries))]
 impl<F: Form> Form for Entries<F> {
     ghost form = { spec.entries F.form };

@@ -9,7 +9,9 @@ use std::fmt;
 /// Why a value wasn't read: the first field of it that is bad, or want of memory.
 #[derive(Debug, Drop)]
 pub enum ReadError {
+    /// The path to the first bad field; the empty one is the value itself.
     Field(Path),
+    /// Memory was wanting.
     OutOfMemory,
 }
 

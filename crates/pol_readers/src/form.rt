@@ -11,21 +11,28 @@ use pol_types::{OutOfMemory, Text};
 use serde_json::Value;
 use std::alloc::Global;
 
-/// A type whose values stand in JSON: its form says what a value of JSON stands for, or which field is the first bad
-/// one.
+/// A type whose values stand in JSON (RFC 8259). Its form says what a value of JSON stands for, or the path to its
+/// first bad field.
+///
+/// The form of an object is a chain: `object`, and then one part for each rule, in the order in which they are tested
+/// (`field`, `optional`, `fixed`, `holds`). Its code is the chain of the calls of these names, each with `?`. Keys that
+/// no part names are ignored.
 pub trait Form: Drop {
     ghost use Rattle.serde_json.specs.Data.{Data};
 
+    /// What a value of JSON stands for.
     ghost form: { Data → Reading Self };
 
-    /// Reads a value of JSON.
+    /// Reads a value of JSON. An error is the first bad field, or want of memory, for which no clause names a cause.
     fn read(alloc: Global, value: &Value) -> Result<Self, ReadError>
         ensures { Gives result (form (view value.now)) };
 }
 
-/// What was read of the member of that key, seen from the object.
+/// What was read of the member of that key, seen from the object: a bad field's path begins with the key. Want of
+/// memory is handed on, and told where there is none for the key; a value that was read takes none.
 pub fn under_key<T>(alloc: Global, key: &str, outcome: Result<T, ReadError>) -> Result<T, ReadError>
-    ensures { (reading : Reading T) → Gives outcome reading → Gives result (under (Key key.now) reading) }
+    ensures { (reading : Reading T) → Gives outcome reading
+        → Gives result (under (Key key.now) reading) }
 {
     match outcome {
         Err(ReadError::Field(path)) => {
@@ -36,9 +43,11 @@ pub fn under_key<T>(alloc: Global, key: &str, outcome: Result<T, ReadError>) -> 
     }
 }
 
-/// What was read of the member at that place, seen from the list.
+/// What was read of the member at that place, counted from 0, seen from the list: a bad field's path begins with the
+/// place. Want of memory is handed on, and told where there is none for the step.
 pub fn under_place<T>(place: usize, outcome: Result<T, ReadError>) -> Result<T, ReadError>
-    ensures { (reading : Reading T) → Gives outcome reading → Gives result (under (Place place) reading) }
+    ensures { (reading : Reading T) → Gives outcome reading
+        → Gives result (under (Place place) reading) }
 {
     match outcome {
         Err(ReadError::Field(path)) => Err(ReadError::Field(path.under(Step::Place(place))?)),
@@ -53,7 +62,7 @@ fn key_step(alloc: Global, key: &str) -> Result<Step, OutOfMemory>
     Ok(Step::Key(Text::from(String::from_str(alloc, key)?)))
 }
 
-/// A rule that what was read must meet; else the value itself is bad.
+/// A rule that what was read must meet; else the value itself is bad. Within `under_key` the member of that key is bad.
 #[tactic(auto, unfolding(crate::specs::Forms::holds))]
 pub fn holds(alloc: Global, rule: bool) -> Result<(), ReadError>
     ensures { Gives result (spec.holds rule) }
@@ -65,7 +74,7 @@ pub fn holds(alloc: Global, rule: bool) -> Result<(), ReadError>
     }
 }
 
-/// The value must be an object. The form of an object begins with this.
+/// The value must be an object; else the value itself is bad. The form of an object begins with this.
 #[tactic(auto, unfolding(crate::specs::Forms::is_object))]
 pub fn object(alloc: Global, value: &Value) -> Result<(), ReadError>
     ensures { Gives result (spec.is_object (view value.now)) }
@@ -73,7 +82,7 @@ pub fn object(alloc: Global, value: &Value) -> Result<(), ReadError>
     holds(alloc, value.is_object())
 }
 
-/// A field that must be there.
+/// A field that must be there: an absent one is bad. A null is tested by the field's own form.
 #[tactic(auto, unfolding(crate::specs::Forms::field))]
 pub fn field<F: Form>(alloc: Global, value: &Value, key: &str) -> Result<F, ReadError>
     ensures { Gives result (spec.field key.now F.form (view value.now)) }
@@ -85,7 +94,7 @@ pub fn field<F: Form>(alloc: Global, value: &Value, key: &str) -> Result<F, Read
     under_key(alloc, key, outcome)
 }
 
-/// A field that may be absent or null.
+/// A field that may be absent: a null stands for an absent one.
 #[tactic(auto, unfolding(crate::specs::Forms::optional))]
 pub fn optional<F: Form>(alloc: Global, value: &Value, key: &str) -> Result<Option<F>, ReadError>
     ensures { Gives result (spec.optional key.now F.form (view value.now)) }
@@ -99,7 +108,7 @@ pub fn optional<F: Form>(alloc: Global, value: &Value, key: &str) -> Result<Opti
     }
 }
 
-/// A field that must be there and be that word.
+/// A field that must be there and be that word, as a text.
 #[tactic(auto, unfolding(crate::specs::Forms::field))]
 pub fn fixed(alloc: Global, value: &Value, key: &str, word: &str) -> Result<(), ReadError>
     ensures { Gives result (spec.field key.now (spec.fixed word.now) (view value.now)) }
@@ -122,7 +131,7 @@ fn read_fixed(alloc: Global, value: &Value, word: &str) -> Result<(), ReadError>
     }
 }
 
-/// Reads a value as one field, into which no path goes.
+/// Reads a value as one field, into which no path goes: whatever is bad in it, the value itself is.
 #[tactic(auto, unfolding(crate::specs::Forms::whole))]
 pub fn whole<F: Form>(alloc: Global, value: &Value) -> Result<F, ReadError>
     ensures { Gives result (spec.whole F.form (view value.now)) }

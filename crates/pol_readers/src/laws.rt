@@ -1,5 +1,5 @@
 //! Laws of forms: theorems over the definitions in `specs/`. Their bodies are empty.
-ghost use Rattle.pol_readers.specs.Laws.{ObjectsAreExact, TextsAreExact, TruthValuesAreExact, NumbersAreExact, NumbersOrMinusOneAreExact, WordsAreExact, FixedWordsAreExact, FieldsAreExact, OptionalFieldsAreExact, ListsAreExact, EntriesAreExact, WholesAreExact, BodiesAreExact, LastOfEqualKeysCounts, OtherKeysAreIgnored};
+ghost use Rattle.pol_readers.specs.Laws.{ObjectsAreExact, TextsAreExact, TruthValuesAreExact, NumbersAreExact, NumbersOrMinusOneAreExact, WordsAreExact, FixedWordsAreExact, FieldsAreExact, OptionalFieldsAreExact, ListsAreExact, EntriesAreExact, WholesAreExact, BodiesAreExact, OtherBodiesAreBad, LastOfEqualKeysCounts, OtherKeysAreIgnored};
 
 use crate::form::Form;
 use crate::grammar::Exactly;
@@ -69,6 +69,11 @@ pub fn wholes_are_exact<F: Exactly>()
 /// A body is read exactly where the bytes are an object in JSON and UTF-8 that is of the grammar.
 pub fn bodies_are_exact<F: Exactly>()
     ensures { BodiesAreExact F.form F.grammar }
+{}
+
+/// Bytes that aren't an object in JSON and UTF-8 are bad as a whole, with the empty path.
+pub fn other_bodies_are_bad<F: Form>()
+    ensures { OtherBodiesAreBad F.form }
 {}
 
 /// A field reads what was put at its key last.

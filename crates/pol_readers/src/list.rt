@@ -9,7 +9,8 @@ use pol_types::Listed;
 use serde_json::Value;
 use std::alloc::Global;
 
-/// A list of members of one form, tested by place.
+/// An array whose members are of one form. They are tested by rising place, and a bad one's path begins with its place,
+/// which is counted from 0.
 #[tactic(auto, unfolding(crate::specs::Forms::list))]
 impl<F: Form> Form for Listed<F> {
     ghost form = { spec.list F.form };

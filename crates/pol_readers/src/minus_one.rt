@@ -6,7 +6,7 @@ use crate::grammar::Exactly;
 use serde_json::Value;
 use std::alloc::Global;
 
-/// A number of another form, or -1, which some fields give a meaning of its own.
+/// A value of another form, or the whole number -1, to which a field gives a meaning of its own. -1 is tested first.
 #[derive(Debug, Drop)]
 pub enum OrMinusOne<F> {
     MinusOne,

@@ -10,7 +10,8 @@ use std::marker::Model;
 
 /// A whole number from `LOW` to `HIGH`, both included, which contracts see as that number.
 ///
-/// In JSON it has no sign, fraction or exponent: `-0`, `1.0`, `1e0` and numbers past 64 bits are refused.
+/// In JSON (RFC 8259, section 6) it has no sign, fraction or exponent: `-0`, `1.0`, `1e0` and numbers past 64 bits are
+/// refused, and so is one out of the bounds.
 #[derive(Debug, Drop)]
 pub struct Ranged<const LOW: u64, const HIGH: u64> {
     number: u64,
@@ -27,6 +28,7 @@ impl<const LOW: u64, const HIGH: u64> Model for Ranged<LOW, HIGH> {
 }
 
 impl<const LOW: u64, const HIGH: u64> Ranged<LOW, HIGH> {
+    /// The number.
     pub fn get(&self) -> u64
         ensures same { result ≡ self.now }
         ensures low { LOW ≤ result }

@@ -40,7 +40,8 @@ impl Path {
         }
     }
 
-    /// The same path, seen from one step further out.
+    /// The same path, seen from one step further out: it begins with that step. Where there is no memory for it, the
+    /// path is let go.
     pub fn under(mut self, step: Step) -> Result<Self, OutOfMemory>
         ensures { IfOk result (λ path. path ≡ step ∷ self) }
     {

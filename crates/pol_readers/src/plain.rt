@@ -8,7 +8,7 @@ use pol_types::Text;
 use serde_json::Value;
 use std::alloc::Global;
 
-/// A text.
+/// A text (RFC 8259, section 7).
 #[tactic(auto, unfolding(crate::specs::Forms::text))]
 impl Form for Text {
     ghost form = { spec.text };
@@ -30,7 +30,7 @@ impl Exactly for Text {
     ghost exact = { texts_exact };
 }
 
-/// `true` or `false`.
+/// `true` or `false` (RFC 8259, section 3).
 #[tactic(auto, unfolding(crate::specs::Forms::truth))]
 impl Form for bool {
     ghost form = { spec.truth };

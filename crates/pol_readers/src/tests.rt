@@ -335,6 +335,7 @@ fn laws_hold_of_a_form() {
     laws::wholes_are_exact::<Body>();
     laws::numbers_or_minus_one_are_exact::<Body>();
     laws::words_are_exact::<Action>();
+    laws::other_bodies_are_bad::<Body>();
     laws::last_of_equal_keys_counts::<Body>();
     laws::other_keys_are_ignored::<Body>();
 }

@@ -6,19 +6,19 @@ use crate::error::ReadError;
 use serde_json::Value;
 use std::alloc::Global;
 
-/// A type whose values are named by fixed words.
+/// A type whose values are named by fixed words. Its form is `one_of`, by which its `Form::read` reads it.
 pub trait Word: Drop {
     ghost use Rattle.std.specs.Prelude.{◌≡◌, ℕ, List};
 
-    /// The words, each beside its meaning.
+    /// The words, each beside its meaning. Where a word stands twice, the first row counts.
     ghost words: { List (List ℕ × Self) };
 
-    /// What the word means.
+    /// What the word means, byte for byte; `None` where no row has it.
     fn of_word(word: &str) -> Option<Self>
         ensures { result ≡ spec.meaning words word.now };
 }
 
-/// Reads one of the words.
+/// Reads one of the words; else the value itself is bad.
 #[tactic(auto, unfolding(crate::specs::Forms::one_of, crate::specs::Forms::text))]
 pub fn one_of<W: Word>(alloc: Global, value: &Value) -> Result<W, ReadError>
     ensures { Gives result (spec.one_of W.words (view value.now)) }
