@@ -1,0 +1,2 @@
+mod CutLemmas
+pub mod LookUpLemmas
