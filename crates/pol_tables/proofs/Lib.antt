@@ -1,7 +1,10 @@
 pub mod ChangesLemmas
 pub mod FactChangesLemmas
 pub mod FactsLemmas
+mod IndexLemmas
 pub mod ListLemmas
+pub mod NamedLemmas
+pub mod NumberedLemmas
 pub mod OrderLemmas
 pub mod ReplayLemmas
 pub mod RisingLemmas

@@ -1,6 +1,10 @@
 pub mod Changes
 pub mod Facts
+pub mod Index
 pub mod Laws
+pub mod Named
+pub mod Number
+pub mod Numbered
 pub mod Rising
 pub mod Same
 pub mod Table

@@ -3,14 +3,22 @@
 
 mod fact;
 mod facts;
+mod index;
 mod keyed;
 pub mod laws;
+mod named;
+mod named_table;
+mod number;
 mod order;
 mod table;
 
 pub use fact::Fact;
 pub use facts::Facts;
+pub use index::{Index, Noted};
 pub use keyed::Keyed;
+pub use named::{NameOf, Named};
+pub use named_table::NamedTable;
+pub use number::number_of;
 pub use order::sorted_facts;
 pub use table::Table;
 

@@ -1,4 +1,4 @@
-ghost use Rattle.std.specs.Prelude.{◌≡◌, IfOk, map};
+ghost use Rattle.std.specs.Prelude.{◌≡◌, ◌%◌, IfOk, map, nat_eq, option_copied};
 ghost use Rattle.std.proofs.Common.{rules};
 ghost use Rattle.pol_types.specs.Exact.{exactness};
 
@@ -170,5 +170,108 @@ fn facts_are_sorted_field_by_field(rt: HostRuntime) -> Result<(), Fail> {
         pairs.as_slice(),
         [(1, 3), (1, 9), (2, 1), (10, 0)].as_slice()
     );
+    Ok(())
+}
+
+/// A row under a label, of whose numbers there are two, so that labels often share one.
+#[derive(Clone, Debug, Drop, PartialEq, Eq)]
+struct Box {
+    id: u64,
+    label: u64,
+}
+
+impl Exact for Box {
+    ghost clones_exactly = { Prim.search rules };
+
+    ghost compares_exactly = { Prim.grind exactness };
+}
+
+impl Keyed for Box {
+    ghost key = { λ row. row.id };
+
+    fn key(&self) -> u64 {
+        self.id
+    }
+}
+
+impl Named for Box {
+    ghost number = { λ row. row.label % 2 };
+
+    fn number(&self) -> u64 {
+        self.label % 2
+    }
+}
+
+#[derive(Drop)]
+struct Label(u64);
+
+impl NameOf<Box> for Label {
+    ghost names = { λ name row. nat_eq name.0 row.label };
+
+    ghost numbered = { λ name. name.0 % 2 };
+
+    fn number(&self) -> u64 {
+        self.0 % 2
+    }
+
+    fn names(&self, row: &Box) -> bool {
+        self.0 == row.label
+    }
+
+    ghost numbers_agree = { λ name row same. Prim.search rules };
+}
+
+fn id_named(table: &NamedTable<Box>, label: u64) -> Option<u64> {
+    table.named(&Label(label)).map(|row| row.id)
+}
+
+fn boxes(alloc: Global, table: &NamedTable<Box>) -> Result<Vec<(u64, u64)>, AllocError>
+    ensures { IfOk result (λ pairs. pairs.items ≡ map (λ row. (row.id, row.label)) table.now.rows) }
+{
+    table.rows().map(|row| (row.id, row.label)).collect(alloc)
+}
+
+#[test]
+fn rows_are_found_by_names_that_share_numbers(rt: HostRuntime) -> Result<(), Fail> {
+    // The step (a label is put under an id, or 0: the id is taken), the rows, a label, and the id found.
+    let steps: [(u64, u64, &[(u64, u64)], u64, Option<u64>); 9] = [
+        (1, 10, &[(1, 10)], 12, None),
+        (2, 12, &[(1, 10), (2, 12)], 12, Some(2)),
+        (3, 14, &[(1, 10), (2, 12), (3, 14)], 14, Some(3)),
+        (2, 0, &[(1, 10), (3, 14)], 12, None),
+        (1, 0, &[(3, 14)], 14, Some(3)),
+        (3, 15, &[(3, 15)], 14, None),
+        (4, 14, &[(3, 15), (4, 14)], 15, Some(3)),
+        (3, 16, &[(3, 16), (4, 14)], 16, Some(3)),
+        (4, 16, &[(3, 16), (4, 16)], 14, None),
+    ];
+    let mut table = NamedTable::new(rt.alloc());
+    assert!(rt; table.is_empty());
+    for (id, label, rows, sought, found) in steps {
+        if label == 0 {
+            assert!(rt; table.take(id).is_some());
+        } else {
+            table.reserve(1)?;
+            table.put(Box { id, label });
+        }
+        assert_eq!(rt; boxes(rt.alloc(), &table)?.as_slice(), rows);
+        assert_eq!(rt; id_named(&table, sought), found);
+    }
+    let copy = table.clone()?;
+    assert_eq!(rt; copy.len(), 2);
+    assert!(rt; copy.find(4).is_some() && id_named(&copy, 12).is_none());
+    Ok(())
+}
+
+#[test]
+fn names_have_the_numbers_that_rust_hashes_them_to(rt: HostRuntime) -> Result<(), Fail> {
+    let cases = [
+        ("", 0x3040_6ea5_23c5_3def),
+        ("abc", 0xef09_e0f4_895a_251d),
+        ("a longer name of 24 bytes", 0x498e_0c64_463c_1862),
+    ];
+    for (name, number) in cases {
+        assert_eq!(rt; number_of(&name), number);
+    }
     Ok(())
 }

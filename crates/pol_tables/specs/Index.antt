@@ -1,0 +1,32 @@
+-- Ids under the numbers of names: what contracts see of an index, and what it tells.
+use Rattle.std.specs.Prelude.{ℕ, Bool, false, ◌||◌, List, Option, Some, None}
+use Rattle.pol_tables.specs.Facts.{holds}
+use Rattle.pol_tables.specs.Same.{same}
+use Rattle.pol_tables.specs.Table.{row_of}
+use Rattle.pol_tables.specs.contracts.index.Noted.{the_row}
+use Rattle.pol_tables.specs.declared.index.Noted.{Noted}
+
+-- the first id of each number, the others, and how many more ids can be noted without taking memory
+pub record IndexValue : Type 0 where
+  pub firsts : List Noted
+  pub others : List Noted
+  pub room : ℕ
+
+abbrev pub number_noted : Noted → ℕ
+number_noted noted = noted.number
+
+-- whether two ids under numbers are the same
+abbrev pub same_note : Noted → Noted → Bool
+same_note left right = same the_row.coded left right
+
+-- whether the id is noted under the number
+abbrev pub is_noted : Noted → IndexValue → Bool
+is_noted noted index = holds the_row.coded noted index.firsts || holds the_row.coded noted index.others
+
+-- whether it is the first of its number
+abbrev pub same_found : Noted → Option Noted → Bool
+same_found noted None = false
+same_found noted (Some first) = same_note first noted
+
+abbrev pub is_first : Noted → IndexValue → Bool
+is_first noted index = same_found noted (row_of number_noted noted.number index.firsts)

@@ -1,0 +1,143 @@
+ghost use Rattle.std.specs.Prelude.{◌≡◌, ◌<◌, ◌≤◌, ◌+◌, ◌&&◌, ◌||◌, [], not, IsOk, OnOk, option_copied};
+ghost use Rattle.std.proofs.Common.{rules};
+ghost use Rattle.pol_types.specs.Exact.{exactness};
+ghost use Rattle.pol_tables.specs.Index.{IndexValue, is_first, is_noted, number_noted, same_note};
+ghost use Rattle.pol_tables.specs.Table.{row_of, IdsDiffer};
+ghost use Rattle.pol_tables.specs.declared.index.Noted.{Noted};
+
+use crate::{Fact, Facts, Keyed, Table};
+use pol_types::{Exact, OutOfMemory};
+use std::alloc::{AllocError, Global};
+use std::marker::Model;
+
+/// That an id may stand under a number.
+#[derive(Clone, Debug, Drop, PartialEq, Eq, Hash)]
+pub struct Noted {
+    pub number: u64,
+    pub id: u64,
+}
+
+impl Exact for Noted {
+    ghost clones_exactly = { Prim.search rules };
+
+    ghost compares_exactly = { Prim.grind exactness };
+}
+
+impl Keyed for Noted {
+    ghost key = { λ noted. noted.number };
+
+    fn key(&self) -> u64 {
+        self.number
+    }
+}
+
+impl Fact for Noted {
+    ghost use Rattle.pol_tables.specs.contracts.index.Noted.{the_row};
+
+    ghost coded = { the_row.coded };
+}
+
+/// Which ids may stand under the number of a name. Names with one number are told apart by whoever looks one up.
+/// The first id of each number is found by it, and the others, of which numbers of hashed names leave few, are
+/// listed. Contracts see both, and the room: how many more ids can be noted without taking memory.
+#[derive(Debug, Drop)]
+pub struct Index {
+    firsts: Table<Noted>,
+    others: Facts<Noted>,
+}
+
+impl Model for Index {
+    ghost use Rattle.std.specs.Prelude.{min};
+    ghost use Rattle.pol_tables.specs.Index.{IndexValue};
+
+    ghost Value = { IndexValue };
+
+    ghost view = { λ index. record { firsts = index.firsts.rows; others = index.others.facts; room = min index.firsts.room index.others.room } };
+}
+
+impl Index {
+    /// No ids, and no memory taken.
+    pub fn new(alloc: Global) -> Self
+        ensures firsts { result.firsts ≡ [] }
+        ensures others { result.others ≡ [] }
+    {
+        Index {
+            firsts: Table::new(alloc),
+            others: Facts::new(alloc),
+        }
+    }
+
+    /// The first id that is noted under this number.
+    pub fn first(&self, number: u64) -> Option<&Noted>
+        ensures value { option_copied result ≡ row_of number_noted number self.now.firsts }
+        ensures differ { IdsDiffer number_noted self.now.firsts }
+    {
+        let _firsts = self.firsts.rows();
+        self.firsts.find(number)
+    }
+
+    /// The ids that are noted beside a first one, under any number.
+    pub fn others(&self) -> &[Noted]
+        ensures { result.now ≡ self.now.others }
+    {
+        self.others.facts().as_slice()
+    }
+
+    /// Makes room for `more` ids, so that noting as many takes no memory. On an error the ids stay, and the room does
+    /// not shrink.
+    pub fn reserve(&mut self, more: usize) -> Result<(), OutOfMemory>
+        ensures firsts { self.new.firsts ≡ self.old.firsts }
+        ensures others { self.new.others ≡ self.old.others }
+        ensures reserved { OnOk result (more ≤ self.new.room) }
+        ensures succeeds { more ≤ self.old.room → IsOk result }
+        ensures room { self.old.room ≤ self.new.room }
+    {
+        self.firsts.reserve(more)?;
+        self.others.reserve(more)
+    }
+
+    /// Notes an id under a number, and takes no memory.
+    pub fn note(&mut self, noted: Noted)
+        requires { 0 < self.old.room }
+        ensures noted { (other : Noted) → is_noted other self.new ≡ (same_note other noted || is_noted other self.old) }
+        ensures room { self.old.room ≤ self.new.room + 1 }
+    {
+        if self.firsts.find(noted.number).is_none() {
+            self.firsts.put(noted);
+        } else {
+            self.others.put(noted);
+        }
+    }
+
+    /// Forgets an id under a number, and takes no memory.
+    pub fn forget(&mut self, noted: &Noted)
+        ensures noted { (other : Noted) → is_noted other self.new ≡ (not (same_note other noted.now) && is_noted other self.old) }
+        ensures room { self.old.room ≤ self.new.room }
+    {
+        self.others.take(noted);
+        if self.has_first(noted) {
+            self.firsts.take(noted.number);
+        }
+    }
+
+    /// Whether this id is the first that is noted under its number.
+    fn has_first(&self, noted: &Noted) -> bool
+        ensures first { result ≡ is_first noted.now self.now }
+        ensures differ { IdsDiffer number_noted self.now.firsts }
+    {
+        match self.first(noted.number) {
+            Some(first) => first == noted,
+            None => false,
+        }
+    }
+}
+
+impl Clone for Index {
+    ghost is_clone = { λ source clone. (clone.firsts ≡ source.firsts) × (clone.others ≡ source.others) };
+
+    fn clone(&self) -> Result<Self, AllocError> {
+        let firsts = self.firsts.clone()?;
+        let others = self.others.clone()?;
+        Ok(Index { firsts, others })
+    }
+}
