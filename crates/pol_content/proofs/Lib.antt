@@ -1,0 +1,2 @@
+mod NamesLemmas
+pub mod SoundLemmas

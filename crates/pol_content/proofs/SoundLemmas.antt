@@ -1,0 +1,312 @@
+-- Sound catalogues and namespaces stay sound once a row is pushed, altered or taken away.
+use Rattle.std.proofs.Common.{◌≡◌, ℕ, ◌+◌, ◌-◌, ◌<◌, ◌≤◌, Bool, true, false, not, cond, ◌&&◌, ◌||◌, List, [], ◌∷◌, ◌++◌, map, filter, take, length, Option, Some, None, is_some, nat_eq, nat_lt, refl, sym, ap, subst, ◌∙◌, inl, inr, true≢false, arith, length-append, length-take-le, suc}
+use Rattle.std.specs.Cmp.{IsEquivalence, and_equiv, nat_eq_equiv, on_equiv}
+use Rattle.std.specs.Cmp.Lexicographic.{lists_equiv, nat_list_eq_equiv, pointwise, same_text}
+use Rattle.std.specs.Str.{bytes_eq}
+use Rattle.std.specs.List.{find, list_any, AllByRecursion, IsDistinct}
+use Rattle.std.proofs.lemmas.Bool.{and_from, and_parts, cases_Bool, eq-eqb, eqb-true, lt-ltb, ltb-true, ne_eqb}
+use Rattle.std.proofs.lemmas.Map.Keys.{IsDistinct-cons, IsDistinct-head, IsDistinct-push, IsDistinct-tail}
+use Rattle.pol_types.specs.Exact.{pointwise_exact}
+use Rattle.pol_names.specs.Namespace.{parent_of}
+use Rattle.pol_tables.specs.Table.{has_id, knows, row_of, rows_without, IdsDiffer}
+use Rattle.pol_tables.proofs.ListLemmas.{each-all, each-filter, each-join, each-map, each-push, each-weaken}
+use Rattle.pol_tables.proofs.NamedLemmas.{each-own}
+use Rattle.pol_tables.proofs.NumberedLemmas.{AreNumbered-filter, AreNumbered-map, AreNumbered-more, AreNumbered-push, below-next}
+use Rattle.pol_tables.proofs.RisingLemmas.{IdsDiffer-rising, knows-below}
+use Rattle.pol_tables.proofs.TableLemmas.{knows-map, some_is}
+use Rattle.pol_content.specs.Content.{ContentRows, CatalogNamesDiffer, NamespaceNamesDiffer, catalog_id, is_catalog_named, is_namespace_named, lies_below, namespace_id, none_below, same_levels}
+use Rattle.pol_content.specs.Laws.{AlteredCatalogsKeepSound, AlteredNamespacesKeepSound, DroppedCatalogKeepsSound, DroppedNamespaceKeepsSound, MoreIdsKeepSound, PushedCatalogKeepsSound, PushedNamespaceKeepsSound}
+use Rattle.pol_content.specs.Sound.{HasParent, IsParentThere, IsSmallCatalog, IsSmallNamespace, IsSoundContent}
+use Rattle.pol_content.specs.declared.rows.CatalogRow.{CatalogRow}
+use Rattle.pol_content.specs.declared.rows.NamespaceRow.{NamespaceRow}
+
+module _ {X : Type 0} (test : X → Bool) where
+  -- where none is found, no item passes
+  pub none-found : (xs : List X) → find test xs ≡ None → list_any test xs ≡ false
+  none-found [] none = refl
+  none-found (x ∷ xs) none = elim (cases_Bool (test x)) [
+    | inl passes ↦ let contrary : Some x ≡ None = sym (ap (λ b. cond b (Some x) (find test xs)) passes) ∙ none in cc
+    | inr fails ↦ ap (λ b. b || list_any test xs) fails ∙ none-found xs (sym (ap (λ b. cond b (Some x) (find test xs)) fails) ∙ none)
+  ]
+
+  -- where one of a list passes, one of a longer list does
+  pub any-push : (xs : List X) (x : X) → list_any test xs ≡ true → list_any test (xs ++ x ∷ []) ≡ true
+  any-push [] x there = absurd (true≢false (sym there))
+  any-push (first ∷ xs) x there = elim (cases_Bool (test first)) [
+    | inl passes ↦ ap (λ b. b || list_any test (xs ++ x ∷ [])) passes
+    | inr fails ↦ ap (λ b. b || list_any test (xs ++ x ∷ [])) fails ∙ any-push xs x (sym (ap (λ b. b || list_any test xs) fails) ∙ there)
+  ]
+
+  -- and one of a filter that keeps each item that passes
+  pub any-kept : (keep : X → Bool) (xs : List X) → AllByRecursion (λ x. test x ≡ true → keep x ≡ true) xs → list_any test xs ≡ true → list_any test (filter keep xs) ≡ true
+  any-kept keep [] keeps there = absurd (true≢false (sym there))
+  any-kept keep (x ∷ xs) keeps there = elim (cases_Bool (test x)) [
+    | inl passes ↦ ap (λ b. list_any test (cond b (x ∷ filter keep xs) (filter keep xs))) (keeps.0 passes) ∙ ap (λ b. b || list_any test (filter keep xs)) passes
+    | inr fails ↦ past (keep x) fails (any-kept keep xs keeps.1 (sym (ap (λ b. b || list_any test xs) fails) ∙ there))
+  ]
+    where
+      past : (b : Bool) → test x ≡ false → list_any test (filter keep xs) ≡ true → list_any test (cond b (x ∷ filter keep xs) (filter keep xs)) ≡ true
+      past true fails rest = ap (λ t. t || list_any test (filter keep xs)) fails ∙ rest
+      past false fails rest = rest
+
+  -- where no item passes, each fails
+  pub each-fails : (xs : List X) → list_any test xs ≡ false → AllByRecursion (λ x. test x ≡ false) xs
+  each-fails [] none = tt
+  each-fails (x ∷ xs) none = elim (cases_Bool (test x)) [
+    | inl passes ↦ absurd (true≢false (sym (ap (λ b. b || list_any test xs) passes) ∙ none))
+    | inr fails ↦ (fails, each-fails xs (sym (ap (λ b. b || list_any test xs) fails) ∙ none))
+  ]
+
+module _ {X : Type 0} (equal : X → X → Bool) where
+  -- items that differ still do where some are left out, and where they are altered alike
+  distinct-filter : (keep : X → Bool) (xs : List X) → IsDistinct equal xs → IsDistinct equal (filter keep xs)
+  distinct-filter keep [] differ = differ
+  distinct-filter keep (x ∷ xs) differ =
+      let rest = distinct-filter keep xs (IsDistinct-tail equal x xs differ) in
+      elim (keep x) as (λ b. IsDistinct equal (cond b (x ∷ filter keep xs) (filter keep xs))) [
+        | true ↦ IsDistinct-cons equal x (filter keep xs) (each-filter (λ other. equal x other ≡ false) keep xs (IsDistinct-head equal x xs differ)) rest
+        | false ↦ rest
+      ]
+
+  distinct-map : (alter : X → X) → ((left right : X) → equal (alter left) (alter right) ≡ equal left right) → (xs : List X) → IsDistinct equal xs → IsDistinct equal (map alter xs)
+  distinct-map alter alike [] differ = differ
+  distinct-map alter alike (x ∷ xs) differ =
+      IsDistinct-cons equal (alter x) (map alter xs) (each-map (λ other. equal (alter x) other ≡ false) alter xs (each-weaken (λ other. equal x other ≡ false) (λ other. equal (alter x) (alter other) ≡ false) xs (λ other apart. alike x other ∙ apart) (IsDistinct-head equal x xs differ))) (distinct-map alter alike xs (IsDistinct-tail equal x xs differ))
+
+abbrev same_catalog : CatalogRow → CatalogRow → Bool
+same_catalog left right = is_catalog_named left.name right
+
+abbrev same_namespace : NamespaceRow → NamespaceRow → Bool
+same_namespace left right = is_namespace_named left.catalog left.levels right
+
+same_catalog-equiv : IsEquivalence same_catalog
+same_catalog-equiv = on_equiv (λ row. row.name) nat_list_eq_equiv
+
+same_namespace-equiv : IsEquivalence same_namespace
+same_namespace-equiv = and_equiv (on_equiv (λ row. row.catalog) nat_eq_equiv) (on_equiv (λ row. row.levels) (lists_equiv nat_list_eq_equiv))
+
+-- an id of a longer list
+knows-push : {R : Type 0} (key : R → ℕ) (id : ℕ) (row : R) (rows : List R) → knows key id (rows ++ row ∷ []) ≡ (knows key id rows || has_id key id row)
+knows-push key id row [] = or_last (has_id key id row)
+  where
+    or_last : (b : Bool) → (b || false) ≡ b
+    or_last true = refl
+    or_last false = refl
+knows-push key id row (first ∷ rows) = ap (λ b. has_id key id first || b) (knows-push key id row rows) ∙ or_grouped (has_id key id first) (knows key id rows) (has_id key id row)
+  where
+    or_grouped : (a b c : Bool) → (a || (b || c)) ≡ ((a || b) || c)
+    or_grouped true b c = refl
+    or_grouped false b c = refl
+
+length-push : {X : Type 0} (x : X) (xs : List X) (bound : ℕ) → length xs < bound → length (xs ++ x ∷ []) ≤ bound
+length-push x xs bound under = omega (arith, length-append xs (x ∷ []))
+
+length-filter : {X : Type 0} (keep : X → Bool) (xs : List X) → length (filter keep xs) ≤ length xs
+length-filter keep [] = omega arith
+length-filter keep (x ∷ xs) =
+    let rest = length-filter keep xs in
+    elim (keep x) as (λ b. length (cond b (x ∷ filter keep xs) (filter keep xs)) ≤ length (x ∷ xs)) [ true ↦ omega arith | false ↦ omega arith ]
+
+length-map : {X Y : Type 0} (f : X → Y) (xs : List X) → length (map f xs) ≡ length xs
+length-map f [] = refl
+length-map f (x ∷ xs) = ap (λ n. suc n) (length-map f xs)
+
+module _ {X : Type 0} (test : X → Bool) where
+  any-alike : (alter : X → X) → ((x : X) → test (alter x) ≡ test x) → (xs : List X) → list_any test (map alter xs) ≡ list_any test xs
+  any-alike alter alike [] = refl
+  any-alike alter alike (x ∷ xs) = λ i. alike x i || any-alike alter alike xs i
+
+  any-fewer : (keep : X → Bool) (xs : List X) → list_any test xs ≡ false → list_any test (filter keep xs) ≡ false
+  any-fewer keep [] none = refl
+  any-fewer keep (x ∷ xs) none = elim (cases_Bool (test x)) [
+    | inl passes ↦ absurd (true≢false (sym (ap (λ b. b || list_any test xs) passes) ∙ none))
+    | inr fails ↦
+        let rest = any-fewer keep xs (sym (ap (λ b. b || list_any test xs) fails) ∙ none) in
+        elim (keep x) as (λ b. list_any test (cond b (x ∷ filter keep xs) (filter keep xs)) ≡ false) [ true ↦ ap (λ b. b || list_any test (filter keep xs)) fails ∙ rest | false ↦ rest ]
+  ]
+
+not-true : (b : Bool) → not b ≡ true → b ≡ false
+not-true true is = sym is
+not-true false is = refl
+
+pub more_ids : MoreIdsKeepSound
+more_ids low high content within sound = record {
+  catalogs = AreNumbered-more catalog_id low high within content.catalogs sound.catalogs;
+  namespaces = AreNumbered-more namespace_id low high within content.namespaces sound.namespaces;
+  ids_differ = sound.ids_differ;
+  catalog_names_differ = sound.catalog_names_differ;
+  namespace_names_differ = sound.namespace_names_differ;
+  namespace_catalogs = sound.namespace_catalogs;
+  namespace_parents = sound.namespace_parents;
+  catalogs_bound = sound.catalogs_bound;
+  namespaces_bound = sound.namespaces_bound;
+  catalogs_small = sound.catalogs_small;
+  namespaces_small = sound.namespaces_small;
+}
+
+one_more : (n : ℕ) → n ≤ n + 1
+one_more n = omega arith
+
+pub pushed_catalog : PushedCatalogKeepsSound
+pushed_catalog next_id content row sound first is new room small = record {
+  catalogs = AreNumbered-push catalog_id next_id row content.catalogs first is sound.catalogs;
+  namespaces = AreNumbered-more namespace_id next_id (next_id + 1) (one_more next_id) content.namespaces sound.namespaces;
+  ids_differ = each-join (λ kept. namespace_id kept < next_id) (λ kept. knows catalog_id kept.id content.catalogs ≡ false) (λ kept. knows catalog_id kept.id (content.catalogs ++ row ∷ []) ≡ false) content.namespaces (λ kept under unknown. knows-push catalog_id kept.id row content.catalogs ∙ (λ i. unknown i || apart kept under i)) (below-next namespace_id next_id content.namespaces sound.namespaces) sound.ids_differ;
+  catalog_names_differ = IsDistinct-push same_catalog-equiv content.catalogs row sound.catalog_names_differ (none-found (is_catalog_named row.name) content.catalogs new);
+  namespace_names_differ = sound.namespace_names_differ;
+  namespace_catalogs = each-weaken (λ kept. knows catalog_id kept.catalog content.catalogs ≡ true) (λ kept. knows catalog_id kept.catalog (content.catalogs ++ row ∷ []) ≡ true) content.namespaces (λ kept there. any-push (has_id catalog_id kept.catalog) content.catalogs row there) sound.namespace_catalogs;
+  namespace_parents = sound.namespace_parents;
+  catalogs_bound = length-push row content.catalogs 1000 room;
+  namespaces_bound = sound.namespaces_bound;
+  catalogs_small = each-push IsSmallCatalog content.catalogs row sound.catalogs_small small;
+  namespaces_small = sound.namespaces_small;
+}
+  where
+    apart : (kept : NamespaceRow) → namespace_id kept < next_id → has_id catalog_id kept.id row ≡ false
+    apart kept under = ne_eqb kept.id row.id (λ same. omega (arith, under, is, same))
+
+parent-push : (row : NamespaceRow) (rows : List NamespaceRow) (catalog : ℕ) (parent : Option (List (List ℕ))) → IsParentThere rows catalog parent → IsParentThere (rows ++ row ∷ []) catalog parent
+parent-push row rows catalog None there = tt
+parent-push row rows catalog (Some parent) there = any-push (is_namespace_named catalog parent) rows row there
+
+pub pushed_namespace : PushedNamespaceKeepsSound
+pushed_namespace next_id content row sound first is there parent new room small = record {
+  catalogs = AreNumbered-more catalog_id next_id (next_id + 1) (one_more next_id) content.catalogs sound.catalogs;
+  namespaces = AreNumbered-push namespace_id next_id row content.namespaces first is sound.namespaces;
+  ids_differ = each-push (λ kept. knows catalog_id kept.id content.catalogs ≡ false) content.namespaces row sound.ids_differ (ap (λ id. knows catalog_id id content.catalogs) is ∙ knows-below catalog_id next_id content.catalogs (below-next catalog_id next_id content.catalogs sound.catalogs));
+  catalog_names_differ = sound.catalog_names_differ;
+  namespace_names_differ = IsDistinct-push same_namespace-equiv content.namespaces row sound.namespace_names_differ (none-found (is_namespace_named row.catalog row.levels) content.namespaces new);
+  namespace_catalogs = each-push (λ kept. knows catalog_id kept.catalog content.catalogs ≡ true) content.namespaces row sound.namespace_catalogs there;
+  namespace_parents = each-push (HasParent (content.namespaces ++ row ∷ [])) content.namespaces row (each-weaken (HasParent content.namespaces) (HasParent (content.namespaces ++ row ∷ [])) content.namespaces (λ kept. parent-push row content.namespaces kept.catalog (parent_of kept.levels)) sound.namespace_parents) (parent-push row content.namespaces row.catalog (parent_of row.levels) parent);
+  catalogs_bound = sound.catalogs_bound;
+  namespaces_bound = length-push row content.namespaces 100000 room;
+  catalogs_small = sound.catalogs_small;
+  namespaces_small = each-push IsSmallNamespace content.namespaces row sound.namespaces_small small;
+}
+
+pub altered_catalogs : AlteredCatalogsKeepSound
+altered_catalogs next_id content alter ids names smalls sound = record {
+  catalogs = AreNumbered-map catalog_id next_id alter ids content.catalogs sound.catalogs;
+  namespaces = sound.namespaces;
+  ids_differ = each-weaken (λ kept. knows catalog_id kept.id content.catalogs ≡ false) (λ kept. knows catalog_id kept.id (map alter content.catalogs) ≡ false) content.namespaces (λ kept unknown. knows-map catalog_id alter ids kept.id content.catalogs ∙ unknown) sound.ids_differ;
+  catalog_names_differ = distinct-map same_catalog alter (λ left right i. bytes_eq (names left i) (names right i)) content.catalogs sound.catalog_names_differ;
+  namespace_names_differ = sound.namespace_names_differ;
+  namespace_catalogs = each-weaken (λ kept. knows catalog_id kept.catalog content.catalogs ≡ true) (λ kept. knows catalog_id kept.catalog (map alter content.catalogs) ≡ true) content.namespaces (λ kept there. knows-map catalog_id alter ids kept.catalog content.catalogs ∙ there) sound.namespace_catalogs;
+  namespace_parents = sound.namespace_parents;
+  catalogs_bound = subst (λ n. n ≤ 1000) (sym (length-map alter content.catalogs)) sound.catalogs_bound;
+  namespaces_bound = sound.namespaces_bound;
+  catalogs_small = each-map IsSmallCatalog alter content.catalogs (each-weaken IsSmallCatalog (λ row. IsSmallCatalog (alter row)) content.catalogs smalls sound.catalogs_small);
+  namespaces_small = sound.namespaces_small;
+}
+
+parent-map : (alter : NamespaceRow → NamespaceRow) → ((row : NamespaceRow) → (alter row).catalog ≡ row.catalog) → ((row : NamespaceRow) → (alter row).levels ≡ row.levels) → (rows : List NamespaceRow) (catalog : ℕ) (parent : Option (List (List ℕ))) → IsParentThere rows catalog parent → IsParentThere (map alter rows) catalog parent
+parent-map alter catalogs levels rows catalog None there = tt
+parent-map alter catalogs levels rows catalog (Some parent) there =
+    any-alike (is_namespace_named catalog parent) alter (λ row i. nat_eq catalog (catalogs row i) && same_levels parent (levels row i)) rows ∙ there
+
+pub altered_namespaces : AlteredNamespacesKeepSound
+altered_namespaces next_id content alter ids catalogs levels smalls sound = record {
+  catalogs = sound.catalogs;
+  namespaces = AreNumbered-map namespace_id next_id alter ids content.namespaces sound.namespaces;
+  ids_differ = each-map (λ kept. knows catalog_id kept.id content.catalogs ≡ false) alter content.namespaces (each-weaken (λ kept. knows catalog_id kept.id content.catalogs ≡ false) (λ kept. knows catalog_id (alter kept).id content.catalogs ≡ false) content.namespaces (λ kept unknown. ap (λ id. knows catalog_id id content.catalogs) (ids kept) ∙ unknown) sound.ids_differ);
+  catalog_names_differ = sound.catalog_names_differ;
+  namespace_names_differ = distinct-map same_namespace alter (λ left right i. nat_eq (catalogs left i) (catalogs right i) && same_levels (levels left i) (levels right i)) content.namespaces sound.namespace_names_differ;
+  namespace_catalogs = each-map (λ kept. knows catalog_id kept.catalog content.catalogs ≡ true) alter content.namespaces (each-weaken (λ kept. knows catalog_id kept.catalog content.catalogs ≡ true) (λ kept. knows catalog_id (alter kept).catalog content.catalogs ≡ true) content.namespaces (λ kept there. ap (λ id. knows catalog_id id content.catalogs) (catalogs kept) ∙ there) sound.namespace_catalogs);
+  namespace_parents = each-map (HasParent (map alter content.namespaces)) alter content.namespaces (each-weaken (HasParent content.namespaces) (λ kept. HasParent (map alter content.namespaces) (alter kept)) content.namespaces parent sound.namespace_parents);
+  catalogs_bound = sound.catalogs_bound;
+  namespaces_bound = subst (λ n. n ≤ 100000) (sym (length-map alter content.namespaces)) sound.namespaces_bound;
+  catalogs_small = sound.catalogs_small;
+  namespaces_small = each-map IsSmallNamespace alter content.namespaces (each-weaken IsSmallNamespace (λ row. IsSmallNamespace (alter row)) content.namespaces smalls sound.namespaces_small);
+}
+  where
+    parent : (kept : NamespaceRow) → HasParent content.namespaces kept → HasParent (map alter content.namespaces) (alter kept)
+    parent kept there =
+        subst (λ catalog. IsParentThere (map alter content.namespaces) catalog (parent_of (alter kept).levels)) (sym (catalogs kept)) (subst (λ names. IsParentThere (map alter content.namespaces) kept.catalog (parent_of names)) (sym (levels kept)) (parent-map alter catalogs levels content.namespaces kept.catalog (parent_of kept.levels) there))
+
+fewer : {X : Type 0} (keep : X → Bool) (xs : List X) (bound : ℕ) → length xs ≤ bound → length (filter keep xs) ≤ bound
+fewer keep xs bound within = omega (arith, length-filter keep xs)
+
+pub dropped_catalog : DroppedCatalogKeepsSound
+unfolding rows_without
+dropped_catalog next_id id content sound empty = record {
+  catalogs = AreNumbered-filter catalog_id next_id (λ row. not (has_id catalog_id id row)) content.catalogs sound.catalogs;
+  namespaces = sound.namespaces;
+  ids_differ = each-weaken (λ kept. knows catalog_id kept.id content.catalogs ≡ false) (λ kept. knows catalog_id kept.id (filter (λ row. not (has_id catalog_id id row)) content.catalogs) ≡ false) content.namespaces (λ kept unknown. any-fewer (has_id catalog_id kept.id) (λ row. not (has_id catalog_id id row)) content.catalogs unknown) sound.ids_differ;
+  catalog_names_differ = distinct-filter same_catalog (λ row. not (has_id catalog_id id row)) content.catalogs sound.catalog_names_differ;
+  namespace_names_differ = sound.namespace_names_differ;
+  namespace_catalogs = each-join (λ kept. nat_eq kept.catalog id ≡ false) (λ kept. knows catalog_id kept.catalog content.catalogs ≡ true) (λ kept. knows catalog_id kept.catalog (filter (λ row. not (has_id catalog_id id row)) content.catalogs) ≡ true) content.namespaces (λ kept apart there. any-kept (has_id catalog_id kept.catalog) (λ row. not (has_id catalog_id id row)) content.catalogs (each-all (λ row. has_id catalog_id kept.catalog row ≡ true → not (has_id catalog_id id row) ≡ true) content.catalogs (stays kept.catalog apart)) there) (each-fails (λ row. nat_eq row.catalog id) content.namespaces (not-true (list_any (λ row. nat_eq row.catalog id) content.namespaces) empty)) sound.namespace_catalogs;
+  namespace_parents = sound.namespace_parents;
+  catalogs_bound = fewer (λ row. not (has_id catalog_id id row)) content.catalogs 1000 sound.catalogs_bound;
+  namespaces_bound = sound.namespaces_bound;
+  catalogs_small = each-filter IsSmallCatalog (λ row. not (has_id catalog_id id row)) content.catalogs sound.catalogs_small;
+  namespaces_small = sound.namespaces_small;
+}
+  where
+    stays : (catalog : ℕ) → nat_eq catalog id ≡ false → (row : CatalogRow) → has_id catalog_id catalog row ≡ true → not (has_id catalog_id id row) ≡ true
+    stays catalog apart row has =
+        ap not (nat_eq_equiv.symm id row.id ∙ ap (λ n. nat_eq n id) (sym (eqb-true catalog row.id has)) ∙ apart)
+
+-- levels are more than their parent's, which they begin with
+below_parent : (levels parent : List (List ℕ)) → parent_of levels ≡ Some parent → (nat_lt (length parent) (length levels) ≡ true) × (same_levels parent (take (length parent) levels) ≡ true)
+below_parent levels parent is = elim (cases_Bool (nat_lt 1 (length levels))) [
+  | inr single ↦ let contrary : None ≡ Some parent = sym (ap (λ b. cond b (Some (take (length levels - 1) levels)) None) single) ∙ is in cc
+  | inl deep ↦
+      let more : 1 < length levels = ltb-true 1 (length levels) deep in
+      let front : parent ≡ take (length levels - 1) levels = some_is parent (take (length levels - 1) levels) (sym is ∙ ap (λ b. cond b (Some (take (length levels - 1) levels)) None) deep) in
+      let size : length parent ≡ length levels - 1 = ap length front ∙ length-take-le (length levels - 1) levels (omega arith) in (
+        lt-ltb (length parent) (length levels) (omega arith),
+        ap (same_levels parent) (ap (λ n. take n levels) size ∙ sym front) ∙ (lists_equiv nat_list_eq_equiv).refl parent,
+      )
+]
+
+-- a namespace whose parent is another one lies below it
+lies_below-parent : (upper row : NamespaceRow) → parent_of row.levels ≡ Some upper.levels → upper.catalog ≡ row.catalog → lies_below upper row ≡ true
+lies_below-parent upper row is same =
+    let parts = below_parent row.levels upper.levels is in
+    and_from (nat_eq row.catalog upper.catalog && nat_lt (length upper.levels) (length row.levels)) (same_levels upper.levels (take (length upper.levels) row.levels)) (and_from (nat_eq row.catalog upper.catalog) (nat_lt (length upper.levels) (length row.levels)) (eq-eqb row.catalog upper.catalog (sym same)) parts.0) parts.1
+
+module _ (id : ℕ) (rows : List NamespaceRow) (differ : IdsDiffer namespace_id rows) where
+  abbrev keep : NamespaceRow → Bool
+  keep row = not (has_id namespace_id id row)
+
+  -- the namespace of the id is the parent of none
+  parent_stays : (kept : NamespaceRow) (parent : List (List ℕ)) → parent_of kept.levels ≡ Some parent → (upper : Option NamespaceRow) → row_of namespace_id id rows ≡ upper → none_below upper rows ≡ true
+      → (none : (row : NamespaceRow) → upper ≡ Some row → lies_below row kept ≡ false)
+      → (other : NamespaceRow) → row_of namespace_id other.id rows ≡ Some other → is_namespace_named kept.catalog parent other ≡ true → keep other ≡ true
+  parent_stays kept parent is upper found empty none other own named = elim (cases_Bool (has_id namespace_id id other)) [
+    | inr apart ↦ ap not apart
+    | inl has ↦
+        let there : upper ≡ Some other = sym found ∙ ap (λ n. row_of namespace_id n rows) (eqb-true id other.id has) ∙ own in
+        let parts = and_parts (nat_eq kept.catalog other.catalog) (same_levels parent other.levels) named in
+        let one = pointwise_exact (λ x y same. same_text x y (sym same)) parent other.levels parts.1 in
+        absurd (true≢false (sym (lies_below-parent other kept (is ∙ ap Some one) (sym (eqb-true kept.catalog other.catalog parts.0))) ∙ none other there))
+  ]
+
+  parents_stay : none_below (row_of namespace_id id rows) rows ≡ true → (kept : NamespaceRow) → ((row : NamespaceRow) → row_of namespace_id id rows ≡ Some row → lies_below row kept ≡ false) → (parent : Option (List (List ℕ))) → parent_of kept.levels ≡ parent → IsParentThere rows kept.catalog parent → IsParentThere (filter keep rows) kept.catalog parent
+  parents_stay empty kept none None is there = tt
+  parents_stay empty kept none (Some parent) is there =
+      any-kept (is_namespace_named kept.catalog parent) keep rows (each-weaken (λ other. row_of namespace_id other.id rows ≡ Some other) (λ other. is_namespace_named kept.catalog parent other ≡ true → keep other ≡ true) rows (λ other own named. parent_stays kept parent is (row_of namespace_id id rows) refl empty none other own named) (each-own namespace_id rows differ)) there
+
+  -- no namespace lies below one that is empty
+  none_lies_below : (upper : Option NamespaceRow) → none_below upper rows ≡ true → AllByRecursion (λ kept. (row : NamespaceRow) → upper ≡ Some row → lies_below row kept ≡ false) rows
+  none_lies_below None empty = each-all (λ kept. (row : NamespaceRow) → None ≡ Some row → lies_below row kept ≡ false) rows (λ kept row is. cc)
+  none_lies_below (Some upper) empty =
+      each-weaken (λ kept. lies_below upper kept ≡ false) (λ kept. (row : NamespaceRow) → Some upper ≡ Some row → lies_below row kept ≡ false) rows (λ kept apart row is. ap (λ other. lies_below other kept) (sym (some_is upper row is)) ∙ apart) (each-fails (lies_below upper) rows (not-true (list_any (lies_below upper) rows) empty))
+
+pub dropped_namespace : DroppedNamespaceKeepsSound
+unfolding rows_without
+dropped_namespace next_id id content sound empty =
+    let differ = IdsDiffer-rising namespace_id content.namespaces sound.namespaces.rise in
+    record {
+      catalogs = sound.catalogs;
+      namespaces = AreNumbered-filter namespace_id next_id (λ row. not (has_id namespace_id id row)) content.namespaces sound.namespaces;
+      ids_differ = each-filter (λ kept. knows catalog_id kept.id content.catalogs ≡ false) (λ row. not (has_id namespace_id id row)) content.namespaces sound.ids_differ;
+      catalog_names_differ = sound.catalog_names_differ;
+      namespace_names_differ = distinct-filter same_namespace (λ row. not (has_id namespace_id id row)) content.namespaces sound.namespace_names_differ;
+      namespace_catalogs = each-filter (λ kept. knows catalog_id kept.catalog content.catalogs ≡ true) (λ row. not (has_id namespace_id id row)) content.namespaces sound.namespace_catalogs;
+      namespace_parents = each-filter (HasParent (filter (λ row. not (has_id namespace_id id row)) content.namespaces)) (λ row. not (has_id namespace_id id row)) content.namespaces (each-join (λ kept. (row : NamespaceRow) → row_of namespace_id id content.namespaces ≡ Some row → lies_below row kept ≡ false) (HasParent content.namespaces) (HasParent (filter (λ row. not (has_id namespace_id id row)) content.namespaces)) content.namespaces (λ kept none there. parents_stay id content.namespaces differ empty kept none (parent_of kept.levels) refl there) (none_lies_below id content.namespaces differ (row_of namespace_id id content.namespaces) empty) sound.namespace_parents);
+      catalogs_bound = sound.catalogs_bound;
+      namespaces_bound = fewer (λ row. not (has_id namespace_id id row)) content.namespaces 100000 sound.namespaces_bound;
+      catalogs_small = sound.catalogs_small;
+      namespaces_small = each-filter IsSmallNamespace (λ row. not (has_id namespace_id id row)) content.namespaces sound.namespaces_small;
+    }

@@ -1,0 +1,88 @@
+-- Catalogues and namespaces, as contracts see them.
+use Rattle.std.specs.Prelude.{ℕ, Bool, true, false, not, ◌&&◌, ◌==◌, nat_eq, nat_lt, List, length, take, filter, Option, Some, None, if◌then◌else◌}
+use Rattle.std.specs.Cmp.Lexicographic.{pointwise}
+use Rattle.std.specs.List.{find, list_any, starts_with, IsDistinct}
+use Rattle.std.specs.Str.{bytes_eq}
+use Rattle.pol_names.specs.Namespace.{parent_of}
+use Rattle.pol_tables.specs.Table.{row_of}
+use Rattle.pol_content.specs.declared.rows.CatalogRow.{CatalogRow}
+use Rattle.pol_content.specs.declared.rows.NamespaceRow.{NamespaceRow}
+
+-- the rows, in the order in which they were put
+pub record ContentRows : Type 0 where
+  pub catalogs : List CatalogRow
+  pub namespaces : List NamespaceRow
+
+-- how many more rows need no memory
+pub record ContentRoom : Type 0 where
+  pub catalogs : ℕ
+  pub namespaces : ℕ
+
+pub record ContentValue : Type 0 where
+  pub rows : ContentRows
+  pub room : ContentRoom
+
+-- what each row is known by
+abbrev pub catalog_id : CatalogRow → ℕ
+catalog_id row = row.id
+
+abbrev pub namespace_id : NamespaceRow → ℕ
+namespace_id row = row.id
+
+-- whether two lists of levels are the same
+abbrev pub same_levels : List (List ℕ) → List (List ℕ) → Bool
+same_levels left right = pointwise (pointwise nat_eq) left right
+
+-- whether a row has a name
+abbrev pub is_catalog_named : List ℕ → CatalogRow → Bool
+is_catalog_named name row = bytes_eq name row.name
+
+abbrev pub is_namespace_named : ℕ → List (List ℕ) → NamespaceRow → Bool
+is_namespace_named catalog levels row = nat_eq catalog row.catalog && same_levels levels row.levels
+
+-- no two catalogues have one name, and no two namespaces of a catalogue
+abbrev pub CatalogNamesDiffer : List CatalogRow → Type 0
+CatalogNamesDiffer rows = IsDistinct (λ left right. is_catalog_named left.name right) rows
+
+abbrev pub NamespaceNamesDiffer : List NamespaceRow → Type 0
+NamespaceNamesDiffer rows = IsDistinct (λ left right. is_namespace_named left.catalog left.levels right) rows
+
+-- the catalogue of a name, and the namespace of a catalogue with these levels
+abbrev pub catalog_named : List ℕ → ContentRows → Option CatalogRow
+catalog_named name content = find (is_catalog_named name) content.catalogs
+
+abbrev pub namespace_named : ℕ → List (List ℕ) → ContentRows → Option NamespaceRow
+namespace_named catalog levels content = find (is_namespace_named catalog levels) content.namespaces
+
+-- whether levels are one more than a parent's; where there is no parent, whether they are one
+abbrev pub same_parent : List (List ℕ) → Option (List (List ℕ)) → Bool
+same_parent parent None = false
+same_parent parent (Some other) = same_levels parent other
+
+abbrev pub is_child : Option (List (List ℕ)) → List (List ℕ) → Bool
+is_child None levels = length levels == 1
+is_child (Some parent) levels = same_parent parent (parent_of levels)
+
+-- the namespaces of a catalogue that stand directly below a parent
+abbrev pub is_child_of : ℕ → Option (List (List ℕ)) → NamespaceRow → Bool
+is_child_of catalog parent row = nat_eq row.catalog catalog && is_child parent row.levels
+
+abbrev pub children : ℕ → Option (List (List ℕ)) → ContentRows → List NamespaceRow
+children catalog parent content = filter (is_child_of catalog parent) content.namespaces
+
+-- whether a namespace stands below another one, directly or deeper
+abbrev pub lies_below : NamespaceRow → NamespaceRow → Bool
+lies_below upper row =
+    nat_eq row.catalog upper.catalog && nat_lt (length upper.levels) (length row.levels) && starts_with (pointwise nat_eq) row.levels upper.levels
+
+-- whether no namespace stands below the namespace of an id
+abbrev pub none_below : Option NamespaceRow → List NamespaceRow → Bool
+none_below None rows = true
+none_below (Some upper) rows = not (list_any (lies_below upper) rows)
+
+abbrev pub is_empty : ℕ → ContentRows → Bool
+is_empty namespace content = none_below (row_of namespace_id namespace content.namespaces) content.namespaces
+
+-- whether a catalogue has no namespace
+abbrev pub catalog_is_empty : ℕ → ContentRows → Bool
+catalog_is_empty catalog content = not (list_any (λ row. nat_eq row.catalog catalog) content.namespaces)

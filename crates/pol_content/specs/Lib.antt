@@ -1,0 +1,5 @@
+pub mod Content
+pub mod Laws
+pub mod Numbers
+pub mod Rows
+pub mod Sound

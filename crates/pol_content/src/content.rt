@@ -1,0 +1,249 @@
+ghost use Rattle.std.specs.Prelude.{◌≡◌, ◌<◌, ◌≤◌, ◌+◌, [], filter, map, nat_eq, IfOk, IsOk, OnOk, option_copied};
+ghost use Rattle.std.specs.List.{list_any};
+ghost use Rattle.std.specs.Slice.Iter.{iter_rest};
+ghost use Rattle.pol_tables.specs.Named.{Finds};
+ghost use Rattle.pol_tables.specs.Table.{row_of, rows_with, rows_without};
+ghost use Rattle.pol_content.specs.Content.{CatalogNamesDiffer, NamespaceNamesDiffer, catalog_id, catalog_is_empty, catalog_named, children, is_catalog_named, is_child, is_child_of, is_empty, is_namespace_named, lies_below, namespace_id, namespace_named};
+
+use crate::{CatalogRow, NamespaceName, NamespaceRow};
+use pol_names::{Namespace, Plain};
+use pol_tables::NamedTable;
+use pol_types::OutOfMemory;
+use std::alloc::{AllocError, Global};
+use std::marker::Model;
+use std::slice;
+
+/// Catalogues and their namespaces, each found by its id and by its name. Contracts see the rows, and the room: how
+/// many more can be put without taking memory.
+#[derive(Debug, Drop)]
+pub struct Content {
+    catalogs: NamedTable<CatalogRow>,
+    namespaces: NamedTable<NamespaceRow>,
+}
+
+impl Model for Content {
+    ghost use Rattle.pol_content.specs.Content.{ContentValue};
+
+    ghost Value = { ContentValue };
+
+    ghost view = { λ content. record { rows = record { catalogs = content.catalogs.rows; namespaces = content.namespaces.rows }; room = record { catalogs = content.catalogs.room; namespaces = content.namespaces.room } } };
+}
+
+impl Content {
+    /// No rows, and no memory taken.
+    pub fn new(alloc: Global) -> Self
+        ensures { result.rows ≡ record { catalogs = []; namespaces = [] } }
+    {
+        Content {
+            catalogs: NamedTable::new(alloc),
+            namespaces: NamedTable::new(alloc),
+        }
+    }
+
+    /// The catalogue of this name. It scans no rows.
+    pub fn catalog(&self, name: &Plain) -> Option<&CatalogRow>
+        ensures found { Finds catalog_id (is_catalog_named name.now) self.now.rows.catalogs (option_copied result) }
+        ensures first { CatalogNamesDiffer self.now.rows.catalogs → option_copied result ≡ catalog_named name.now self.now.rows }
+    {
+        self.catalogs.named(name)
+    }
+
+    /// The catalogue of this id.
+    pub fn catalog_of(&self, id: u64) -> Option<&CatalogRow>
+        ensures { option_copied result ≡ row_of catalog_id id self.now.rows.catalogs }
+    {
+        self.catalogs.find(id)
+    }
+
+    /// The catalogues, in the order in which they were put.
+    pub fn catalogs(&self) -> slice::Iter<'_, CatalogRow>
+        ensures { iter_rest result ≡ self.now.rows.catalogs }
+    {
+        self.catalogs.rows()
+    }
+
+    /// The namespace of this catalogue with these levels. It scans no rows.
+    pub fn namespace(&self, catalog: u64, levels: &Namespace) -> Option<&NamespaceRow>
+        ensures found { Finds namespace_id (is_namespace_named catalog levels.now) self.now.rows.namespaces (option_copied result) }
+        ensures first { NamespaceNamesDiffer self.now.rows.namespaces → option_copied result ≡ namespace_named catalog levels.now self.now.rows }
+    {
+        self.namespaces.named(&NamespaceName { catalog, levels })
+    }
+
+    /// The namespace of this id.
+    pub fn namespace_of(&self, id: u64) -> Option<&NamespaceRow>
+        ensures { option_copied result ≡ row_of namespace_id id self.now.rows.namespaces }
+    {
+        self.namespaces.find(id)
+    }
+
+    /// The namespaces, in the order in which they were put.
+    pub fn namespaces(&self) -> slice::Iter<'_, NamespaceRow>
+        ensures { iter_rest result ≡ self.now.rows.namespaces }
+    {
+        self.namespaces.rows()
+    }
+
+    /// The namespaces of a catalogue that stand directly below the parent, or that have one level where there is
+    /// none, in the order in which they were put.
+    pub fn children(
+        &self,
+        alloc: Global,
+        catalog: u64,
+        parent: Option<&Namespace>,
+    ) -> Result<Vec<&NamespaceRow>, OutOfMemory>
+        ensures { IfOk result (λ found. map (λ row. row.now) found.items ≡ children catalog (option_copied parent.entry) self.now.rows) }
+    {
+        children_of(alloc, self.namespaces.rows().as_slice(), catalog, parent)
+    }
+
+    /// Whether no namespace stands below this one, directly or deeper. An id that isn't there has none below it.
+    pub fn is_empty(&self, namespace: u64) -> bool
+        ensures { result ≡ is_empty namespace self.now.rows }
+    {
+        match self.namespaces.find(namespace) {
+            Some(upper) => !any_below(upper, self.namespaces.rows().as_slice()),
+            None => true,
+        }
+    }
+
+    /// Whether no namespace has this catalogue.
+    pub fn catalog_is_empty(&self, catalog: u64) -> bool
+        ensures { result ≡ catalog_is_empty catalog self.now.rows }
+    {
+        !any_of_catalog(catalog, self.namespaces.rows().as_slice())
+    }
+
+    /// Makes room for `more` catalogues, so that putting as many takes no memory. On an error the rows stay, and the
+    /// room does not shrink.
+    pub fn reserve_catalogs(&mut self, more: usize) -> Result<(), OutOfMemory>
+        ensures rows { self.new.rows ≡ self.old.rows }
+        ensures reserved { OnOk result (more ≤ self.new.room.catalogs) }
+        ensures succeeds { more ≤ self.old.room.catalogs → IsOk result }
+        ensures room { self.old.room.catalogs ≤ self.new.room.catalogs }
+        ensures namespaces { self.new.room.namespaces ≡ self.old.room.namespaces }
+    {
+        self.catalogs.reserve(more)
+    }
+
+    /// Makes room for `more` namespaces, so that putting as many takes no memory. On an error the rows stay, and the
+    /// room does not shrink.
+    pub fn reserve_namespaces(&mut self, more: usize) -> Result<(), OutOfMemory>
+        ensures rows { self.new.rows ≡ self.old.rows }
+        ensures reserved { OnOk result (more ≤ self.new.room.namespaces) }
+        ensures succeeds { more ≤ self.old.room.namespaces → IsOk result }
+        ensures room { self.old.room.namespaces ≤ self.new.room.namespaces }
+        ensures catalogs { self.new.room.catalogs ≡ self.old.room.catalogs }
+    {
+        self.namespaces.reserve(more)
+    }
+
+    /// Puts a catalogue, and takes no memory: a new id goes last, and a known id's row is replaced in its place.
+    pub fn put_catalog(&mut self, row: CatalogRow)
+        requires { 0 < self.old.room.catalogs }
+        ensures rows { self.new.rows ≡ record self.old.rows { catalogs = rows_with catalog_id row self.old.rows.catalogs } }
+        ensures room { self.old.room.catalogs ≤ self.new.room.catalogs + 1 }
+        ensures namespaces { self.new.room.namespaces ≡ self.old.room.namespaces }
+    {
+        self.catalogs.put(row)
+    }
+
+    /// Takes the catalogue of this id away, and takes no memory. Its namespaces stay.
+    pub fn drop_catalog(&mut self, id: u64)
+        ensures rows { self.new.rows ≡ record self.old.rows { catalogs = rows_without catalog_id id self.old.rows.catalogs } }
+        ensures room { self.old.room.catalogs ≤ self.new.room.catalogs }
+        ensures namespaces { self.new.room.namespaces ≡ self.old.room.namespaces }
+    {
+        self.catalogs.take(id);
+    }
+
+    /// Puts a namespace, and takes no memory: a new id goes last, and a known id's row is replaced in its place.
+    pub fn put_namespace(&mut self, row: NamespaceRow)
+        requires { 0 < self.old.room.namespaces }
+        ensures rows { self.new.rows ≡ record self.old.rows { namespaces = rows_with namespace_id row self.old.rows.namespaces } }
+        ensures room { self.old.room.namespaces ≤ self.new.room.namespaces + 1 }
+        ensures catalogs { self.new.room.catalogs ≡ self.old.room.catalogs }
+    {
+        self.namespaces.put(row)
+    }
+
+    /// Takes the namespace of this id away, and takes no memory. Those below it stay.
+    pub fn drop_namespace(&mut self, id: u64)
+        ensures rows { self.new.rows ≡ record self.old.rows { namespaces = rows_without namespace_id id self.old.rows.namespaces } }
+        ensures room { self.old.room.namespaces ≤ self.new.room.namespaces }
+        ensures catalogs { self.new.room.catalogs ≡ self.old.room.catalogs }
+    {
+        self.namespaces.take(id);
+    }
+}
+
+impl Clone for Content {
+    ghost is_clone = { λ source clone. clone.rows ≡ source.rows };
+
+    fn clone(&self) -> Result<Self, AllocError> {
+        let catalogs = self.catalogs.clone()?;
+        let namespaces = self.namespaces.clone()?;
+        Ok(Content {
+            catalogs,
+            namespaces,
+        })
+    }
+}
+
+/// Those of the namespaces that have the catalogue and stand directly below the parent.
+fn children_of<'a>(
+    alloc: Global,
+    rows: &'a [NamespaceRow],
+    catalog: u64,
+    parent: Option<&Namespace>,
+) -> Result<Vec<&'a NamespaceRow>, OutOfMemory>
+    ensures { IfOk result (λ found. map (λ row. row.now) found.items ≡ filter (is_child_of catalog (option_copied parent.entry)) rows.now) }
+{
+    let mut found = Vec::new(alloc);
+    for row in rows {
+        if is_child_of(catalog, parent, row) {
+            found.push(row)?;
+        }
+    }
+    Ok(found)
+}
+
+/// Whether the namespace has the catalogue and stands directly below the parent.
+fn is_child_of(catalog: u64, parent: Option<&Namespace>, row: &NamespaceRow) -> bool
+    ensures { result ≡ is_child_of catalog (option_copied parent.entry) row.now }
+{
+    row.catalog == catalog && is_child(parent, &row.levels)
+}
+
+/// Whether the levels are one more than the parent's; where there is no parent, whether they are one.
+fn is_child(parent: Option<&Namespace>, levels: &Namespace) -> bool
+    ensures { result ≡ is_child (option_copied parent.entry) levels.now }
+{
+    match parent {
+        Some(parent) => parent.is_parent_of(levels),
+        None => levels.levels().len() == 1,
+    }
+}
+
+/// Whether one of the namespaces stands below another one, directly or deeper.
+fn any_below(upper: &NamespaceRow, rows: &[NamespaceRow]) -> bool
+    ensures { result ≡ list_any (lies_below upper.now) rows.now }
+{
+    rows.iter().any(|row| lies_below(upper, row))
+}
+
+/// Whether one of the namespaces has the catalogue.
+fn any_of_catalog(catalog: u64, rows: &[NamespaceRow]) -> bool
+    ensures { result ≡ list_any (λ row. nat_eq row.catalog catalog) rows.now }
+{
+    rows.iter().any(|row| row.catalog == catalog)
+}
+
+/// Whether a namespace stands below another one, directly or deeper.
+fn lies_below(upper: &NamespaceRow, row: &NamespaceRow) -> bool
+    ensures { result ≡ lies_below upper.now row.now }
+{
+    row.catalog == upper.catalog
+        && upper.levels.levels().len() < row.levels.levels().len()
+        && row.levels.levels().starts_with(upper.levels.levels())
+}
