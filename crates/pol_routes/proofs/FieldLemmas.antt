@@ -17,11 +17,11 @@ use Rattle.pol_routes.specs.TokenForm.{fields_of, readable_fields}
 abbrev pub IsPairAt : List ℕ → ℕ → List ℕ → List ℕ → Type 0
 IsPairAt body i name value = (i < length (raw_pairs body)) × ((name, value) ≡ get_or (raw_pairs body) i (name, value))
 
-cond_none : (b : Bool) (bytes : List ℕ) → None ≡ cond b (Some bytes) None → b ≡ false
+pub cond_none : (b : Bool) (bytes : List ℕ) → None ≡ cond b (Some bytes) None → b ≡ false
 cond_none true bytes is = absurd (cc)
 cond_none false bytes is = refl
 
-cond_some : (b : Bool) (bytes text : List ℕ) → Some text ≡ cond b (Some bytes) None → (b ≡ true) × (text ≡ bytes)
+pub cond_some : (b : Bool) (bytes text : List ℕ) → Some text ≡ cond b (Some bytes) None → (b ≡ true) × (text ≡ bytes)
 cond_some true bytes text is = (refl, cc)
 cond_some false bytes text is = absurd (cc)
 
@@ -30,7 +30,7 @@ and_false true = refl
 and_false false = refl
 
 -- the field at i is that pair, decoded
-field_at : (body : List ℕ) (i : ℕ) (name value : List ℕ) → IsPairAt body i name value
+pub field_at : (body : List ℕ) (i : ℕ) (name value : List ℕ) → IsPairAt body i name value
     → (i < length (parse body)) × (get_or (parse body) i (decode name, decode value) ≡ (decode name, decode value))
 field_at body i name value (inside, is) =
     let decoded : List ℕ × List ℕ → List ℕ × List ℕ = λ pair. (decode pair.0, decode pair.1) in (
@@ -87,7 +87,7 @@ readable body n fields all is same =
     ap Some (same ∙ ap fields_of whole)
     ∙ ap (λ b. cond b (Some (fields_of (parse body))) None) (sym (sym (ap (list_all is_text) whole) ∙ is))
 
-values_of-append : (name : List ℕ) (fs gs : List (List ℕ × List ℕ)) → values_of name (fs ++ gs) ≡ values_of name fs ++ values_of name gs
+pub values_of-append : (name : List ℕ) (fs gs : List (List ℕ × List ℕ)) → values_of name (fs ++ gs) ≡ values_of name fs ++ values_of name gs
 values_of-append name fs gs =
     ap (map (λ field. field.1)) (filter-append (is_named name) fs gs)
     ∙ map-append (λ field. field.1) (filter (is_named name) fs) (filter (is_named name) gs)

@@ -1,4 +1,10 @@
 pub mod FieldLemmas
+pub mod HeadLemmas
 pub mod PlanLemmas
+pub mod QueryLemmas
+pub mod RefusedLemmas
+pub mod RouteLemmas
 pub mod ScopeLemmas
+pub mod SegmentLemmas
+pub mod TargetLemmas
 pub mod TokenLemmas

@@ -1,5 +1,12 @@
+pub mod Bearer
 pub mod Form
 pub mod Laws
 pub mod Plan
+pub mod Query
+pub mod Refused
+pub mod Route
+pub mod Segment
+pub mod Table
+pub mod Target
 pub mod Texts
 pub mod TokenForm

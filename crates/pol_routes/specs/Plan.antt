@@ -1,6 +1,5 @@
 -- What a message asks of the catalogue.
-use Rattle.std.specs.Prelude.{◌≡◌, ℕ, ◌+◌, Bool, ◌&&◌, ◌==◌, ◌⊎◌, List, length, if◌then◌else◌, Option, Some, None, Result, Ok, Err, codes}
-use Rattle.std.specs.List.{before_first}
+use Rattle.std.specs.Prelude.{ℕ, ◌+◌, List, length, if◌then◌else◌, Option, Some, None, Result, Ok, Err, codes}
 use Rattle.std.specs.Str.{bytes_eq}
 use Rattle.form_urlencoded.specs.Form.{parse}
 use Rattle.pol_http.specs.Message.{Message, print_message}
@@ -10,23 +9,14 @@ use Rattle.pol_machine.specs.declared.command.Command.{Command}
 use Rattle.pol_machine.specs.declared.command.Words4.{Words4}
 use Rattle.pol_routes.specs.declared.plans.Planned.{Planned}
 use Rattle.pol_routes.specs.declared.plans.RouteRefused.{RouteRefused}
-use Rattle.pol_routes.specs.declared.plans.RouteRefused.TheVariants.{NotBuilt, InvalidRequest, GrantType, OutOfMemory}
+use Rattle.pol_routes.specs.declared.plans.RouteRefused.TheVariants.{NotBuilt, InvalidRequest, GrantType}
 use Rattle.pol_routes.specs.declared.plans.TheConstants.{REQUEST_CHARGE}
+use Rattle.pol_routes.specs.declared.table.Endpoint.{Endpoint}
+use Rattle.pol_routes.specs.declared.table.Endpoint.TheVariants.{OpenSession as OpensSession}
 use Rattle.pol_routes.specs.declared.token_form.TokenForm.{TokenForm}
+use Rattle.pol_routes.specs.Route.{endpoint_of}
+use Rattle.pol_routes.specs.Target.{path_of}
 use Rattle.pol_routes.specs.TokenForm.{token_form}
-
--- `b'?'`
-abbrev pub question_mark : ℕ
-question_mark = 63
-
--- the path of a target: what stands before its query (RFC 3986, section 3.4)
-abbrev pub path_of : List ℕ → List ℕ
-path_of target = before_first (λ byte. byte == question_mark) target
-
--- the method and the target are those of a token request
-unfoldable pub is_token_route : List ℕ → List ℕ → Bool
-is_token_route method target =
-    bytes_eq method (codes "POST") && bytes_eq (path_of target) (codes "/api/catalog/v1/oauth/tokens")
 
 -- the session that a token request asks for, of a client that stands for itself (RFC 6749, section 4.4)
 abbrev pub session_plan : ℕ → TokenForm → Result Planned RouteRefused
@@ -49,16 +39,19 @@ plan_of_form charge (Some form) = session_plan charge form
 unfoldable pub token_plan : ℕ → List ℕ → Result Planned RouteRefused
 token_plan charge body = plan_of_form charge (token_form (parse body))
 
+-- the plan of a request with that charge and body, by what it asks for; what has no line of its own isn't built yet
+abbrev pub endpoint_plan : ℕ → List ℕ → Endpoint → Result Planned RouteRefused
+endpoint_plan charge body OpensSession = token_plan charge body
+endpoint_plan charge body _ = Err NotBuilt
+
+-- the plan of a message whose route is known, or was refused
+abbrev pub plan_by : Message → Result Endpoint RouteRefused → Result Planned RouteRefused
+plan_by message (Err why) = Err why
+plan_by message (Ok endpoint) = endpoint_plan (length (print_message message) + REQUEST_CHARGE) message.body endpoint
+
 -- the plan of a message, or why it has none
 unfoldable pub plan_of : Message → Result Planned RouteRefused
-plan_of message =
-    if is_token_route message.head.method message.head.target
-    then token_plan (length (print_message message) + REQUEST_CHARGE) message.body
-    else Err NotBuilt
-
--- the result is the expected one, or memory was wanting
-abbrev pub Plans : Result Planned RouteRefused → Result Planned RouteRefused → Type 0
-Plans expected result = (result ≡ expected) ⊎ (result ≡ Err OutOfMemory)
+plan_of message = plan_by message (endpoint_of message.head.method (path_of message.head.target))
 
 -- the command of a plan at a moment, with the words that were drawn for it
 unfoldable pub command_of : Planned → ℕ → Words4 → Command

@@ -14,7 +14,7 @@ use Rattle.pol_machine.specs.declared.reply.Reply.{Reply}
 use Rattle.pol_machine.specs.declared.reply.Reply.TheVariants.{Answered, Refused}
 use Rattle.pol_machine.specs.Reply.{quantity_text}
 use Rattle.pol_routes.specs.declared.plans.RouteRefused.{RouteRefused}
-use Rattle.pol_routes.specs.declared.plans.RouteRefused.TheVariants.{NotBuilt, InvalidRequest, GrantType, OutOfMemory}
+use Rattle.pol_routes.specs.declared.plans.RouteRefused.TheVariants.{NoRoute, WrongMethod, NotBuilt, Unreadable, InvalidRequest, GrantType, OutOfMemory}
 use Rattle.pol_tokens.specs.declared.session.TheConstants.{SESSION_LIFE}
 use Rattle.pol_tokens.specs.Text.{text_of_token}
 
@@ -66,9 +66,16 @@ unfoldable pub answer_of : Reply → Answer
 answer_of (Answered (SessionOpened serial word_a word_b)) = session_answer (text_of_token serial word_a word_b)
 answer_of (Refused refusal) = refused_answer refusal
 
+-- the answer to a request with a field that can't be read
+abbrev pub unreadable_answer : List ℕ → Answer
+unreadable_answer field = error_answer 400 (codes "Unreadable: " ++ field) (codes "BadRequestException")
+
 -- the answer to a request that has no plan; want of memory has no body
 unfoldable pub refusal_answer : RouteRefused → Answer
+refusal_answer NoRoute = error_answer 404 (codes "No route") (codes "NotFoundException")
+refusal_answer WrongMethod = error_answer 405 (codes "Wrong method") (codes "BadRequestException")
 refusal_answer NotBuilt = error_answer 501 (codes "Not built") (codes "UnsupportedOperationException")
+refusal_answer (Unreadable field) = unreadable_answer field
 refusal_answer InvalidRequest = token_error 400 (codes "invalid_request")
 refusal_answer GrantType = token_error 400 (codes "unsupported_grant_type")
 refusal_answer OutOfMemory = answer_with 507 Nothing

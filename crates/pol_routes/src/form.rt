@@ -28,15 +28,22 @@ impl Values {
     }
 }
 
-/// What a name or a value of a form stands for: `+` is a space, then escapes are decoded. `None` where that isn't
-/// UTF-8.
+/// The text that a name or a value of a form stands for, or `None` where that isn't UTF-8.
 pub(crate) fn decoded(alloc: Global, written: &[u8]) -> Result<Option<Text>, OutOfMemory>
     ensures { IfOk result (λ text. text ≡ spec.text_of (decode written.now)) }
+{
+    let bytes = decoded_bytes(alloc, written)?;
+    Ok(text_of(bytes))
+}
+
+/// The bytes that a name or a value of a form stands for: `+` is a space, then escapes are decoded.
+pub(crate) fn decoded_bytes(alloc: Global, written: &[u8]) -> Result<Vec<u8>, OutOfMemory>
+    ensures { IfOk result (λ bytes. bytes.items ≡ decode written.now) }
 {
     let spaced = spaced(alloc, written)?;
     let mut bytes = Vec::new(alloc);
     percent_decode(&spaced).append_to(&mut bytes)?;
-    Ok(text_of(bytes))
+    Ok(bytes)
 }
 
 /// The bytes with a space for each `+`.
@@ -50,7 +57,7 @@ fn spaced(alloc: Global, written: &[u8]) -> Result<Vec<u8>, AllocError>
 }
 
 /// The bytes as a text, where they are UTF-8.
-fn text_of(bytes: Vec<u8>) -> Option<Text>
+pub(crate) fn text_of(bytes: Vec<u8>) -> Option<Text>
     ensures { result ≡ spec.text_of bytes.items }
 {
     match String::from_utf8(bytes) {

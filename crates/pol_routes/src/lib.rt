@@ -1,14 +1,26 @@
 //! Routes: what a message asks of the catalogue, the command of such a plan, and the texts of answers.
 #![tactic(auto)]
 
+mod bearer;
 mod error_body;
 mod form;
 pub mod laws;
 mod plans;
+mod query;
+mod routes;
+mod segment;
+mod table;
+mod target;
 mod texts;
 mod token_form;
 
+pub use bearer::caller_of;
 pub use plans::{Planned, REQUEST_CHARGE, RouteRefused, command_of, plan};
+pub use query::query_value;
+pub use routes::Routes;
+pub use segment::{name_segment, namespace_segment, plain_segment, segment_at, segment_text};
+pub use table::{Endpoint, ROW_COUNT, Row, TABLE};
+pub use target::{path_of, query_of};
 pub use texts::{answer_of, draw_fault_answer, head_refused_answer, refusal_answer};
 
 #[cfg(test)]

@@ -1,22 +1,25 @@
 //! What a message asks of the catalogue, and the command of such a plan.
-ghost use Rattle.std.specs.Prelude.{◌≡◌, ◌+◌, ◌<◌, ◌^◌, Some, None};
+ghost use Rattle.std.specs.Prelude.{◌≡◌, IsUtf8};
 ghost use Rattle.pol_http.specs.Message.{Message};
 ghost use Rattle.pol_http.specs.Next.{IsMessageAt, LiesWithin};
 ghost use Rattle.pol_routes.specs.Plan as spec;
-ghost use Rattle.pol_routes.specs.Plan.{Plans};
+ghost use Rattle.pol_routes.specs.Refused.{Gives};
+ghost use Rattle.pol_routes.specs.Route as route;
+ghost use Rattle.pol_routes.specs.Target.{path_of};
 
+use crate::routes::Routes;
+use crate::table::Endpoint;
+use crate::target;
 use crate::token_form::{TokenForm, read_token_form};
 use httparse::spans::Span;
 use pol_http::Head;
 use pol_machine::{Action, Caller, Command, Words4};
-use pol_types::OutOfMemory;
+use pol_types::{OutOfMemory, Text};
 use std::alloc::Global;
+use std::str;
 
 /// What a request is charged beside its bytes.
 pub const REQUEST_CHARGE: u64 = 512;
-
-/// The path of token requests: that of the Iceberg REST OpenAPI under the base of Apache Polaris.
-const TOKEN_PATH: &[u8] = b"/api/catalog/v1/oauth/tokens";
 
 /// What a message asks for, before the clock is read and words are drawn.
 #[derive(Debug, Drop)]
@@ -29,11 +32,18 @@ pub struct Planned {
     pub charge: u64,
 }
 
-/// Why a message has no plan.
-#[derive(Clone, Copy, Debug, PartialEq, Eq)]
+/// Why a message has no plan. The refusals of the route come first, in the order in which they stand here.
+#[derive(Debug, Drop, PartialEq, Eq)]
 pub enum RouteRefused {
-    /// No such request is served yet.
+    /// The path is none of the table's.
+    NoRoute,
+    /// The path is one of the table's, and none of its methods is the request's.
+    WrongMethod,
+    /// The table has the method and path, but no such request is served yet.
     NotBuilt,
+    /// A part of the request can't be read: `path` for a segment of the path, else a key of the query or a place of
+    /// the body.
+    Unreadable { field: Text },
     /// A token request isn't UTF-8 once decoded, lacks a field, has one twice or empty, or has too many scopes.
     InvalidRequest,
     /// A token request is of a grant type other than `client_credentials`.
@@ -51,42 +61,54 @@ impl From<OutOfMemory> for RouteRefused {
     }
 }
 
-/// The plan of the message of which these are the ranges (RFC 6749, section 4.4.2).
+/// The plan of the message of which these are the ranges: its route, its method, whether such requests are served
+/// yet, and then what it holds, in this order.
 #[tactic(auto, unfolding(crate::specs::Plan::plan_of))]
-pub fn plan(alloc: Global, bytes: &[u8], head: &Head, body: Span) -> Result<Planned, RouteRefused>
+pub fn plan(
+    alloc: Global,
+    routes: &Routes,
+    bytes: &[u8],
+    head: &Head,
+    body: Span,
+) -> Result<Planned, RouteRefused>
     requires { LiesWithin bytes.now head.now body body.end }
     ensures { (message : Message) → IsMessageAt bytes.now head.now body body.end message
-        → Plans (spec.plan_of message) result }
+        → Gives (spec.plan_of message) result }
 {
-    if !is_token_route(head.method.of(bytes), head.target.of(bytes)) {
-        return Err(RouteRefused::NotBuilt);
-    }
+    let endpoint = endpoint_of(routes, head.method.of(bytes), head.target.of(bytes))?;
     let charge = body.end as u64 + REQUEST_CHARGE;
-    token_plan(alloc, charge, body.of(bytes))
+    endpoint_plan(alloc, endpoint, charge, body.of(bytes))
 }
 
-/// Whether the method and the target are those of a token request.
-#[tactic(auto, unfolding(crate::specs::Plan::is_token_route))]
-fn is_token_route(method: &[u8], target: &[u8]) -> bool
-    ensures { result ≡ spec.is_token_route method.now target.now }
+/// What a request of this method and target asks for.
+fn endpoint_of(routes: &Routes, method: &[u8], target: &[u8]) -> Result<Endpoint, RouteRefused>
+    ensures { IsUtf8 target.now → result ≡ route.endpoint_of method.now (path_of target.now) }
 {
-    method == b"POST".as_slice() && path_of(target) == TOKEN_PATH
-}
-
-/// What stands before the query of a target (RFC 3986, section 3.4).
-fn path_of(target: &[u8]) -> &[u8]
-    ensures { result.now ≡ spec.path_of target.now }
-{
-    match target.iter().position(|&byte| byte == b'?') {
-        Some(end) => &target[..end],
-        None => target,
+    match str::from_utf8(target::path_of(target)) {
+        Ok(path) => routes.endpoint(method, path),
+        Err(_) => Err(RouteRefused::NoRoute),
     }
 }
 
-/// The plan of a token request.
+/// The plan of a request by what it asks for. What has no arm of its own isn't built yet.
+fn endpoint_plan(
+    alloc: Global,
+    endpoint: Endpoint,
+    charge: u64,
+    body: &[u8],
+) -> Result<Planned, RouteRefused>
+    ensures { Gives (spec.endpoint_plan charge body.now endpoint) result }
+{
+    match endpoint {
+        Endpoint::OpenSession => token_plan(alloc, charge, body),
+        _ => Err(RouteRefused::NotBuilt),
+    }
+}
+
+/// The plan of a token request (RFC 6749, section 4.4.2).
 #[tactic(auto, unfolding(crate::specs::Plan::token_plan))]
 fn token_plan(alloc: Global, charge: u64, body: &[u8]) -> Result<Planned, RouteRefused>
-    ensures { Plans (spec.token_plan charge body.now) result }
+    ensures { Gives (spec.token_plan charge body.now) result }
 {
     match read_token_form(alloc, body)? {
         Some(form) => session_plan(charge, form),

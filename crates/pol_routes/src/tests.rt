@@ -1,8 +1,12 @@
 ghost use Rattle.std.specs.Prelude.{◌≤◌, length, vec_len, IfOk};
 
+mod readers;
+mod routing;
+
 use super::*;
 use pol_http::{Answer, HeadRefused, Next, next_message, write_answer};
 use pol_machine::{Action, Caller, Quantity, Refusal, Reply, Words4};
+use pol_types::Text;
 use std::alloc::{AllocError, Global};
 use std::test::Fail;
 
@@ -25,17 +29,21 @@ fn request(alloc: Global, line: &str, body: &[u8]) -> Result<Vec<u8>, AllocError
 }
 
 /// The plan of the request that the bytes begin with, if they begin with one.
-fn plan_of_request(alloc: Global, bytes: &[u8]) -> Option<Result<Planned, RouteRefused>> {
+fn plan_of_request(
+    alloc: Global,
+    routes: &Routes,
+    bytes: &[u8],
+) -> Option<Result<Planned, RouteRefused>> {
     match next_message(bytes) {
-        Next::Whole { head, body, .. } => Some(plan(alloc, bytes, &head, body)),
+        Next::Whole { head, body, .. } => Some(plan(alloc, routes, bytes, &head, body)),
         Next::Continue { .. } | Next::Partial | Next::Refused(_) => None,
     }
 }
 
 /// What a request asks for: its client, secret and scopes, each scope behind a `|`; or why it has no plan.
-fn told(alloc: Global, line: &str, body: &[u8]) -> Result<String, Fail> {
+fn told(alloc: Global, routes: &Routes, line: &str, body: &[u8]) -> Result<String, Fail> {
     let bytes = request(alloc, line, body)?;
-    match plan_of_request(alloc, bytes.as_slice()) {
+    match plan_of_request(alloc, routes, bytes.as_slice()) {
         Some(Ok(planned)) => Ok(shown(alloc, &planned.action)?),
         Some(Err(why)) => Ok(format!(in alloc; "{why:?}")?),
         None => Ok(String::from_str(alloc, "no request")?),
@@ -123,8 +131,9 @@ fn forms_are_read_in_the_stated_order(rt: HostRuntime) -> Result<(), Fail> {
             "InvalidRequest",
         ),
     ];
+    let routes = Routes::new(rt.alloc())?;
     for (form, expected) in cases {
-        let text = told(rt.alloc(), TOKEN_LINE, form.as_bytes())?;
+        let text = told(rt.alloc(), &routes, TOKEN_LINE, form.as_bytes())?;
         assert_eq!(rt; text.as_str(), expected, "at {form}");
     }
     Ok(())
@@ -164,34 +173,27 @@ fn further_fields_are_read_with_the_form(rt: HostRuntime) -> Result<(), Fail> {
             "InvalidRequest",
         ),
     ];
+    let routes = Routes::new(rt.alloc())?;
     for (more, expected) in cases {
         let form = format!(in rt.alloc(); "{PLAIN}{more}")?;
-        let text = told(rt.alloc(), TOKEN_LINE, form.as_bytes())?;
+        let text = told(rt.alloc(), &routes, TOKEN_LINE, form.as_bytes())?;
         assert_eq!(rt; text.as_str(), expected, "at {more}");
     }
-    let raw = told(rt.alloc(), TOKEN_LINE, b"a=\xff")?;
+    let raw = told(rt.alloc(), &routes, TOKEN_LINE, b"a=\xff")?;
     assert_eq!(rt; raw.as_str(), "InvalidRequest");
     Ok(())
 }
 
 #[test]
-fn the_token_route_alone_is_built(rt: HostRuntime) -> Result<(), Fail> {
-    let cases = [
-        (
-            "POST /api/catalog/v1/oauth/tokens?x=1 HTTP/1.1",
-            "root s3cret",
-        ),
-        ("POST /api/catalog/v1/oauth/tokens? HTTP/1.0", "root s3cret"),
-        ("GET /api/catalog/v1/oauth/tokens HTTP/1.1", "NotBuilt"),
-        ("post /api/catalog/v1/oauth/tokens HTTP/1.1", "NotBuilt"),
-        ("POST /api/catalog/v1/oauth/tokens/ HTTP/1.1", "NotBuilt"),
-        ("POST /api/catalog/v1/oauth/token HTTP/1.1", "NotBuilt"),
-        ("POST /api/catalog/v1/oauth/token%73 HTTP/1.1", "NotBuilt"),
-        ("GET /objects/b/x HTTP/1.1", "NotBuilt"),
-    ];
-    for (line, expected) in cases {
-        let text = told(rt.alloc(), line, PLAIN.as_bytes())?;
-        assert_eq!(rt; text.as_str(), expected, "at {line}");
+fn token_requests_are_known_by_their_path_alone(rt: HostRuntime) -> Result<(), Fail> {
+    let routes = Routes::new(rt.alloc())?;
+    for line in [
+        "POST /api/catalog/v1/oauth/tokens?x=1 HTTP/1.1",
+        "POST /api/catalog/v1/oauth/tokens? HTTP/1.0",
+        "POST /api/catalog/v1/oauth/tokens?/x?y HTTP/1.1",
+    ] {
+        let text = told(rt.alloc(), &routes, line, PLAIN.as_bytes())?;
+        assert_eq!(rt; text.as_str(), "root s3cret", "at {line}");
     }
     Ok(())
 }
@@ -199,7 +201,8 @@ fn the_token_route_alone_is_built(rt: HostRuntime) -> Result<(), Fail> {
 #[test]
 fn a_plan_becomes_a_command(rt: HostRuntime) -> Result<(), Fail> {
     let bytes = request(rt.alloc(), TOKEN_LINE, PLAIN.as_bytes())?;
-    let Some(Ok(planned)) = plan_of_request(rt.alloc(), bytes.as_slice()) else {
+    let routes = Routes::new(rt.alloc())?;
+    let Some(Ok(planned)) = plan_of_request(rt.alloc(), &routes, bytes.as_slice()) else {
         assert!(rt; false, "no plan");
         return Ok(());
     };
@@ -290,6 +293,23 @@ fn refused_commands_are_told(rt: HostRuntime) -> Result<(), Fail> {
 #[test]
 fn refused_requests_are_told(rt: HostRuntime) -> Result<(), Fail> {
     let cases = [
+        (
+            RouteRefused::NoRoute,
+            "404 Not Found",
+            "{\"error\":{\"code\":404,\"message\":\"No route\",\"type\":\"NotFoundException\"}}",
+        ),
+        (
+            RouteRefused::WrongMethod,
+            "405 Method Not Allowed",
+            "{\"error\":{\"code\":405,\"message\":\"Wrong method\",\"type\":\"BadRequestException\"}}",
+        ),
+        (
+            RouteRefused::Unreadable {
+                field: Text::from(String::from_str(rt.alloc(), "updates[2].snapshot")?),
+            },
+            "400 Bad Request",
+            "{\"error\":{\"code\":400,\"message\":\"Unreadable: updates[2].snapshot\",\"type\":\"BadRequestException\"}}",
+        ),
         (
             RouteRefused::NotBuilt,
             "501 Not Implemented",

@@ -15,6 +15,8 @@ use std::alloc::{AllocError, Global};
 
 const BAD_REQUEST: &str = "BadRequestException";
 
+const NOT_FOUND: &str = "NotFoundException";
+
 const SERVICE_UNAVAILABLE: &str = "ServiceUnavailableException";
 
 const UNSUPPORTED_OPERATION: &str = "UnsupportedOperationException";
@@ -95,11 +97,22 @@ pub fn refusal_answer(alloc: Global, refused: &RouteRefused) -> Result<Answer, O
     ensures wanting { refused.now ≡ RouteRefused.OutOfMemory → IsErr result }
 {
     match refused {
+        RouteRefused::NoRoute => error_answer(alloc, 404, "No route", NOT_FOUND),
+        RouteRefused::WrongMethod => error_answer(alloc, 405, "Wrong method", BAD_REQUEST),
         RouteRefused::NotBuilt => error_answer(alloc, 501, "Not built", UNSUPPORTED_OPERATION),
+        RouteRefused::Unreadable { field } => unreadable_answer(alloc, field.as_str()),
         RouteRefused::InvalidRequest => token_error(alloc, 400, "invalid_request"),
         RouteRefused::GrantType => token_error(alloc, 400, "unsupported_grant_type"),
         RouteRefused::OutOfMemory => Err(OutOfMemory),
     }
+}
+
+/// The answer to a request with a field that can't be read.
+fn unreadable_answer(alloc: Global, field: &str) -> Result<Answer, OutOfMemory>
+    ensures { IfOk result (λ answer. answer ≡ spec.unreadable_answer field.now) }
+{
+    let message = format!(in alloc; "Unreadable: {field}")?;
+    error_answer(alloc, 400, message.as_str(), BAD_REQUEST)
 }
 
 /// The answer where no random word could be drawn.

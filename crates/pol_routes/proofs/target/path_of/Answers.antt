@@ -1,7 +1,7 @@
 use Rattle.std.proofs.Common.{ℕ, ◌==◌, length, take, sym, ap, ◌∙◌, arith, rules, take_all}
 use Rattle.std.proofs.lemmas.List.Sums.{position_or_len_is}
-use Rattle.pol_routes.specs.Plan.{question_mark}
-use Rattle.pol_routes.proofs.plans.path_of.Goals as goal
+use Rattle.pol_routes.specs.Target.{question_mark}
+use Rattle.pol_routes.proofs.target.path_of.Goals as goal
 
 pub returns-in-Some : goal.returns-in-Some
 returns-in-Some c =

@@ -1,0 +1,59 @@
+-- The route of a request: the path of the table that matchit finds, and the row of its method.
+use Rattle.std.specs.Prelude.{ℕ, ◌+◌, Bool, ◌&&◌, List, [], ◌∷◌, if◌then◌else◌, Option, Some, None, option_map, option_and_then, is_none, find, slice_get, Result, Ok, Err}
+use Rattle.std.specs.Str.{bytes_eq}
+use Rattle.matchit.specs.Order.{placed}
+use Rattle.matchit.specs.Route.{Scan, parse_route}
+use Rattle.matchit.specs.Router.{RouteOf, nearest, route_from}
+use Rattle.matchit.specs.Rows.{RowsOf}
+use Rattle.matchit.specs.Seek.{first}
+use Rattle.matchit.specs.declared.error.InsertError.{InsertError}
+use Rattle.pol_routes.specs.declared.plans.RouteRefused.{RouteRefused}
+use Rattle.pol_routes.specs.declared.plans.RouteRefused.TheVariants.{NoRoute, WrongMethod}
+use Rattle.pol_routes.specs.declared.table.Endpoint.{Endpoint}
+use Rattle.pol_routes.specs.Table.{Entry, table}
+
+-- routes, each with the place in the table of the first row with its path
+abbrev pub PathRoutes : Type 0
+PathRoutes = RowsOf (RouteOf ℕ)
+
+-- the routes with one more path, unless it is no route or conflicts with one that is there, as an equal one does
+abbrev pub with_scan : Result Scan InsertError → ℕ → PathRoutes → PathRoutes
+with_scan (Ok scan) place routes =
+    if is_none (nearest scan.pattern routes) then placed (scan.pattern, route_from scan place) routes else routes
+with_scan (Err why) place routes = routes
+
+-- the routes with the paths of rows, the first of which stands at a place
+unfoldable pub routes_from : ℕ → PathRoutes → List Entry → PathRoutes
+routes_from place routes [] = routes
+routes_from place routes (row ∷ rows) = routes_from (place + 1) (with_scan (parse_route row.path) place routes) rows
+
+-- the routes of the table's paths
+unfoldable pub table_routes : PathRoutes
+table_routes = routes_from 0 [] table
+
+-- the row is that of the method and path
+abbrev pub serves : List ℕ → List ℕ → Entry → Bool
+serves method path row = bytes_eq row.method method && bytes_eq row.path path
+
+-- what the row of a method and path asks for
+abbrev pub endpoint_by : List ℕ → List ℕ → List Entry → Option Endpoint
+endpoint_by method path rows = option_map (λ row. row.endpoint) (find (serves method path) rows)
+
+-- what a method asks for of the path of the row at a place
+abbrev pub endpoint_at : List ℕ → ℕ → List Entry → Option Endpoint
+endpoint_at method place rows = option_and_then (λ row. endpoint_by method row.path rows) (slice_get rows place)
+
+abbrev pub of_method : Option Endpoint → Result Endpoint RouteRefused
+of_method None = Err WrongMethod
+of_method (Some endpoint) = Ok endpoint
+
+abbrev pub of_path : List ℕ → Option ℕ → Result Endpoint RouteRefused
+of_path method None = Err NoRoute
+of_path method (Some place) = of_method (endpoint_at method place table)
+
+-- the place of the path that matchit finds
+abbrev pub path_found : List ℕ → Option ℕ
+path_found path = option_map (λ route. route.value) (first table_routes path)
+
+unfoldable pub endpoint_of : List ℕ → List ℕ → Result Endpoint RouteRefused
+endpoint_of method path = of_path method (path_found path)

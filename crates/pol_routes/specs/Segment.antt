@@ -1,0 +1,62 @@
+-- The segments of a path, as texts and as names (RFC 3986, sections 2.1 and 3.3).
+use Rattle.std.specs.Prelude.{ℕ, Bool, true, false, ◌&&◌, ◌||◌, ◌==◌, not, List, [], ◌∷◌, unwrap_or, is_none, if◌then◌else◌, Result, Ok, Err, codes}
+use Rattle.std.specs.Char.{is_ascii_hexdigit}
+use Rattle.std.specs.List.{slice_get, slice_split}
+use Rattle.std.specs.Str.{is_utf8}
+use Rattle.percent_encoding.specs.Percent.{percent_decode, percent_sign}
+use Rattle.pol_names.specs.Name.{name_refusal}
+use Rattle.pol_names.specs.Namespace.{levels_of, namespace_refusal}
+use Rattle.pol_names.specs.Plain.{plain_refusal}
+use Rattle.pol_routes.specs.Refused.{read_on}
+use Rattle.pol_routes.specs.declared.plans.RouteRefused.{RouteRefused}
+use Rattle.pol_routes.specs.declared.plans.RouteRefused.TheVariants.{Unreadable}
+
+-- `b'/'`
+abbrev pub slash : ℕ
+slash = 47
+
+-- the segment behind so many slashes, or an empty one
+abbrev pub segment_at : List ℕ → ℕ → List ℕ
+segment_at path place = unwrap_or (slice_get (slice_split (λ byte. byte == slash) path) place) []
+
+-- two hexadecimal digits come first
+abbrev pub begins_with_digits : List ℕ → Bool
+begins_with_digits [] = false
+begins_with_digits (high ∷ []) = false
+begins_with_digits (high ∷ low ∷ rest) = is_ascii_hexdigit high && is_ascii_hexdigit low
+
+-- each `%` is followed by two hexadecimal digits
+unfoldable pub has_whole_escapes : List ℕ → Bool
+has_whole_escapes [] = true
+has_whole_escapes (byte ∷ rest) = (not (byte == percent_sign) || begins_with_digits rest) && has_whole_escapes rest
+
+-- why a segment can't be read
+abbrev pub unreadable_path : RouteRefused
+unreadable_path = Unreadable (codes "path")
+
+-- the text of a segment: its escapes decoded, where they are whole and make UTF-8
+unfoldable pub segment_text : List ℕ → Result (List ℕ) RouteRefused
+segment_text segment =
+    if has_whole_escapes segment && is_utf8 (percent_decode segment) then Ok (percent_decode segment) else Err unreadable_path
+
+-- the plain name that a text is
+unfoldable pub plain_of : List ℕ → Result (List ℕ) RouteRefused
+plain_of text = if is_none (plain_refusal text) then Ok text else Err unreadable_path
+
+-- the name that a text is
+unfoldable pub name_of : List ℕ → Result (List ℕ) RouteRefused
+name_of text = if is_none (name_refusal text) then Ok text else Err unreadable_path
+
+-- the namespace whose levels a text has
+unfoldable pub namespace_of : List ℕ → Result (List (List ℕ)) RouteRefused
+namespace_of text = if is_none (namespace_refusal (levels_of text)) then Ok (levels_of text) else Err unreadable_path
+
+-- the names that a segment stands for
+abbrev pub plain_segment : List ℕ → Result (List ℕ) RouteRefused
+plain_segment segment = read_on plain_of (segment_text segment)
+
+abbrev pub name_segment : List ℕ → Result (List ℕ) RouteRefused
+name_segment segment = read_on name_of (segment_text segment)
+
+abbrev pub namespace_segment : List ℕ → Result (List (List ℕ)) RouteRefused
+namespace_segment segment = read_on namespace_of (segment_text segment)

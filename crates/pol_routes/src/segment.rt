@@ -1,0 +1,150 @@
+//! The segments of a path, as texts and as names (RFC 3986, sections 2.1 and 3.3).
+ghost use Rattle.std.specs.Prelude.{◌≡◌, IfOk};
+ghost use Rattle.percent_encoding.specs.Percent.{percent_decode};
+ghost use Rattle.pol_routes.specs.Form as form;
+ghost use Rattle.pol_routes.specs.Refused.{Gives, IsUnreadable};
+ghost use Rattle.pol_routes.specs.Segment as spec;
+
+use crate::form::text_of;
+use crate::plans::RouteRefused;
+use percent_encoding::percent_decode;
+use pol_names::{Name, NameRefused, Namespace, NamespaceRefused, Plain};
+use pol_types::{OutOfMemory, Text};
+use std::alloc::{AllocError, Global};
+
+/// The field that is named where a segment can't be read.
+const PATH_FIELD: &str = "path";
+
+/// The segment of a path behind so many slashes. It is empty where the path has fewer.
+pub fn segment_at(path: &[u8], place: usize) -> &[u8]
+    ensures { result.now ≡ spec.segment_at path.now place }
+{
+    match path.split(|byte| *byte == b'/').nth(place) {
+        Some(segment) => segment,
+        None => b"",
+    }
+}
+
+/// The text of a segment. It is unreadable where a `%` isn't followed by two hexadecimal digits, and where it isn't
+/// UTF-8 once decoded.
+pub fn segment_text(alloc: Global, segment: &[u8]) -> Result<Text, RouteRefused>
+    ensures { Gives (spec.segment_text segment.now) result }
+{
+    if !has_whole_escapes(segment) {
+        return Err(unreadable(alloc, PATH_FIELD));
+    }
+    match decoded_text(alloc, segment)? {
+        Some(text) => Ok(text),
+        None => Err(unreadable(alloc, PATH_FIELD)),
+    }
+}
+
+/// The plain name that a segment is, which is unreadable where it is none.
+#[tactic(auto, using(crate::proofs::RefusedLemmas::read_on_refused, crate::proofs::RefusedLemmas::read_on_read))]
+pub fn plain_segment(alloc: Global, segment: &[u8]) -> Result<Plain, RouteRefused>
+    ensures { Gives (spec.plain_segment segment.now) result }
+{
+    let text = segment_text(alloc, segment)?;
+    plain_of(alloc, text.as_str())
+}
+
+/// The name that a segment is, which is unreadable where it is none.
+#[tactic(auto, using(crate::proofs::RefusedLemmas::read_on_refused, crate::proofs::RefusedLemmas::read_on_read))]
+pub fn name_segment(alloc: Global, segment: &[u8]) -> Result<Name, RouteRefused>
+    ensures { Gives (spec.name_segment segment.now) result }
+{
+    let text = segment_text(alloc, segment)?;
+    name_of(alloc, text.as_str())
+}
+
+/// The namespace that a segment is, its levels behind one another with 0x1F between them (Iceberg REST OpenAPI,
+/// parameter `namespace`). It is unreadable where it is none.
+#[tactic(auto, using(crate::proofs::RefusedLemmas::read_on_refused, crate::proofs::RefusedLemmas::read_on_read))]
+pub fn namespace_segment(alloc: Global, segment: &[u8]) -> Result<Namespace, RouteRefused>
+    ensures { Gives (spec.namespace_segment segment.now) result }
+{
+    let text = segment_text(alloc, segment)?;
+    namespace_of(alloc, text.as_str())
+}
+
+/// A refusal that names a field, or want of memory for its name.
+pub(crate) fn unreadable(alloc: Global, field: &str) -> RouteRefused
+    ensures { IsUnreadable field.now result }
+{
+    match String::from_str(alloc, field) {
+        Ok(field) => RouteRefused::Unreadable {
+            field: Text::from(field),
+        },
+        Err(AllocError) => RouteRefused::OutOfMemory,
+    }
+}
+
+/// Whether each `%` is followed by two hexadecimal digits.
+#[tactic(auto, unfolding(crate::specs::Segment::has_whole_escapes))]
+fn has_whole_escapes(bytes: &[u8]) -> bool
+    ensures { result ≡ spec.has_whole_escapes bytes.now }
+{
+    let mut rest = bytes;
+    'bytes: while let [byte, after @ ..] = rest {
+        if *byte == b'%' && !begins_with_digits(after) {
+            return false;
+        }
+        rest = after;
+    }
+    true
+}
+
+/// Whether two hexadecimal digits come first.
+fn begins_with_digits(bytes: &[u8]) -> bool
+    ensures { result ≡ spec.begins_with_digits bytes.now }
+{
+    match bytes {
+        [high, low, ..] => high.is_ascii_hexdigit() && low.is_ascii_hexdigit(),
+        _ => false,
+    }
+}
+
+/// The decoded text, where it is UTF-8.
+fn decoded_text(alloc: Global, written: &[u8]) -> Result<Option<Text>, OutOfMemory>
+    ensures { IfOk result (λ text. text ≡ form.text_of (percent_decode written.now)) }
+{
+    let mut bytes = Vec::new(alloc);
+    percent_decode(written).append_to(&mut bytes)?;
+    Ok(text_of(bytes))
+}
+
+/// The plain name that a text is.
+#[tactic(auto, unfolding(crate::specs::Segment::plain_of))]
+fn plain_of(alloc: Global, text: &str) -> Result<Plain, RouteRefused>
+    ensures { Gives (spec.plain_of text.now) result }
+{
+    match Plain::new(alloc, text) {
+        Ok(name) => Ok(name),
+        Err(NameRefused::OutOfMemory) => Err(RouteRefused::OutOfMemory),
+        Err(_) => Err(unreadable(alloc, PATH_FIELD)),
+    }
+}
+
+/// The name that a text is.
+#[tactic(auto, unfolding(crate::specs::Segment::name_of))]
+fn name_of(alloc: Global, text: &str) -> Result<Name, RouteRefused>
+    ensures { Gives (spec.name_of text.now) result }
+{
+    match Name::new(alloc, text) {
+        Ok(name) => Ok(name),
+        Err(NameRefused::OutOfMemory) => Err(RouteRefused::OutOfMemory),
+        Err(_) => Err(unreadable(alloc, PATH_FIELD)),
+    }
+}
+
+/// The namespace whose levels a text has.
+#[tactic(auto, unfolding(crate::specs::Segment::namespace_of))]
+fn namespace_of(alloc: Global, text: &str) -> Result<Namespace, RouteRefused>
+    ensures { Gives (spec.namespace_of text.now) result }
+{
+    match Namespace::from_segment(alloc, text) {
+        Ok(namespace) => Ok(namespace),
+        Err(NamespaceRefused::OutOfMemory) => Err(RouteRefused::OutOfMemory),
+        Err(_) => Err(unreadable(alloc, PATH_FIELD)),
+    }
+}
