@@ -15,7 +15,8 @@ use Rattle.pol_machine.specs.declared.command.Command.{Command}
 use Rattle.pol_machine.specs.declared.command.Words4.{Words4}
 use Rattle.pol_machine.specs.declared.reply.Refusal.TheVariants as refusal
 use Rattle.pol_machine.specs.declared.reply.Reply.TheVariants.{Refused}
-use Rattle.pol_routes.specs.Plan.{Plans, command_of, plan_of}
+use Rattle.pol_routes.specs.Plan.{command_of, plan_of}
+use Rattle.pol_routes.specs.Refused.{Gives}
 use Rattle.pol_routes.specs.Texts.{answer_of, draw_fault_answer, refusal_answer}
 use Rattle.pol_routes.specs.declared.plans.Planned.{Planned}
 use Rattle.pol_routes.specs.declared.plans.RouteRefused.{RouteRefused}
@@ -47,11 +48,11 @@ unfolding command_of
 charge-command planned moment words = refl
 
 -- what a plan that was answered tells of the one that is expected
-pub planned-by : (expected : Result Planned RouteRefused) (plan : Planned) → Plans expected (Ok plan) → expected ≡ Ok plan
+pub planned-by : (expected : Result Planned RouteRefused) (plan : Planned) → Gives expected (Ok plan) → expected ≡ Ok plan
 planned-by expected plan (inl is) = sym is
 planned-by expected plan (inr contrary) = cc
 
-refused-by : (expected : Result Planned RouteRefused) (why : RouteRefused) → Plans expected (Err why) → why ≢ refused.OutOfMemory → expected ≡ Err why
+refused-by : (expected : Result Planned RouteRefused) (why : RouteRefused) → Gives expected (Err why) → why ≢ refused.OutOfMemory → expected ≡ Err why
 refused-by expected why (inl is) other = sym is
 refused-by expected why (inr contrary) other = let is : why ≡ refused.OutOfMemory = cc in absurd (other is)
 
@@ -96,7 +97,7 @@ module _ (ends : Ends) (log : Log) (message : Message) where
   }
 
   -- the plan was refused, and the text was made or not
-  pub handles-refusal : {E : Type 0} (why : RouteRefused) (result : Result (Vec ℕ Global) E) (close head_only : Bool) → Plans (plan_of message) (Err why) → close ≡ closes message.head → head_only ≡ is_head message
+  pub handles-refusal : {E : Type 0} (why : RouteRefused) (result : Result (Vec ℕ Global) E) (close head_only : Bool) → Gives (plan_of message) (Err why) → close ≡ closes message.head → head_only ≡ is_head message
       → OnOk result (why ≢ refused.OutOfMemory) → IfOk result (λ bytes. bytes.items ≡ answer_text (framed close head_only (refusal_answer why)))
       → Handles ends ends log log message NoEntry (option_map (λ bytes. bytes.items) (result_ok result))
   handles-refusal why (Ok bytes) close head_only plans closing heading other text_is =

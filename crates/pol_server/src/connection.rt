@@ -16,6 +16,7 @@ use httparse::spans::Span;
 use pol_http::{
     CONTINUE, Head, HeadRefused, INSUFFICIENT_STORAGE, Next, missing_bytes, next_message,
 };
+use pol_routes::Routes;
 use pol_shared::Kept;
 use pol_types::OutOfMemory;
 use pol_wire::Failed;
@@ -190,6 +191,7 @@ impl Connection {
     fn take_turn<L: Linked>(
         &mut self,
         alloc: Global,
+        routes: &Routes,
         catalogue: &mut Kept,
         link: &mut L,
         head: &Head,
@@ -204,7 +206,15 @@ impl Connection {
         ensures ending { IfSome result IsOwnEnding }
         ensures work { length self.new.buffer.items < length self.old.buffer.items }
     {
-        let handled = handle(alloc, catalogue, link, self.buffer.as_slice(), head, body);
+        let handled = handle(
+            alloc,
+            routes,
+            catalogue,
+            link,
+            self.buffer.as_slice(),
+            head,
+            body,
+        );
         let Ok(()) = self.places.push(handled.place) else {
             unreachable!()
         };
@@ -217,6 +227,7 @@ impl Connection {
     fn answer_told<L: Linked>(
         &mut self,
         alloc: Global,
+        routes: &Routes,
         catalogue: &mut Kept,
         link: &mut L,
         head: &Head,
@@ -233,13 +244,14 @@ impl Connection {
         let Ok(()) = self.places.reserve(1) else {
             return say(link, INSUFFICIENT_STORAGE, Some(Ending::NoMemory));
         };
-        self.take_turn(alloc, catalogue, link, head, body)
+        self.take_turn(alloc, routes, catalogue, link, head, body)
     }
 
     /// Answers the message at the front.
     fn answer<L: Linked>(
         &mut self,
         alloc: Global,
+        routes: &Routes,
         catalogue: &mut Kept,
         link: &mut L,
         head: &Head,
@@ -257,7 +269,7 @@ impl Connection {
         let Ok(()) = self.tell(link, head.asks) else {
             return Some(Ending::WriteFault);
         };
-        self.answer_told(alloc, catalogue, link, head, body)
+        self.answer_told(alloc, routes, catalogue, link, head, body)
     }
 
     /// Tells the message at the front to go on, and waits for its body.
@@ -307,6 +319,7 @@ impl Connection {
     fn advance<L: Linked>(
         &mut self,
         alloc: Global,
+        routes: &Routes,
         catalogue: &mut Kept,
         link: &mut L,
     ) -> Option<Ending>
@@ -322,15 +335,38 @@ impl Connection {
             return None;
         }
         match next_message(self.buffer.as_slice()) {
-            Next::Whole { head, body, .. } => self.answer(alloc, catalogue, link, &head, body),
+            Next::Whole { head, body, .. } => {
+                self.answer(alloc, routes, catalogue, link, &head, body)
+            }
             Next::Refused(why) => self.refuse(alloc, link, why),
             Next::Continue { .. } => self.go_on(link),
             Next::Partial => self.await_more(link),
         }
     }
 
-    /// Serves the link until it ends.
+    /// Serves the link until it ends. Where there is no memory for the routes, it ends at once.
     pub fn serve<L: Linked>(&mut self, alloc: Global, catalogue: &mut Kept, link: &mut L) -> Ending
+        requires empty { self.old.buffer.items ≡ [] }
+        requires stop { self.old.stop ≡ None }
+        requires told { self.old.told ≡ false }
+        ensures finishes { Finishes result (standing (L.ends link.old) catalogue.old self.old) (standing (L.ends link.new) catalogue.new self.new) }
+        ensures ending { IsEndingOf self.new.stop result }
+        ensures stopped { IsStopped self.new.stop (L.ends link.old) (L.ends link.new) self.new.budget }
+    {
+        match Routes::new(alloc) {
+            Ok(routes) => self.serve_by(alloc, &routes, catalogue, link),
+            Err(OutOfMemory) => self.end_without_memory(link),
+        }
+    }
+
+    /// Serves the link by these routes until it ends.
+    fn serve_by<L: Linked>(
+        &mut self,
+        alloc: Global,
+        routes: &Routes,
+        catalogue: &mut Kept,
+        link: &mut L,
+    ) -> Ending
         requires stop { self.old.stop ≡ None }
         requires told { self.old.told ≡ false }
         ensures finishes { Finishes result (standing (L.ends link.old) catalogue.old self.old) (standing (L.ends link.new) catalogue.new self.new) }
@@ -338,9 +374,22 @@ impl Connection {
         ensures stopped { IsStopped self.new.stop (L.ends link.old) (L.ends link.new) self.new.budget }
     {
         loop {
-            if let Some(ending) = self.advance(alloc, catalogue, link) {
+            if let Some(ending) = self.advance(alloc, routes, catalogue, link) {
                 return ending;
             }
+        }
+    }
+
+    /// Ends a link that no byte was taken from, since memory is wanting.
+    fn end_without_memory<L: Linked>(&self, link: &mut L) -> Ending
+        requires empty { self.now.buffer.items ≡ [] }
+        requires told { self.now.told ≡ false }
+        ensures finishes { (log : Log) → Finishes result (standing (L.ends link.old) log self.now) (standing (L.ends link.new) log self.now) }
+        ensures ending { IsOwnEnding result }
+    {
+        match give_all(link, INSUFFICIENT_STORAGE) {
+            Ok(()) => Ending::NoMemory,
+            Err(Failed) => Ending::WriteFault,
         }
     }
 }

@@ -19,8 +19,8 @@ use httparse::spans::Span;
 use pol_http::{Answer, Head, HeadRefused, write_answer};
 use pol_machine::{Command, Reply};
 use pol_routes::{
-    Planned, RouteRefused, answer_of, command_of, draw_fault_answer, head_refused_answer, plan,
-    refusal_answer,
+    Planned, RouteRefused, Routes, answer_of, command_of, draw_fault_answer, head_refused_answer,
+    plan, refusal_answer,
 };
 use pol_shared::{Kept, Render, Stepped};
 use pol_types::OutOfMemory;
@@ -84,6 +84,7 @@ fn framing_of(bytes: &[u8], head: &Head) -> Framing
 /// asks for, and steps its command.
 pub(crate) fn handle<L: Linked>(
     alloc: Global,
+    routes: &Routes,
     catalogue: &mut Kept,
     link: &mut L,
     bytes: &[u8],
@@ -95,7 +96,7 @@ pub(crate) fn handle<L: Linked>(
         → Handles (L.ends link.old) (L.ends link.new) catalogue.old catalogue.new message result.place (option_map (λ text. text.items) result.text) }
 {
     let framing = framing_of(bytes, head);
-    match plan(alloc, bytes, head, body) {
+    match plan(alloc, routes, bytes, head, body) {
         Ok(planned) => answer_plan(alloc, catalogue, link, planned, framing),
         Err(refused) => Handled {
             place: Place::NoEntry,

@@ -2,7 +2,7 @@ use Rattle.std.proofs.Common.{refl}
 use Rattle.pol_server.specs.Serving.{standing}
 use Rattle.pol_server.proofs.GoesLemmas.{finishes-after}
 use Rattle.pol_server.proofs.ServeLemmas.{served-on, served-start, stopped-on}
-use Rattle.pol_server.proofs.connection.Connection.serve.Goals as goal
+use Rattle.pol_server.proofs.connection.Connection.serve_by.Goals as goal
 
 pub loop-ending-init : goal.loop-ending-init
 loop-ending-init g c = served-start (g.L.Linked.ends c.args.link.now) c.args.catalogue.now c.args.self.now c.requires.stop c.requires.told

@@ -1,6 +1,6 @@
 use Rattle.pol_server.specs.Serving.{Continues, IsStopped, IsToldAsked, standing, work_of}
 use Rattle.pol_server.proofs.ServeLemmas.{IsServed}
-use Rattle.pol_server.proofs.connection.Connection.serve.Given as goal
+use Rattle.pol_server.proofs.connection.Connection.serve_by.Given as goal
 
 abbrev pub invariant-loop-ending : goal.invariant-loop-ending
 invariant-loop-ending g l = IsServed (g.L.Linked.ends l.fn.link) (g.L.Linked.ends l.link) l.fn.catalogue l.catalogue l.fn.self l.self
