@@ -348,13 +348,23 @@ fn each_request_has_its_answer(rt: HostRuntime) -> Result<(), Fail> {
             true,
         ),
         (
+            "GET /x HTTP/1.1\r\n\r\n",
+            "HTTP/1.1 404 Not Found\r\ncontent-type: application/json\r\ncontent-length: 70\r\n\r\n{\"error\":{\"code\":404,\"message\":\"No route\",\"type\":\"NotFoundException\"}}",
+            false,
+        ),
+        (
+            "DELETE /api/catalog/v1/config HTTP/1.1\r\n\r\n",
+            "HTTP/1.1 405 Method Not Allowed\r\ncontent-type: application/json\r\ncontent-length: 76\r\n\r\n{\"error\":{\"code\":405,\"message\":\"Wrong method\",\"type\":\"BadRequestException\"}}",
+            false,
+        ),
+        (
             "HEAD /x HTTP/1.1\r\n\r\n",
-            "HTTP/1.1 501 Not Implemented\r\n\r\n",
+            "HTTP/1.1 404 Not Found\r\n\r\n",
             false,
         ),
         (
             "GET /x HTTP/1.0\r\n\r\n",
-            "HTTP/1.1 501 Not Implemented\r\ncontent-type: application/json\r\ncontent-length: 83\r\nconnection: close\r\n\r\n{\"error\":{\"code\":501,\"message\":\"Not built\",\"type\":\"UnsupportedOperationException\"}}",
+            "HTTP/1.1 404 Not Found\r\ncontent-type: application/json\r\ncontent-length: 70\r\nconnection: close\r\n\r\n{\"error\":{\"code\":404,\"message\":\"No route\",\"type\":\"NotFoundException\"}}",
             true,
         ),
         (
