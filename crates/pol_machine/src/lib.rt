@@ -10,6 +10,8 @@ mod rules;
 mod scopes;
 mod sessions;
 mod state;
+#[cfg(test)]
+mod tests;
 
 pub use change::Change;
 pub use command::{Action, Caller, Command, Words4};

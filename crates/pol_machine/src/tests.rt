@@ -1,0 +1,336 @@
+ghost use Rattle.std.specs.Prelude.{◌≡◌, ◌≤◌, ◌^◌, IfOk, OnOk};
+ghost use Rattle.pol_machine.specs.Sound.{IsSound};
+
+use super::*;
+use crate::scopes::are_scopes;
+use pol_access::Access;
+use pol_names::Plain;
+use pol_types::{Listed, Text};
+use std::alloc::Global;
+use std::test::Fail;
+
+const WORD_A: u64 = 0x0123_4567_89ab_cdef;
+
+const WORD_B: u64 = 0xfedc_ba98_7654_3210;
+
+/// The bound of the next serial.
+const SERIAL_BOUND: u64 = 1 << 62;
+
+/// The bound of the charges of a run.
+const RUN_BOUND: u64 = 1 << 30;
+
+fn fresh(alloc: Global) -> Result<State, Fail>
+    ensures { IfOk result (λ state. IsSound state.rows) }
+{
+    Ok(State::fresh(alloc, "s3cr3t")?)
+}
+
+/// A fresh state, but for its next serial and the charges of its run.
+fn raised(alloc: Global, serial: u64, charged: u64) -> Result<State, Fail>
+    requires serial { serial ≤ 2 ^ 62 }
+    requires charged { charged ≤ 2 ^ 30 }
+    ensures { IfOk result (λ state. IsSound state.rows) }
+{
+    let changes = vec![in alloc; Change::NextSerial(serial)]?;
+    let mut state = State::fresh(alloc, "s3cr3t")?;
+    state.apply(changes, 0, charged);
+    Ok(state)
+}
+
+fn copy(state: &State) -> Result<State, Fail>
+    requires { IsSound state.now.rows }
+    ensures { IfOk result (λ copy. IsSound copy.rows) }
+{
+    Ok(state.clone()?)
+}
+
+/// The words of a scope, which one space separates (RFC 6749, section 3.3).
+fn words(alloc: Global, scope: Option<&str>) -> Result<Listed<Text>, Fail> {
+    let mut words = Vec::new(alloc);
+    if let Some(scope) = scope {
+        for word in scope.split(' ') {
+            words.push(Text::from(String::from_str(alloc, word)?))?;
+        }
+    }
+    Ok(Listed::from(words))
+}
+
+/// A command that opens a session for the client of this secret, at moment 0 and with this charge.
+fn opening(
+    alloc: Global,
+    client_id: &str,
+    secret: &str,
+    scope: Option<&str>,
+    charge: u64,
+) -> Result<Command, Fail>
+    ensures { IfOk result (λ command. command.moment ≡ 0) }
+{
+    Ok(Command {
+        caller: Caller::Nobody,
+        moment: 0,
+        words: Words4 {
+            a: WORD_A,
+            b: WORD_B,
+            c: 3,
+            d: 4,
+        },
+        charge,
+        action: Action::OpenSession {
+            client_id: Text::from(String::from_str(alloc, client_id)?),
+            secret: Text::from(String::from_str(alloc, secret)?),
+            scopes: words(alloc, scope)?,
+        },
+    })
+}
+
+/// A command that opens a session for root, at this moment.
+fn root_opening(alloc: Global, scope: Option<&str>, moment: u64) -> Result<Command, Fail>
+    ensures { IfOk result (λ command. command.moment ≡ moment) }
+{
+    let mut command = opening(alloc, "root", "s3cr3t", scope, 0)?;
+    command.moment = moment;
+    Ok(command)
+}
+
+/// Decides the command and makes its changes, unless the run is full.
+fn step(alloc: Global, state: &mut State, command: &Command) -> Result<Reply, Fail>
+    requires sound { IsSound state.old.rows }
+    requires moment { command.now.moment ≤ 2 ^ 62 }
+    ensures { OnOk result (IsSound state.new.rows) }
+{
+    let Decision { reply, changes } = decide(alloc, state, command)?;
+    if reply.is_run_full() {
+        return Ok(reply);
+    }
+    let changes = Vec::from(changes);
+    state.reserve(changes.as_slice())?;
+    let time = state.time().max(command.moment);
+    state.apply(changes, time, command.charge);
+    Ok(reply)
+}
+
+/// Does the command, and checks its reply.
+fn check_step(alloc: Global, state: &mut State, command: &Command, reply: Reply) -> Result<(), Fail>
+    requires sound { IsSound state.old.rows }
+    requires moment { command.now.moment ≤ 2 ^ 62 }
+    ensures { OnOk result (IsSound state.new.rows) }
+{
+    if step(alloc, state, command)? != reply {
+        return Err(Fail::new("the reply is another"));
+    }
+    Ok(())
+}
+
+fn opened(serial: u64) -> Reply {
+    Reply::Answered(Answer::SessionOpened {
+        serial,
+        word_a: WORD_A,
+        word_b: WORD_B,
+    })
+}
+
+/// The changes of a session that root opens at this time.
+fn session_changes(serial: u64, scope: Scope, time: u64) -> [Change; 3]
+    requires serial { serial ≤ 1 }
+    requires time { time ≤ 2 ^ 62 }
+{
+    [
+        Change::Time(time),
+        Change::NextSerial(serial + 1),
+        Change::PutSession(SessionRow {
+            serial,
+            word_a: WORD_A,
+            word_b: WORD_B,
+            principal: 1,
+            scope,
+            expires: time + 3_600_000,
+        }),
+    ]
+}
+
+/// Checks the reply and the changes of a command.
+fn check(
+    alloc: Global,
+    state: &State,
+    command: &Command,
+    reply: &Reply,
+    changes: &[Change],
+) -> Result<(), Fail>
+    requires sound { IsSound state.now.rows }
+    requires moment { command.now.moment ≤ 2 ^ 62 }
+{
+    let decision = decide(alloc, state, command)?;
+    if &decision.reply != reply {
+        return Err(Fail::new("the reply is another"));
+    }
+    if decision.changes.as_slice() != changes {
+        return Err(Fail::new("the changes are others"));
+    }
+    Ok(())
+}
+
+/// Checks a session that is opened at moment 0 as the first.
+fn check_first(
+    alloc: Global,
+    state: &State,
+    scope: Option<&str>,
+    granted: Scope,
+) -> Result<(), Fail>
+    requires { IsSound state.now.rows }
+{
+    let command = root_opening(alloc, scope, 0)?;
+    let changes = session_changes(0, granted, 0);
+    check(alloc, state, &command, &opened(0), changes.as_slice())
+}
+
+/// Checks that a session of this client isn't opened.
+fn check_refused(
+    alloc: Global,
+    state: &State,
+    secret: &str,
+    scope: Option<&str>,
+    charge: u64,
+    why: Refusal,
+) -> Result<(), Fail>
+    requires { IsSound state.now.rows }
+{
+    let command = opening(alloc, "root", secret, scope, charge)?;
+    let none = Vec::new(alloc);
+    check(
+        alloc,
+        state,
+        &command,
+        &Reply::Refused(why),
+        none.as_slice(),
+    )
+}
+
+fn check_scopes(alloc: Global, state: &State) -> Result<(), Fail>
+    requires { IsSound state.now.rows }
+{
+    for scope in [
+        None,
+        Some("PRINCIPAL_ROLE:ALL"),
+        Some("PRINCIPAL_ROLE:service_admin PRINCIPAL_ROLE:ALL"),
+    ] {
+        check_first(alloc, state, scope, Scope::All)?;
+    }
+    let admin = Scope::Roles(RoleIds::from(vec![in alloc; 2]?));
+    check_first(alloc, state, Some("PRINCIPAL_ROLE:service_admin"), admin)?;
+    for scope in [
+        "",
+        "PRINCIPAL_ROLE:",
+        "PRINCIPAL_ROLE:nobody",
+        "PRINCIPAL_ROLE:all",
+        "service_admin",
+        "PRINCIPAL_ROLE:ALL nobody",
+    ] {
+        check_refused(
+            alloc,
+            state,
+            "s3cr3t",
+            Some(scope),
+            0,
+            Refusal::InvalidScope,
+        )?;
+    }
+    Ok(())
+}
+
+#[test]
+fn scope_is_all_roles_or_roles_of_the_principal(rt: HostRuntime) -> Result<(), Fail> {
+    let state = fresh(rt.alloc())?;
+    check_scopes(rt.alloc(), &state)
+}
+
+#[test]
+fn copy_decides_as_its_source(rt: HostRuntime) -> Result<(), Fail> {
+    let state = copy(&fresh(rt.alloc())?)?;
+    check_first(rt.alloc(), &state, None, Scope::All)
+}
+
+/// Checks the refusals where the run is full and no serial is left, each before the ones below it.
+fn check_refusals(alloc: Global, state: &State) -> Result<(), Fail>
+    requires { IsSound state.now.rows }
+{
+    let full = Refusal::RunFull {
+        charged: 1_073_741_824,
+        charge: 512,
+    };
+    check_refused(alloc, state, "s3cr3u", Some("nobody"), 512, full)?;
+    check_refused(
+        alloc,
+        state,
+        "s3cr3u",
+        Some("nobody"),
+        0,
+        Refusal::InvalidClient,
+    )?;
+    check_refused(
+        alloc,
+        state,
+        "s3cr3t",
+        Some("nobody"),
+        0,
+        Refusal::InvalidScope,
+    )?;
+    let limit = Refusal::Limit {
+        quantity: Quantity::NextSerial,
+        bound: 4_611_686_018_427_387_904,
+    };
+    check_refused(alloc, state, "s3cr3t", None, 0, limit)
+}
+
+#[test]
+fn refusals_come_in_their_order(rt: HostRuntime) -> Result<(), Fail> {
+    let state = raised(rt.alloc(), SERIAL_BOUND, RUN_BOUND)?;
+    check_refusals(rt.alloc(), &state)
+}
+
+/// Checks that a refused session takes no serial, and that an earlier moment doesn't turn the time back.
+fn check_steps(alloc: Global, state: &mut State) -> Result<(), Fail>
+    requires { IsSound state.old.rows }
+{
+    let refused = opening(alloc, "root", "s3cr3u", None, 0)?;
+    check_step(
+        alloc,
+        state,
+        &refused,
+        Reply::Refused(Refusal::InvalidClient),
+    )?;
+    let first = root_opening(alloc, None, 5_000)?;
+    check_step(alloc, state, &first, opened(0))?;
+    let second = root_opening(alloc, None, 1_000)?;
+    let changes = session_changes(1, Scope::All, 5_000);
+    check(alloc, state, &second, &opened(1), changes.as_slice())
+}
+
+#[test]
+fn serials_rise_by_one_and_time_never_goes_back(rt: HostRuntime) -> Result<(), Fail> {
+    let mut state = fresh(rt.alloc())?;
+    check_steps(rt.alloc(), &mut state)
+}
+
+#[test]
+fn role_of_another_principal_is_no_scope(rt: HostRuntime) -> Result<(), Fail> {
+    let alloc = rt.alloc();
+    let mut access = Access::new(alloc);
+    let name = Plain::new(alloc, "audit")?;
+    access.put_principal_role(alloc, PrincipalRoleRow { id: 9, name })?;
+    access.put_member(MemberRow {
+        principal: 4,
+        role: 9,
+    })?;
+    let audit = words(alloc, Some("PRINCIPAL_ROLE:audit"))?;
+    for (principal, held) in [(4, true), (9, false), (5, false)] {
+        assert_eq!(rt; are_scopes(&access, principal, &audit), held);
+    }
+    Ok(())
+}
+
+#[test]
+fn quantity_prints_its_name(rt: HostRuntime) -> Result<(), Fail> {
+    let text = format!(in rt.alloc(); "{}", Quantity::NextSerial)?;
+    assert_eq!(rt; text.as_str(), "next_serial");
+    Ok(())
+}
