@@ -94,6 +94,11 @@ const REFUSED_FORMS: [(&str, &str); 18] = [
 const INVALID_CLIENT: &str =
     "HTTP/1.1 401 Unauthorized\r\ncontent-type: application/json\r\ncontent-length: 26\r\n\r\n{\"error\":\"invalid_client\"}";
 
+/// How the answer of a token, and that of a failed draw, begin.
+const TOKEN: &[u8] = b"HTTP/1.1 200 OK";
+
+const DRAW_FAULT: &[u8] = b"HTTP/1.1 503 Service Unavailable";
+
 /// The calls that are to fail, counted from 1; 0 stands for none.
 #[derive(Clone, Copy, Default)]
 struct Failing {
@@ -315,10 +320,11 @@ fn check_pieces(rt: &HostRuntime, input: &str, output: &str) -> Result<(), Fail>
 #[test]
 fn pieces_make_no_difference(rt: HostRuntime) -> Result<(), Fail> {
     let alloc = rt.alloc();
+    let request = token_request(alloc, FORM)?;
     let refused = token_request(alloc, OTHER_SECRET)?;
-    let input = before_token(alloc, refused.as_str())?;
-    let token = token_answer(alloc, "000000000000000000000000000000020000000000000003")?;
-    let answers = joined(alloc, INVALID_CLIENT, token.as_str())?;
+    let input = joined(alloc, request.as_str(), refused.as_str())?;
+    let token = token_answer(alloc, "000000000000000000000000000000000000000000000001")?;
+    let answers = joined(alloc, token.as_str(), INVALID_CLIENT)?;
     check_pieces(&rt, input.as_str(), answers.as_str())
 }
 
@@ -379,55 +385,70 @@ fn each_request_has_its_answer(rt: HostRuntime) -> Result<(), Fail> {
     Ok(())
 }
 
-/// Three token requests, each a piece of its own, over devices where these calls are to fail: the status, and how
-/// many tokens and failed draws are told.
-fn exec_failing(
+/// What came of a run over three token requests: the status, how many tokens were given, and how many of them stand
+/// before the failed draw, if there is one.
+type Told = (u8, usize, Option<usize>);
+
+/// Checks what comes of three token requests, each a piece of its own, over devices where these calls are to fail.
+fn check_failing(
     rt: &HostRuntime,
     request: &str,
     failing: Failing,
-) -> Result<(u8, usize, usize), Fail> {
+    told: Told,
+) -> Result<(), Fail> {
     let alloc = rt.alloc();
     let input = request.repeat(alloc, 3)?;
     let length = request.len();
     let ends = vec![in alloc; length, length * 2]?;
     let draw = CountingDraw::new(calls(alloc, failing.word)?);
     let ran = run_line(rt, EXEC, input.as_bytes(), ends, draw, failing)?;
-    Ok((
-        ran.status,
-        count(ran.output.as_slice(), b"HTTP/1.1 200 OK"),
-        count(ran.output.as_slice(), b"HTTP/1.1 503 Service Unavailable"),
-    ))
+    let output = ran.output.as_slice();
+    if (ran.status, tokens(output), tokens_before_fault(output)) != told {
+        return Err(Fail::new("the fault is told in another way"));
+    }
+    Ok(())
 }
 
-/// How often a text stands in the bytes.
-fn count(bytes: &[u8], text: &[u8]) -> usize {
-    bytes
-        .windows(text.len().max(1))
-        .filter(|window| *window == text)
+/// How many tokens are given.
+fn tokens(output: &[u8]) -> usize {
+    output
+        .windows(TOKEN.len())
+        .filter(|window| *window == TOKEN)
         .count()
+}
+
+/// How many tokens are given before the first failed draw, if there is one.
+fn tokens_before_fault(output: &[u8]) -> Option<usize> {
+    let place = output
+        .windows(DRAW_FAULT.len())
+        .position(|window| window == DRAW_FAULT)?;
+    Some(tokens(&output[..place]))
 }
 
 #[test]
 fn each_fault_is_told(rt: HostRuntime) -> Result<(), Fail> {
     let request = token_request(rt.alloc(), FORM)?;
-    for number in 1..=3u8 {
-        let call = u64::from(number);
-        let before = usize::from(number) - 1;
+    for before in 0..4u8 {
         let take = Failing {
-            take: call,
+            take: u64::from(before) + 1,
             ..Failing::default()
         };
-        assert_eq!(&rt; exec_failing(&rt, request.as_str(), take)?, (1, before, 0));
+        check_failing(&rt, request.as_str(), take, (1, usize::from(before), None))?;
+    }
+    for before in 0..3u8 {
         let give = Failing {
-            give: call,
+            give: u64::from(before) + 1,
             ..Failing::default()
         };
-        assert_eq!(&rt; exec_failing(&rt, request.as_str(), give)?, (1, before, 0));
+        check_failing(&rt, request.as_str(), give, (1, usize::from(before), None))?;
+    }
+    for drawn in 0..6u8 {
         let word = Failing {
-            word: call,
+            word: u64::from(drawn) + 1,
             ..Failing::default()
         };
-        assert_eq!(&rt; exec_failing(&rt, request.as_str(), word)?, (0, 2, 1));
+        let before = usize::from(drawn / 2);
+        check_failing(&rt, request.as_str(), word, (0, 2, Some(before)))?;
     }
     Ok(())
 }
