@@ -7,3 +7,6 @@ mod rows;
 
 pub use content::Content;
 pub use rows::{CatalogRow, NamespaceName, NamespaceRow};
+
+#[cfg(test)]
+mod tests;
