@@ -1,5 +1,5 @@
 //! The routes of the table's paths.
-ghost use Rattle.std.specs.Prelude.{◌≡◌, ◌≢◌, OnOk, [], map, option_map, find};
+ghost use Rattle.std.specs.Prelude.{◌≡◌, ◌≢◌, IfOk, OnOk, [], map, option_map, find};
 ghost use Rattle.matchit.specs.Route.{parse_route};
 ghost use Rattle.pol_routes.specs.Route as spec;
 ghost use Rattle.pol_routes.specs.Table.{entry_of, table};
@@ -31,7 +31,9 @@ impl Model for Routes {
 impl Routes {
     /// The routes. Nothing but want of memory is in their way.
     #[tactic(auto, unfolding(crate::specs::Route::table_routes))]
-    pub fn new(alloc: Global) -> Result<Routes, OutOfMemory> {
+    pub fn new(alloc: Global) -> Result<Routes, OutOfMemory>
+        ensures { IfOk result (λ routes. routes ≡ spec.table_routes) }
+    {
         let mut router = Router::new(alloc);
         insert_paths(&mut router, table_rows())?;
         Ok(Routes { router })
