@@ -9,21 +9,13 @@ use Rattle.pol_access.specs.declared.rows.PrincipalRow.{PrincipalRow}
 use Rattle.pol_access.specs.declared.rows.PrincipalRoleRow.{PrincipalRoleRow}
 use Rattle.pol_names.specs.declared.scope.Scope.{Scope}
 use Rattle.pol_names.specs.declared.scope.Scope.TheVariants as scope
+pub use Rattle.pol_tables.specs.Numbered.{AreNumbered, IsGiven}
 use Rattle.pol_tables.specs.Rising.{KeysRise}
 use Rattle.pol_tables.specs.Same.{same}
 use Rattle.pol_tables.specs.Table.{knows}
 use Rattle.pol_tokens.specs.Tokens.{TokenRows, serial_of}
 use Rattle.pol_tokens.specs.declared.session.SessionRow.{SessionRow}
 use Rattle.pol_machine.specs.Rows.{Rows}
-
--- an id that was given out: from 1 to below the next one
-abbrev pub IsGiven : ℕ → ℕ → Type 0
-IsGiven next_id id = (1 ≤ id) × (id < next_id)
-
--- rows whose ids rise and were given out
-pub record AreNumbered {R : Type 0} (key : R → ℕ) (next_id : ℕ) (rows : List R) : Type 0 where
-  pub rise : KeysRise key rows
-  pub given : AllByRecursion (λ row. IsGiven next_id (key row)) rows
 
 -- the chain of access that root holds: principal `root`, principal role `service_admin`, and root's membership
 pub record HasRootChain (access : AccessRows) : Type 0 where

@@ -2,7 +2,7 @@ use Rattle.std.proofs.Common.{◌≡◌, ℕ, Bool, true, false, ◌↔◌, IsTr
 use Rattle.std.specs.Cmp.Lexicographic.{lists_equiv, nat_list_eq_equiv, same_text}
 use Rattle.std.proofs.lemmas.Bool.{cases_Bool}
 use Rattle.pol_types.specs.Exact.{pointwise_exact}
-use Rattle.pol_content.specs.Content.{is_child, same_parent}
+use Rattle.pol_content.specs.Content.{same_parent}
 use Rattle.pol_content.proofs.content.is_child.Goals as goal
 
 -- a test that holds exactly where the parent is this one is `same_parent`

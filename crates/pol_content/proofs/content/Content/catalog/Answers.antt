@@ -1,4 +1,3 @@
-use Rattle.std.proofs.Common.{ap, rules}
 use Rattle.std.specs.Option.{option_copied}
 use Rattle.pol_content.specs.Content.{catalog_id, is_catalog_named}
 use Rattle.pol_content.proofs.NamesLemmas.{catalogs_alike, first_found}

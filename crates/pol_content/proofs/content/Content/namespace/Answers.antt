@@ -1,4 +1,3 @@
-use Rattle.std.proofs.Common.{ap, rules}
 use Rattle.std.specs.Option.{option_copied}
 use Rattle.pol_content.specs.Content.{namespace_id, is_namespace_named}
 use Rattle.pol_content.proofs.NamesLemmas.{namespaces_alike, first_found}
