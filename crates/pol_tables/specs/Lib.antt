@@ -1,6 +1,7 @@
 pub mod Changes
 pub mod Facts
 pub mod Index
+pub mod Kept
 pub mod Laws
 pub mod Named
 pub mod Number
