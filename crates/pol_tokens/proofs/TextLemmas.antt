@@ -1,10 +1,10 @@
 -- The digits of words read back.
-use Rattle.std.proofs.Common.{◌≡◌, ℕ, Ok, zero, suc, ◌<◌, ◌*◌, ◌/◌, ◌%◌, ◌+◌, ◌^◌, List, [], ◌∷◌, ◌++◌, length, take, drop, refl, sym, ap, ◌∙◌, arith}
+use Rattle.std.proofs.Common.{◌≡◌, ℕ, Ok, ◌≤◌, zero, suc, ◌<◌, ◌*◌, ◌+◌, ◌^◌, List, ◌++◌, length, take, drop, refl, sym, ap, ◌∙◌, append_assoc, arith}
 use Rattle.std.specs.Int.{byte_at, bytes_high_first, to_be_bytes, from_be_bytes, w64}
 use Rattle.std.proofs.lemmas.Nat.{from_be_bytes-to_be_bytes_8}
 use Rattle.std.proofs.lemmas.List.{take_at, drop_at, length-append}
-use Rattle.hex.specs.Hex.{IsBytes, decode_of, encode_lower, lower_digits}
-use Rattle.hex.proofs.HexLemmas.{length-encode_with, decode_of-encode_lower, decode_of-same}
+use Rattle.hex.specs.Hex.{IsBytes, decode_of, decode_sized, lower_digits}
+use Rattle.hex.proofs.HexLemmas.{length-encode_with, decode_of-encode_lower, decode_of-same, decode_sized-twice}
 use Rattle.pol_tokens.specs.Text.{word_digits, text_of_token}
 
 -- the bytes of a number are bytes
@@ -50,3 +50,25 @@ text_of_token-tell serial word_a word_b other other_a other_b fits fits_a fits_b
     let ends = parts_tell 32 (word_digits serial ++ word_digits word_a) (word_digits word_b) (word_digits other ++ word_digits other_a) (word_digits other_b) (long serial word_a) (long other other_a) is in
     let heads = parts_tell 16 (word_digits serial) (word_digits word_a) (word_digits other) (word_digits other_a) (length-word_digits serial) (length-word_digits other) ends.0 in
     (word_digits-tell serial other fits other_fits heads.0, word_digits-tell word_a other_a fits_a other_fits_a heads.1, word_digits-tell word_b other_b fits_b other_fits_b ends.1)
+
+-- the first 16 digits of a token's text are its serial's
+first_digits : (serial word_a word_b : ℕ) → take 16 (text_of_token serial word_a word_b) ≡ word_digits serial
+unfolding text_of_token
+first_digits serial word_a word_b =
+    ap (take 16) (append_assoc (word_digits serial) (word_digits word_a) (word_digits word_b))
+    ∙ take_at (word_digits serial) (word_digits word_a ++ word_digits word_b) 16 (length-word_digits serial)
+
+pub text_of_token-long : (serial word_a word_b : ℕ) → 16 ≤ length (text_of_token serial word_a word_b)
+unfolding text_of_token
+text_of_token-long serial word_a word_b =
+    let whole = length-append (word_digits serial ++ word_digits word_a) (word_digits word_b) in
+    let heads = length-append (word_digits serial) (word_digits word_a) in
+    let first = length-word_digits serial in
+    omega (arith, whole, heads, first)
+
+-- and they spell it
+pub decode-serial : (serial word_a word_b : ℕ) → decode_sized (take 16 (text_of_token serial word_a word_b)) 8 ≡ Ok (to_be_bytes w64 serial)
+decode-serial serial word_a word_b =
+    ap (λ digits. decode_sized digits 8) (first_digits serial word_a word_b)
+    ∙ decode_sized-twice (word_digits serial) 8 (length-word_digits serial)
+    ∙ decode_of-encode_lower (to_be_bytes w64 serial) (IsBytes-high_first 8 serial)

@@ -57,3 +57,51 @@ fn session_is_found_by_its_serial(rt: HostRuntime) -> Result<(), Fail> {
     assert_eq!(rt; tokens.session(5), None);
     Ok(())
 }
+
+#[test]
+fn session_is_found_by_its_text_until_it_expires(rt: HostRuntime) -> Result<(), Fail> {
+    let alloc = rt.alloc();
+    let mut tokens = Tokens::new(alloc);
+    tokens.reserve_sessions(2)?;
+    tokens.put_session(session(4, Scope::All));
+    tokens.put_session(session(0xab, Scope::All));
+    let cases: [(&[u8], u64, Option<u64>); 12] = [
+        (
+            b"000000000000000400000000000000070000000000000008",
+            0,
+            Some(4),
+        ),
+        (
+            b"00000000000000ab00000000000000070000000000000008",
+            0,
+            Some(0xab),
+        ),
+        (
+            b"000000000000000400000000000000070000000000000008",
+            3_599_999,
+            Some(4),
+        ),
+        (
+            b"000000000000000400000000000000070000000000000008",
+            3_600_000,
+            None,
+        ),
+        (b"000000000000000400000000000000070000000000000009", 0, None),
+        (b"000000000000000400000000000000060000000000000008", 0, None),
+        (b"000000000000000500000000000000070000000000000008", 0, None),
+        (b"00000000000000040000000000000007000000000000000", 0, None),
+        (
+            b"0000000000000004000000000000000700000000000000080",
+            0,
+            None,
+        ),
+        (b"00000000000000AB00000000000000070000000000000008", 0, None),
+        (b"000000000000000g00000000000000070000000000000008", 0, None),
+        (b"", 0, None),
+    ];
+    for (text, now, serial) in cases {
+        let found = tokens.find_session(text, now);
+        assert_eq!(rt; found.map(|row| row.serial), serial);
+    }
+    Ok(())
+}

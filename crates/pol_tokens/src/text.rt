@@ -1,5 +1,7 @@
 ghost use Rattle.std.specs.Prelude.{◌≡◌, length};
-ghost use Rattle.pol_tokens.specs.Text.{text_of_token, word_digits};
+ghost use Rattle.pol_tokens.specs.Text.{text_of_token, word_digits, TellsSerial};
+
+use hex::FromHex;
 
 /// How many bytes the text of a token has.
 pub const TOKEN_LENGTH: usize = 48;
@@ -25,4 +27,13 @@ fn write_word(digits: &mut [u8], word: u64)
     ensures { digits.new ≡ word_digits word }
 {
     let _ = hex::encode_to_slice(word.to_be_bytes(), digits);
+}
+
+/// The serial that the first 16 digits of a text spell.
+pub(crate) fn serial_in(text: &[u8]) -> Option<u64>
+    ensures { TellsSerial text.now result }
+{
+    let (digits, _) = text.split_at_checked(16)?;
+    let word = <[u8; 8]>::from_hex(digits).ok()?;
+    Some(u64::from_be_bytes(word))
 }

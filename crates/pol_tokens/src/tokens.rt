@@ -1,8 +1,9 @@
 ghost use Rattle.std.specs.Prelude.{◌≡◌, ◌<◌, ◌≤◌, ◌+◌, [], false, true, IsOk, OnOk, option_copied};
 ghost use Rattle.pol_tables.specs.Table.{knows, row_of, rows_with};
-ghost use Rattle.pol_tokens.specs.Tokens.{serial_of};
+ghost use Rattle.pol_tokens.specs.Tokens.{find_session, serial_of};
 
 use crate::SessionRow;
+use crate::text::{serial_in, token_text};
 use pol_tables::Table;
 use pol_types::OutOfMemory;
 use std::alloc::{AllocError, Global};
@@ -16,11 +17,13 @@ pub struct Tokens {
 }
 
 impl Model for Tokens {
-    ghost use Rattle.pol_tokens.specs.Tokens.{TokensValue};
+    ghost use Rattle.pol_tokens.specs.Tokens.{TokensValue, AreSessions};
 
     ghost Value = { TokensValue };
 
     ghost view = { λ tokens. record { rows = record { sessions = tokens.sessions.rows }; room = record { sessions = tokens.sessions.room } } };
+
+    ghost invariant = { λ tokens. AreSessions tokens.sessions.rows };
 }
 
 impl Tokens {
@@ -38,6 +41,19 @@ impl Tokens {
         ensures { option_copied result ≡ row_of serial_of serial self.now.rows.sessions }
     {
         self.sessions.find(serial)
+    }
+
+    /// The session of this text that has not expired at `now`, in milliseconds. A session is expired when the time has
+    /// reached its expiry.
+    pub fn find_session(&self, text: &[u8], now: u64) -> Option<&SessionRow>
+        ensures { option_copied result ≡ find_session text.now now self.now.rows }
+    {
+        let row = self.sessions.find(serial_in(text)?)?;
+        let written = token_text(row.serial, row.word_a, row.word_b);
+        if text == written.as_slice() && now < row.expires {
+            return Some(row);
+        }
+        None
     }
 
     /// Makes room for `more` sessions, so that putting as many takes no memory.
