@@ -1,2 +1,3 @@
 mod CutLemmas
+mod SetLemmas
 pub mod LookUpLemmas

@@ -1,8 +1,8 @@
 -- Look-ups in maps from texts to texts, and what they tell of the maps.
-use Rattle.std.proofs.Common.{◌≡◌, ℕ, Bool, true, false, not, cond, List, [], ◌∷◌, ◌++◌, filter, Option, Some, None, refl, sym, ap, subst, ◌∙◌, inl, inr, true≢false}
+use Rattle.std.proofs.Common.{◌≡◌, ℕ, Bool, true, false, not, cond, List, [], ◌∷◌, filter, Option, Some, None, refl, sym, ap, ◌∙◌, inl, inr, true≢false}
 use Rattle.std.specs.Cmp.{tied_back, tied_itself}
 use Rattle.std.specs.Cmp.Lexicographic.{slice_cmp, nat_list_cmp_total, nat_list_eq_equiv}
-use Rattle.std.specs.List.{AllByRecursion, find}
+use Rattle.std.specs.List.{AllByRecursion, find, fold}
 use Rattle.std.specs.List.Sorted.{IsStrictlySortedBy}
 use Rattle.std.specs.Option.{option_map, option_or}
 use Rattle.std.specs.Ordering.{nat_cmp, is_gt, is_lt, is_eq, ordering_reverse}
@@ -13,10 +13,10 @@ use Rattle.std.proofs.lemmas.Bool.{cases_Bool}
 use Rattle.std.proofs.lemmas.List.Folds.{find-append}
 use Rattle.std.proofs.lemmas.Map.Text.{is_eq-slice_cmp}
 use Rattle.std.proofs.lemmas.Slice.Eq.{bytes_eq-Decides}
-use Rattle.pol_properties.specs.Laws.{EqualLookUpsAreEqualMaps, OtherKeysStay, OtherKeysStayWithout, RemovedKeyIsGone, ValueIsSet}
-use Rattle.pol_properties.specs.Properties.{compared, has_key, KeysAscend, value_of, with_value, without_key}
+use Rattle.pol_properties.specs.Laws.{EqualLookUpsAreEqualMaps, OtherKeysStayWithout, RemovedKeyIsGone, ValuesAreUpdated}
+use Rattle.pol_properties.specs.Properties.{compared, has_key, is_among, KeysAscend, value_of, with_value, without_key}
 use Rattle.pol_properties.specs.declared.property.Property.{Property}
-use Rattle.pol_properties.proofs.CutLemmas.{by_keys, find_told, has_key-told}
+use Rattle.pol_properties.proofs.CutLemmas.{by_keys, find_told}
 
 or_none : {X : Type 0} (found : Option X) → option_or found None ≡ found
 or_none None = refl
@@ -149,3 +149,32 @@ equal_look_ups_are_equal_maps (x ∷ xs) (y ∷ ys) left right alike =
     by Greater is rest =
         let back = nat_list_cmp_total.antisymm y.key x.key ∙ ap ordering_reverse is in
         let contrary : None ≡ Some y.value = sym (absent_below y.key (x ∷ xs) (back, below_all y.key x xs back left.0)) ∙ alike y.key ∙ first_value y ys in cc
+
+-- the values of each key once pairs are put in turn, where no two of these have one key
+values_are_put : (key : List ℕ) (updates pairs : List Property) → KeysAscend updates → value_of key (fold (λ made pair. with_value pair made) pairs updates) ≡ option_or (value_of key updates) (value_of key pairs)
+unfolding IsStrictlySortedBy
+values_are_put key [] pairs ascend = refl
+values_are_put key (update ∷ updates) pairs ascend = elim (cases_Bool (has_key key update)) [
+  | inl has ↦
+      let is = same_key key update has in
+      let last : value_of key updates ≡ None = ap (λ k. value_of k updates) (sym is) ∙ absent_below update.key updates ascend.0 in
+      let put : value_of key (with_value update pairs) ≡ Some update.value = ap (λ k. value_of k (with_value update pairs)) (sym is) ∙ value_is_set update pairs in
+      let first : value_of key (update ∷ updates) ≡ Some update.value = rw has refl in
+      values_are_put key updates (with_value update pairs) ascend.1
+      ∙ (λ i. option_or (last i) (put i))
+      ∙ sym (ap (λ found. option_or found (value_of key pairs)) first)
+  | inr other ↦
+      values_are_put key updates (with_value update pairs) ascend.1
+      ∙ ap (option_or (value_of key updates)) (other_keys_stay update pairs key other)
+      ∙ sym (ap (λ found. option_or found (value_of key pairs)) (passed_value key update updates other))
+]
+
+values_without : (key : List ℕ) (removals : List (List ℕ)) (pairs : List Property) → value_of key (filter (λ pair. not (is_among removals pair.key)) pairs) ≡ cond (is_among removals key) None (value_of key pairs)
+values_without key removals pairs =
+    ap value_in (find-filter (has_key key) (λ pair. not (is_among removals pair.key)) (not (is_among removals key)) (λ pair has. ap (λ k. not (is_among removals k)) (same_key key pair has)) pairs)
+    ∙ elim (is_among removals key) as (λ b. value_in (cond (not b) (find (has_key key) pairs) None) ≡ cond b None (value_of key pairs)) [ true ↦ refl | false ↦ refl ]
+
+pub values_are_updated : ValuesAreUpdated
+values_are_updated key removals updates pairs ascend =
+    values_are_put key updates (filter (λ pair. not (is_among removals pair.key)) pairs) ascend
+    ∙ ap (option_or (value_of key updates)) (values_without key removals pairs)

@@ -1,12 +1,12 @@
-ghost use Rattle.std.specs.Prelude.{◌≡◌, ◌↔◌, [], length, is_some, None, IsTrue, IfOk, IfErr, OnOk, OnErr, option_copied};
+ghost use Rattle.std.specs.Prelude.{◌≡◌, ◌↔◌, [], length, filter, not, is_some, None, IsTrue, IfOk, IfErr, OnOk, OnErr, option_copied};
 ghost use Rattle.std.specs.Cmp.{partial_equiv_from_equiv};
 ghost use Rattle.std.specs.Cmp.Lexicographic.{lists_equiv, pointwise};
 ghost use Rattle.std.specs.Slice.Iter.{iter_rest};
 ghost use Rattle.pol_types.specs.Exact.{pointwise_exact};
-ghost use Rattle.pol_properties.specs.Properties.{KeysAscend, IsAt, IsGap, of_pairs, same_pair, same_pair_equiv, same_pair_exact, value_of, with_value, without_key};
+ghost use Rattle.pol_properties.specs.Properties.{KeysAscend, IsAt, IsGap, in_byte_order, is_among, keys, missing_keys, of_pairs, pairs_updated, removed_keys, same_pair, same_pair_equiv, same_pair_exact, twice, value_of, with_value, without_key};
 
 use crate::Property;
-use pol_types::{Exact, OutOfMemory, Text};
+use pol_types::{Exact, Listed, OutOfMemory, Text};
 use std::alloc::{AllocError, Global};
 use std::marker::Model;
 use std::slice;
@@ -116,6 +116,91 @@ impl Properties {
         }
     }
 
+    /// The keys, in byte order.
+    pub fn keys(&self, alloc: Global) -> Result<Listed<Text>, OutOfMemory>
+        ensures { IfOk result (λ found. found ≡ keys self.now) }
+    {
+        let pairs = self.pairs.as_slice();
+        let mut found = Vec::new(alloc);
+        for pair in pairs {
+            found.push(pair.key.clone()?)?;
+        }
+        Ok(Listed::from(found))
+    }
+
+    /// The keys that an update with these removals takes away, in byte order.
+    pub fn removed_keys(
+        &self,
+        alloc: Global,
+        removals: &[Text],
+    ) -> Result<Listed<Text>, OutOfMemory>
+        ensures { IfOk result (λ removed. removed ≡ removed_keys removals.now self.now) }
+    {
+        let pairs = self.pairs.as_slice();
+        let mut removed = Vec::new(alloc);
+        for pair in pairs {
+            if is_among(removals, &pair.key) {
+                removed.push(pair.key.clone()?)?;
+            }
+        }
+        Ok(Listed::from(removed))
+    }
+
+    /// The removals that are no keys here, in byte order, each once.
+    pub fn missing_keys(
+        &self,
+        alloc: Global,
+        removals: &[Text],
+    ) -> Result<Listed<Text>, OutOfMemory>
+        ensures { IfOk result (λ missing. missing ≡ missing_keys removals.now self.now) }
+    {
+        let mut missing = Vec::new(alloc);
+        for key in removals {
+            if !self.contains(key.as_str()) {
+                missing.push(key.clone()?)?;
+            }
+        }
+        Ok(Listed::from(in_byte_order(missing)))
+    }
+
+    /// The pairs once each of the removals is removed and then each of the updates is set, as new properties.
+    pub fn updated(
+        &self,
+        alloc: Global,
+        removals: &[Text],
+        updates: &Properties,
+    ) -> Result<Properties, OutOfMemory>
+        ensures { IfOk result (λ properties. properties ≡ pairs_updated removals.now updates.now self.now) }
+    {
+        let mut properties = self.without(alloc, removals)?;
+        let pairs = updates.pairs.as_slice();
+        for pair in pairs {
+            properties.set(pair.clone()?)?;
+        }
+        Ok(properties)
+    }
+
+    /// The first of the removals that is a key here.
+    pub fn first_among<'a>(&self, removals: &'a [Text]) -> Option<&'a Text>
+        ensures { option_copied result ≡ twice removals.now self.now }
+    {
+        removals.iter().find(|key| self.contains(key.as_str()))
+    }
+
+    /// The pairs whose keys aren't among the removals, as new properties.
+    fn without(&self, alloc: Global, removals: &[Text]) -> Result<Properties, OutOfMemory>
+        ensures { IfOk result (λ properties. properties ≡ filter (λ pair. not (is_among removals.now pair.key)) self.now) }
+    {
+        let pairs = self.pairs.as_slice();
+        let mut kept = Vec::new(alloc);
+        for pair in pairs {
+            if !is_among(removals, &pair.key) {
+                kept.push(pair.clone()?)?;
+            }
+        }
+        Ok(Properties { pairs: kept })
+    }
+
     /// Where the pair of this key stands, or where it would.
     fn place_of(&self, key: &str) -> Result<usize, usize>
         ensures found { IfOk result (IsAt key.now self.now) }
@@ -154,4 +239,21 @@ impl PartialEq for Properties {
 
 impl Eq for Properties {
     ghost laws = { lists_equiv same_pair_equiv };
+}
+
+/// Whether a key is among these.
+fn is_among(keys: &[Text], key: &Text) -> bool
+    ensures { result ≡ is_among keys.now key.now }
+{
+    keys.contains(key)
+}
+
+/// The set of these keys, in byte order.
+fn in_byte_order(keys: Vec<Text>) -> Vec<Text>
+    ensures { result.items ≡ in_byte_order keys.items }
+{
+    let mut ordered = keys;
+    ordered.sort_unstable();
+    ordered.dedup();
+    ordered
 }

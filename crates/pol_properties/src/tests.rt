@@ -1,7 +1,7 @@
 ghost use Rattle.std.specs.Prelude.{◌≡◌, IfOk, map};
 
 use super::*;
-use pol_types::Text;
+use pol_types::{Listed, Text};
 use std::alloc::{AllocError, Global};
 use std::test::Fail;
 
@@ -88,5 +88,68 @@ fn keys_are_set_found_and_taken_away(rt: HostRuntime) -> Result<(), Fail> {
     );
     properties.set(property(alloc, "owner", "ann")?)?;
     assert!(rt; properties == before);
+    Ok(())
+}
+
+/// These texts.
+fn texts(alloc: Global, words: &[&str]) -> Result<Vec<Text>, Fail> {
+    let mut list = Vec::new(alloc);
+    for word in words {
+        list.push(Text::from(String::from_str(alloc, word)?))?;
+    }
+    Ok(list)
+}
+
+/// Whether these are the texts, in their order.
+fn has_texts(alloc: Global, list: &Listed<Text>, words: &[&str]) -> Result<bool, Fail> {
+    let held: Vec<&str> = list.iter().map(|text| text.as_str()).collect(alloc)?;
+    Ok(held.as_slice() == words)
+}
+
+#[test]
+fn updates_tell_what_is_removed_and_missing(rt: HostRuntime) -> Result<(), Fail> {
+    let alloc = rt.alloc();
+    let before = made(alloc, &[("é", "1"), ("k", "1"), ("a", "1")])?;
+    // the removals and the updates; what is removed, what is missing and what is named twice; the pairs that are left
+    let cases: [(
+        (&[&str], &[(&str, &str)]),
+        (&[&str], &[&str], &str),
+        &[(&str, &str)],
+    ); 4] = [
+        (
+            (&[], &[]),
+            (&[], &[], "none"),
+            &[("a", "1"), ("k", "1"), ("é", "1")],
+        ),
+        (
+            (&["k", "z"], &[("y", "1")]),
+            (&["k"], &["z"], "none"),
+            &[("a", "1"), ("y", "1"), ("é", "1")],
+        ),
+        (
+            (&["z", "é", "m", "a", "z", "é"], &[("k", "2"), ("b", "3")]),
+            (&["a", "é"], &["m", "z"], "none"),
+            &[("b", "3"), ("k", "2")],
+        ),
+        (
+            (&["z", "k", "a"], &[("a", "2"), ("k", "v")]),
+            (&["a", "k"], &["z"], "k"),
+            &[("a", "2"), ("k", "v"), ("é", "1")],
+        ),
+    ];
+    for ((removals, updates), (removed, missing, twice), left) in cases {
+        let removals = texts(alloc, removals)?;
+        let removals = removals.as_slice();
+        let updates = made(alloc, updates)?;
+        assert!(rt; has_texts(alloc, &before.removed_keys(alloc, removals)?, removed)?);
+        assert!(rt; has_texts(alloc, &before.missing_keys(alloc, removals)?, missing)?);
+        assert!(rt; has_pairs(alloc, &before.updated(alloc, removals, &updates)?, left)?);
+        let found = match updates.first_among(removals) {
+            Some(key) => key.as_str(),
+            None => "none",
+        };
+        assert!(rt; found == twice);
+    }
+    assert!(rt; has_texts(alloc, &before.keys(alloc)?, &["a", "k", "é"])?);
     Ok(())
 }

@@ -1,5 +1,5 @@
 use Rattle.std.proofs.Common.{Some, ap, subst, sym, ◌∙◌}
-use Rattle.pol_properties.specs.Properties.{IsAt, IsGap, value_of}
+use Rattle.pol_properties.specs.Properties.{IsAt, value_of}
 use Rattle.pol_properties.proofs.CutLemmas.{value_of-missed, value_of-place}
 use Rattle.pol_properties.proofs.properties.Properties.get.Goals as goal
 

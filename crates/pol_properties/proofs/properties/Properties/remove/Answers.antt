@@ -1,5 +1,5 @@
 use Rattle.std.proofs.Common.{Some, ap, subst, sym, ◌∙◌}
-use Rattle.pol_properties.specs.Properties.{IsAt, IsGap, value_of, without_key}
+use Rattle.pol_properties.specs.Properties.{IsAt, value_of, without_key}
 use Rattle.pol_properties.proofs.CutLemmas.{KeysAscend-without, value_of-missed, value_of-place, without_key-missed, without_key-place}
 use Rattle.pol_properties.proofs.properties.Properties.remove.Goals as goal
 

@@ -1,5 +1,5 @@
 use Rattle.std.proofs.Common.{Result, Ok, Err, OnErr, ap, subst, sym, ◌∙◌}
-use Rattle.pol_properties.specs.Properties.{IsAt, IsGap, KeysAscend, value_of, with_value}
+use Rattle.pol_properties.specs.Properties.{IsAt, IsGap, value_of, with_value}
 use Rattle.pol_properties.proofs.CutLemmas.{KeysAscend-insert, KeysAscend-set, value_of-missed, with_value-insert, with_value-place}
 use Rattle.pol_properties.proofs.properties.Properties.set.Goals as goal
 
