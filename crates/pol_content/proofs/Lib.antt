@@ -1,2 +1,3 @@
 mod NamesLemmas
+pub mod OrderLemmas
 pub mod SoundLemmas

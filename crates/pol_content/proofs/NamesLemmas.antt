@@ -1,8 +1,10 @@
 -- Rows whose names differ: a look-up by name finds the one row of the name.
-use Rattle.std.proofs.Common.{◌≡◌, ℕ, Bool, true, false, cond, List, [], ◌∷◌, Option, Some, None, nat_eq, sym, ap, subst, ◌∙◌, inl, inr, true≢false}
+use Rattle.std.proofs.Common.{◌≡◌, ℕ, ◌+◌, Bool, true, false, not, cond, List, [], ◌∷◌, map, Option, Some, None, is_none, is_some, nat_eq, refl, sym, ap, subst, ◌∙◌, inl, inr, true≢false, suc}
+use Rattle.std.specs.Borrow.{Bor}
+use Rattle.std.specs.Option.{option_copied}
 use Rattle.std.specs.Cmp.{IsEquivalence, nat_eq_equiv}
 use Rattle.std.specs.Cmp.Lexicographic.{lists_equiv, nat_list_eq_equiv}
-use Rattle.std.specs.List.{find, AllByRecursion, IsDistinct}
+use Rattle.std.specs.List.{find, range_with_len, AllByRecursion, IsDistinct}
 use Rattle.std.proofs.lemmas.Bool.{and_from, and_parts, cases_Bool}
 use Rattle.std.proofs.lemmas.Map.Keys.{IsDistinct-head, IsDistinct-tail}
 use Rattle.pol_tables.specs.Named.{Finds}
@@ -51,6 +53,37 @@ module _ {R : Type 0} (key : R → ℕ) where
     pub first_found : (rows : List R) → IsDistinct same rows → (found : Option R) → Finds key test rows found → found ≡ find test rows
     first_found rows differ None none = sym none
     first_found rows differ (Some row) found = sym (only_found (key row) row rows differ found.0 found.1)
+
+  module _ (test : R → Bool) where
+    found-some : (id : ℕ) (row : R) (rows : List R) → row_of key id rows ≡ Some row → test row ≡ true → is_none (find test rows) ≡ false
+    found-some id row [] found passes = let contrary : None ≡ Some row = found in cc
+    found-some id row (first ∷ rows) found passes = elim (cases_Bool (test first)) [
+      | inl here ↦ ap (λ b. is_none (cond b (Some first) (find test rows))) here
+      | inr fails ↦ elim (cases_Bool (has_id key id first)) [
+        | inl is ↦
+            absurd (true≢false (sym passes ∙ ap test (sym (at_first id first row rows is found)) ∙ fails))
+        | inr apart ↦
+            ap (λ b. is_none (cond b (Some first) (find test rows))) fails ∙ found-some id row rows (past_first id first row rows apart found) passes
+      ]
+    ]
+
+    none-alike : (rows : List R) (found : Option (Bor R)) → Finds key test rows (option_copied found) → is_none found ≡ is_none (find test rows)
+    none-alike rows None none = sym (ap is_none none)
+    none-alike rows (Some row) found = sym (found-some (key row.now) row.now rows found.0 found.1)
+
+    -- a look-up that may find any row of a name tells whether there is one
+    pub none-found : (rows : List R) (found : Option (Bor R)) (none : Bool) → is_some found ≡ not none → Finds key test rows (option_copied found) → none ≡ is_none (find test rows)
+    none-found rows found none so finds = twice none ∙ ap not (sym so) ∙ none-alike rows found finds
+      where
+        twice : (b : Bool) → b ≡ not (not b)
+        twice true = refl
+        twice false = refl
+
+-- what is found first along a row of numbers
+module _ {X : Type 0} (test : X → Bool) (at : ℕ → X) where
+  pub first-fails : (first many rest : ℕ) → many ≡ suc rest → test (at first) ≡ false → find test (map at (range_with_len first many)) ≡ find test (map at (range_with_len (first + 1) rest))
+  first-fails first many rest more fails =
+      ap (λ n. find test (map at (range_with_len first n))) more ∙ ap (λ b. cond b (Some (at first)) (find test (map at (range_with_len (first + 1) rest)))) fails
 
 -- rows of one name have the same name
 pub catalogs_alike : (name : List ℕ) (left right : CatalogRow) → is_catalog_named name left ≡ true → is_catalog_named name right ≡ true → is_catalog_named left.name right ≡ true

@@ -1,22 +1,24 @@
 -- Sound catalogues and namespaces stay sound once a row is pushed, altered or taken away.
-use Rattle.std.proofs.Common.{◌≡◌, ℕ, ◌+◌, ◌-◌, ◌<◌, ◌≤◌, Bool, true, false, not, cond, ◌&&◌, ◌||◌, List, [], ◌∷◌, ◌++◌, map, filter, take, length, Option, Some, None, nat_eq, nat_lt, refl, sym, ap, subst, ◌∙◌, inl, inr, true≢false, arith, length-append, length-take-le, suc}
+use Rattle.std.proofs.Common.{◌≡◌, ℕ, ◌+◌, ◌-◌, ◌<◌, ◌≤◌, Bool, true, false, not, cond, ◌&&◌, ◌||◌, List, [], ◌∷◌, ◌++◌, map, filter, take, length, Option, Some, None, is_none, is_some, nat_eq, nat_lt, refl, sym, ap, subst, ◌∙◌, inl, inr, true≢false, arith, length-append, length-take-le, suc, zero}
 use Rattle.std.specs.Cmp.{IsEquivalence, and_equiv, nat_eq_equiv, on_equiv}
 use Rattle.std.specs.Cmp.Lexicographic.{lists_equiv, nat_list_eq_equiv, same_text}
 use Rattle.std.specs.Str.{bytes_eq}
-use Rattle.std.specs.List.{find, list_any, AllByRecursion, IsDistinct}
+use Rattle.std.specs.List.{find, list_any, range_with_len, AllByRecursion, IsDistinct}
 use Rattle.std.proofs.lemmas.Bool.{and_from, and_parts, cases_Bool, eq-eqb, eqb-true, lt-ltb, ltb-true, ne_eqb}
+use Rattle.std.proofs.lemmas.List.{take_all}
 use Rattle.std.proofs.lemmas.Map.Keys.{IsDistinct-cons, IsDistinct-head, IsDistinct-push, IsDistinct-tail}
 use Rattle.pol_types.specs.Exact.{pointwise_exact}
 use Rattle.pol_names.specs.Namespace.{parent_of}
-use Rattle.pol_tables.specs.Table.{has_id, knows, row_of, rows_without, IdsDiffer}
+use Rattle.pol_tables.specs.Numbered.{AreNumbered}
+use Rattle.pol_tables.specs.Table.{has_id, knows, row_of, rows_with, rows_without, IdsDiffer}
 use Rattle.pol_tables.proofs.ListLemmas.{each-all, each-filter, each-join, each-map, each-push, each-weaken}
 use Rattle.pol_tables.proofs.NamedLemmas.{each-own}
 use Rattle.pol_tables.proofs.NumberedLemmas.{AreNumbered-filter, AreNumbered-map, AreNumbered-more, AreNumbered-push, below-next}
 use Rattle.pol_tables.proofs.RisingLemmas.{IdsDiffer-rising, knows-below}
-use Rattle.pol_tables.proofs.TableLemmas.{knows-map, some_is}
-use Rattle.pol_content.specs.Content.{catalog_id, is_catalog_named, is_namespace_named, lies_below, namespace_id, none_below, same_levels}
-use Rattle.pol_content.specs.Laws.{AlteredCatalogsKeepSound, AlteredNamespacesKeepSound, DroppedCatalogKeepsSound, DroppedNamespaceKeepsSound, MoreIdsKeepSound, PushedCatalogKeepsSound, PushedNamespaceKeepsSound}
-use Rattle.pol_content.specs.Sound.{HasParent, IsParentThere, IsSmallCatalog, IsSmallNamespace}
+use Rattle.pol_tables.proofs.TableLemmas.{is_some-row_of, knows-map, rows_with-known, rows_with-new, some_is}
+use Rattle.pol_content.specs.Content.{catalog_id, first_missing, is_catalog_named, is_missing, is_namespace_named, ContentRows, lies_below, namespace_id, none_below, same_levels}
+use Rattle.pol_content.specs.Laws.{AlteredCatalogsKeepSound, AlteredNamespacesKeepSound, DroppedCatalogKeepsSound, DroppedNamespaceKeepsSound, MoreIdsKeepSound, NewRowsGoLast, PushedCatalogKeepsSound, PushedNamespaceKeepsSound, ReplacedNamespaceKeepsSound, WholePathsHaveParents}
+use Rattle.pol_content.specs.Sound.{HasParent, IsParentThere, IsSmallCatalog, IsSmallNamespace, IsSoundContent}
 use Rattle.pol_content.specs.declared.rows.CatalogRow.{CatalogRow}
 use Rattle.pol_content.specs.declared.rows.NamespaceRow.{NamespaceRow}
 
@@ -223,6 +225,115 @@ altered_namespaces next_id content alter ids catalogs levels smalls sound = reco
     parent kept there =
         subst (λ catalog. IsParentThere (map alter content.namespaces) catalog (parent_of (alter kept).levels)) (sym (catalogs kept)) (subst (λ names. IsParentThere (map alter content.namespaces) kept.catalog (parent_of names)) (sym (levels kept)) (parent-map alter catalogs levels content.namespaces kept.catalog (parent_of kept.levels) there))
 
+map-each : {X Y : Type 0} (f g : X → Y) (xs : List X) → AllByRecursion (λ x. f x ≡ g x) xs → map f xs ≡ map g xs
+map-each f g [] all = refl
+map-each f g (x ∷ xs) all = λ i. all.0 i ∷ map-each f g xs all.1 i
+
+-- a row of the id, catalogue and levels of one that is there differs from it in its properties alone, so to put it is
+-- to alter the properties under its id
+module _ (row : NamespaceRow) where
+  abbrev with_properties : Bool → NamespaceRow → NamespaceRow
+  with_properties has kept = record {
+    id = kept.id;
+    catalog = kept.catalog;
+    levels = kept.levels;
+    properties = cond has row.properties kept.properties;
+  }
+
+  abbrev alter_one : NamespaceRow → NamespaceRow
+  alter_one kept = with_properties (has_id namespace_id row.id kept) kept
+
+  small_one : IsSmallNamespace row → (has : Bool) (kept : NamespaceRow) → IsSmallNamespace kept → IsSmallNamespace (with_properties has kept)
+  small_one small true kept was = small
+  small_one small false kept was = was
+
+  is_altered : (old : NamespaceRow) (rows : List NamespaceRow) → row_of namespace_id row.id rows ≡ Some old → row.catalog ≡ old.catalog → row.levels ≡ old.levels
+      → (kept : NamespaceRow) → row_of namespace_id kept.id rows ≡ Some kept → (has : Bool) → has_id namespace_id row.id kept ≡ has → cond has row kept ≡ with_properties has kept
+  is_altered old rows found catalogs levels kept own false apart = refl
+  is_altered old rows found catalogs levels kept own true has =
+      let ids = eqb-true row.id kept.id has in
+      let is : old ≡ kept = some_is old kept (sym found ∙ ap (λ id. row_of namespace_id id rows) ids ∙ own) in
+      λ i. record {
+        id = ids i;
+        catalog = (catalogs ∙ ap (λ kept. kept.catalog) is) i;
+        levels = (levels ∙ ap (λ kept. kept.levels) is) i;
+        properties = row.properties;
+      }
+
+pub replaced_namespace : ReplacedNamespaceKeepsSound
+replaced_namespace next_id content old row sound found catalogs levels small =
+    let rows = content.namespaces in
+    let known : knows namespace_id row.id rows ≡ true = sym (is_some-row_of namespace_id row.id rows) ∙ ap is_some found in
+    let owns = each-own namespace_id rows (IdsDiffer-rising namespace_id rows sound.namespaces.rise) in
+    let alike = map-each (λ kept. cond (has_id namespace_id row.id kept) row kept) (alter_one row) rows (each-weaken (λ kept. row_of namespace_id kept.id rows ≡ Some kept) (λ kept. cond (has_id namespace_id row.id kept) row kept ≡ alter_one row kept) rows (λ kept own. is_altered row old rows found catalogs levels kept own (has_id namespace_id row.id kept) refl) owns) in
+    subst (λ after. IsSoundContent next_id (record { catalogs = content.catalogs; namespaces = after })) (sym (rows_with-known namespace_id row rows known ∙ alike)) (altered_namespaces next_id content (alter_one row) (λ kept. refl) (λ kept. refl) (λ kept. refl) (λ kept. small_one row small (has_id namespace_id row.id kept) kept) sound)
+
+goes_last : {R : Type 0} (key : R → ℕ) (next_id : ℕ) (rows : List R) → AreNumbered key next_id rows → (row : R) → key row ≡ next_id → rows_with key row rows ≡ rows ++ row ∷ []
+goes_last key next_id rows numbered row is =
+    rows_with-new key row rows (ap (λ id. knows key id rows) is ∙ knows-below key next_id rows (below-next key next_id rows numbered))
+
+pub new_rows_last : NewRowsGoLast
+new_rows_last next_id content sound =
+    (goes_last catalog_id next_id content.catalogs sound.catalogs, goes_last namespace_id next_id content.namespaces sound.namespaces)
+
+-- where none is found along a row of numbers, the last fails the test
+last-fails : {X : Type 0} (test : X → Bool) (at : ℕ → X) (many first : ℕ) → find test (map at (range_with_len first (suc many))) ≡ None → test (at (first + many)) ≡ false
+last-fails test at zero first none = elim (cases_Bool (test (at first))) [
+  | inl passes ↦ let contrary : Some (at first) ≡ None = sym (ap (λ b. cond b (Some (at first)) None) passes) ∙ none in cc
+  | inr fails ↦ ap (λ n. test (at n)) (omega arith) ∙ fails
+]
+last-fails test at (suc many) first none = elim (cases_Bool (test (at first))) [
+  | inl passes ↦
+      let contrary : Some (at first) ≡ None = sym (ap (λ b. cond b (Some (at first)) (find test (map at (range_with_len (first + 1) (suc many))))) passes) ∙ none in cc
+  | inr fails ↦
+      ap (λ n. test (at n)) (omega arith) ∙ last-fails test at many (first + 1) (sym (ap (λ b. cond b (Some (at first)) (find test (map at (range_with_len (first + 1) (suc many))))) fails) ∙ none)
+]
+
+any-found : {X : Type 0} (test : X → Bool) (xs : List X) → is_none (find test xs) ≡ false → list_any test xs ≡ true
+any-found test [] some = sym some
+any-found test (x ∷ xs) some = elim (cases_Bool (test x)) [
+  | inl passes ↦ ap (λ b. b || list_any test xs) passes
+  | inr fails ↦
+      ap (λ b. b || list_any test xs) fails ∙ any-found test xs (sym (ap (λ b. is_none (cond b (Some x) (find test xs))) fails) ∙ some)
+]
+
+-- a parent has all levels but the last, and there are at least two
+record Front (levels parent : List (List ℕ)) : Type 0 where
+  deep : 1 < length levels
+  levels_is : parent ≡ take (length levels - 1) levels
+  size : length parent ≡ length levels - 1
+
+parent_front : (levels parent : List (List ℕ)) → parent_of levels ≡ Some parent → Front levels parent
+parent_front levels parent is = elim (cases_Bool (nat_lt 1 (length levels))) [
+  | inr single ↦ let contrary : None ≡ Some parent = sym (ap (λ b. cond b (Some (take (length levels - 1) levels)) None) single) ∙ is in cc
+  | inl more ↦
+      let above : 1 < length levels = ltb-true 1 (length levels) more in
+      let front : parent ≡ take (length levels - 1) levels = some_is parent (take (length levels - 1) levels) (sym is ∙ ap (λ b. cond b (Some (take (length levels - 1) levels)) None) more) in
+      record {
+        deep = above;
+        levels_is = front;
+        size = ap length front ∙ length-take-le (length levels - 1) levels (omega arith);
+      }
+]
+
+-- a path on which none is missing is there
+path_there : (catalog : ℕ) (path : List (List ℕ)) (content : ContentRows) → 0 < length path → first_missing catalog path content ≡ None → list_any (is_namespace_named catalog path) content.namespaces ≡ true
+path_there catalog path content filled none =
+    let at : ℕ → List (List ℕ) = (λ depth. take depth path) in
+    let size : length path ≡ suc (length path - 1) = omega (arith, filled) in
+    let last = last-fails (is_missing catalog content) at (length path - 1) 1 (ap (λ n. find (is_missing catalog content) (map at (range_with_len 1 n))) (sym size) ∙ none) in
+    let whole : take (1 + (length path - 1)) path ≡ path = take_all (1 + (length path - 1)) path (omega (arith, filled)) in
+    any-found (is_namespace_named catalog path) content.namespaces (ap (is_missing catalog content) (sym whole) ∙ last)
+
+pub whole_path : WholePathsHaveParents
+whole_path content row whole = by (parent_of row.levels) refl
+  where
+    by : (parent : Option (List (List ℕ))) → parent_of row.levels ≡ parent → IsParentThere content.namespaces row.catalog parent
+    by None is = tt
+    by (Some parent) is =
+        let front = parent_front row.levels parent is in
+        path_there row.catalog parent content (omega (arith, front.deep, front.size)) (whole parent is)
+
 fewer : {X : Type 0} (keep : X → Bool) (xs : List X) (bound : ℕ) → length xs ≤ bound → length (filter keep xs) ≤ bound
 fewer keep xs bound within = omega (arith, length-filter keep xs)
 
@@ -248,16 +359,11 @@ dropped_catalog next_id id content sound empty = record {
 
 -- levels are more than their parent's, which they begin with
 below_parent : (levels parent : List (List ℕ)) → parent_of levels ≡ Some parent → (nat_lt (length parent) (length levels) ≡ true) × (same_levels parent (take (length parent) levels) ≡ true)
-below_parent levels parent is = elim (cases_Bool (nat_lt 1 (length levels))) [
-  | inr single ↦ let contrary : None ≡ Some parent = sym (ap (λ b. cond b (Some (take (length levels - 1) levels)) None) single) ∙ is in cc
-  | inl deep ↦
-      let more : 1 < length levels = ltb-true 1 (length levels) deep in
-      let front : parent ≡ take (length levels - 1) levels = some_is parent (take (length levels - 1) levels) (sym is ∙ ap (λ b. cond b (Some (take (length levels - 1) levels)) None) deep) in
-      let size : length parent ≡ length levels - 1 = ap length front ∙ length-take-le (length levels - 1) levels (omega arith) in (
-        lt-ltb (length parent) (length levels) (omega arith),
-        ap (same_levels parent) (ap (λ n. take n levels) size ∙ sym front) ∙ (lists_equiv nat_list_eq_equiv).refl parent,
-      )
-]
+below_parent levels parent is =
+    let front = parent_front levels parent is in (
+      lt-ltb (length parent) (length levels) (omega (arith, front.deep, front.size)),
+      ap (same_levels parent) (ap (λ n. take n levels) front.size ∙ sym front.levels_is) ∙ (lists_equiv nat_list_eq_equiv).refl parent,
+    )
 
 -- a namespace whose parent is another one lies below it
 lies_below-parent : (upper row : NamespaceRow) → parent_of row.levels ≡ Some upper.levels → upper.catalog ≡ row.catalog → lies_below upper row ≡ true

@@ -1,10 +1,11 @@
 -- Catalogues and namespaces, as contracts see them.
-use Rattle.std.specs.Prelude.{ℕ, Bool, true, false, not, ◌&&◌, ◌==◌, nat_eq, nat_lt, List, length, filter, Option, Some, None}
+use Rattle.std.specs.Prelude.{ℕ, Bool, true, false, not, ◌&&◌, ◌==◌, nat_eq, nat_lt, List, length, filter, map, take, Option, Some, None, is_none}
 use Rattle.std.specs.Cmp.Lexicographic.{pointwise}
-use Rattle.std.specs.List.{find, list_any, starts_with, IsDistinct}
+use Rattle.std.specs.List.{find, list_any, range_with_len, starts_with, IsDistinct}
 use Rattle.std.specs.Str.{bytes_eq}
 use Rattle.pol_names.specs.Namespace.{parent_of}
 use Rattle.pol_tables.specs.Table.{row_of}
+use Rattle.pol_content.specs.Order.{by_levels}
 use Rattle.pol_content.specs.declared.rows.CatalogRow.{CatalogRow}
 use Rattle.pol_content.specs.declared.rows.NamespaceRow.{NamespaceRow}
 
@@ -54,6 +55,18 @@ catalog_named name content = find (is_catalog_named name) content.catalogs
 abbrev pub namespace_named : ℕ → List (List ℕ) → ContentRows → Option NamespaceRow
 namespace_named catalog levels content = find (is_namespace_named catalog levels) content.namespaces
 
+-- the namespaces in which one stands, by rising length, and then itself: those of its first level, of its first two
+-- levels and so on, up to all levels
+abbrev pub lineage : List (List ℕ) → List (List (List ℕ))
+lineage levels = map (λ depth. take depth levels) (range_with_len 1 (length levels))
+
+-- the first of these that the catalogue doesn't have
+abbrev pub is_missing : ℕ → ContentRows → List (List ℕ) → Bool
+is_missing catalog content path = is_none (namespace_named catalog path content)
+
+abbrev pub first_missing : ℕ → List (List ℕ) → ContentRows → Option (List (List ℕ))
+first_missing catalog levels content = find (is_missing catalog content) (lineage levels)
+
 -- whether levels are one more than a parent's; where there is no parent, whether they are one
 abbrev pub same_parent : List (List ℕ) → Option (List (List ℕ)) → Bool
 same_parent parent None = false
@@ -63,12 +76,12 @@ abbrev pub is_child : Option (List (List ℕ)) → List (List ℕ) → Bool
 is_child None levels = length levels == 1
 is_child (Some parent) levels = same_parent parent (parent_of levels)
 
--- the namespaces of a catalogue that stand directly below a parent
+-- the namespaces of a catalogue that stand directly below a parent, in the order of their levels
 abbrev pub is_child_of : ℕ → Option (List (List ℕ)) → NamespaceRow → Bool
 is_child_of catalog parent row = nat_eq row.catalog catalog && is_child parent row.levels
 
 abbrev pub children : ℕ → Option (List (List ℕ)) → ContentRows → List NamespaceRow
-children catalog parent content = filter (is_child_of catalog parent) content.namespaces
+children catalog parent content = by_levels (filter (is_child_of catalog parent) content.namespaces)
 
 -- whether a namespace stands below another one, directly or deeper
 abbrev pub lies_below : NamespaceRow → NamespaceRow → Bool

@@ -1,7 +1,10 @@
 -- Laws of sound catalogues and namespaces.
-use Rattle.std.specs.Prelude.{◌≡◌, ◌+◌, ◌<◌, ◌≤◌, ℕ, true, [], ◌∷◌, ◌++◌, length, map, None}
-use Rattle.pol_tables.specs.Table.{knows, rows_without}
-use Rattle.pol_content.specs.Content.{ContentRows, catalog_id, catalog_is_empty, catalog_named, is_empty, namespace_id, namespace_named}
+use Rattle.std.specs.Prelude.{◌≡◌, ◌+◌, ◌<◌, ◌≤◌, ℕ, true, List, [], ◌∷◌, ◌++◌, length, map, Some, None}
+use Rattle.std.specs.List.Sorted.{IsPermutation, IsSortedBy}
+use Rattle.pol_names.specs.Namespace.{parent_of}
+use Rattle.pol_tables.specs.Table.{knows, row_of, rows_with, rows_without}
+use Rattle.pol_content.specs.Content.{ContentRows, catalog_id, catalog_is_empty, catalog_named, first_missing, is_empty, namespace_id, namespace_named}
+use Rattle.pol_content.specs.Order.{are_levels_less, by_levels, by_name, is_name_less}
 use Rattle.pol_content.specs.Sound.{HasParent, IsSmallCatalog, IsSmallNamespace, IsSoundContent}
 use Rattle.pol_content.specs.declared.rows.CatalogRow.{CatalogRow}
 use Rattle.pol_content.specs.declared.rows.NamespaceRow.{NamespaceRow}
@@ -39,6 +42,26 @@ AlteredNamespacesKeepSound =
     → ((row : NamespaceRow) → IsSmallNamespace row → IsSmallNamespace (alter row)) → IsSoundContent next_id content
     → IsSoundContent next_id (record content { namespaces = map alter content.namespaces })
 
+-- one namespace may be replaced by a row of its id, catalogue and levels that is small
+abbrev pub ReplacedNamespaceKeepsSound : Type 0
+ReplacedNamespaceKeepsSound =
+    (next_id : ℕ) (content : ContentRows) (old row : NamespaceRow) → IsSoundContent next_id content → row_of namespace_id row.id content.namespaces ≡ Some old
+    → row.catalog ≡ old.catalog → row.levels ≡ old.levels → IsSmallNamespace row
+    → IsSoundContent next_id (record content { namespaces = rows_with namespace_id row content.namespaces })
+
+-- a row with the next id goes last
+abbrev pub NewRowsGoLast : Type 0
+NewRowsGoLast =
+    (next_id : ℕ) (content : ContentRows) → IsSoundContent next_id content
+    → ((row : CatalogRow) → row.id ≡ next_id → rows_with catalog_id row content.catalogs ≡ content.catalogs ++ row ∷ [])
+    × ((row : NamespaceRow) → row.id ≡ next_id → rows_with namespace_id row content.namespaces ≡ content.namespaces ++ row ∷ [])
+
+-- a namespace has its parent where none is missing on the way to that one
+abbrev pub WholePathsHaveParents : Type 0
+WholePathsHaveParents =
+    (content : ContentRows) (row : NamespaceRow) → ((parent : List (List ℕ)) → parent_of row.levels ≡ Some parent → first_missing row.catalog parent content ≡ None)
+    → HasParent content.namespaces row
+
 -- a catalogue without namespaces may be taken away
 abbrev pub DroppedCatalogKeepsSound : Type 0
 DroppedCatalogKeepsSound =
@@ -50,3 +73,9 @@ abbrev pub DroppedNamespaceKeepsSound : Type 0
 DroppedNamespaceKeepsSound =
     (next_id id : ℕ) (content : ContentRows) → IsSoundContent next_id content → is_empty id content ≡ true
     → IsSoundContent next_id (record content { namespaces = rows_without namespace_id id content.namespaces })
+
+-- the lists in order have the rows, each as often, and no row's name or levels come before those of the row in front
+abbrev pub ListsAreInOrder : Type 0
+ListsAreInOrder =
+    ((rows : List CatalogRow) → IsPermutation rows (by_name rows) × IsSortedBy is_name_less (by_name rows))
+    × ((rows : List NamespaceRow) → IsPermutation rows (by_levels rows) × IsSortedBy are_levels_less (by_levels rows))

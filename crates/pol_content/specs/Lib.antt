@@ -1,5 +1,6 @@
 pub mod Content
 pub mod Laws
 pub mod Numbers
+pub mod Order
 pub mod Rows
 pub mod Sound

@@ -3,7 +3,8 @@ ghost use Rattle.std.specs.List.{list_any};
 ghost use Rattle.std.specs.Slice.Iter.{iter_rest};
 ghost use Rattle.pol_tables.specs.Named.{Finds};
 ghost use Rattle.pol_tables.specs.Table.{row_of, rows_with, rows_without};
-ghost use Rattle.pol_content.specs.Content.{CatalogNamesDiffer, NamespaceNamesDiffer, catalog_id, catalog_is_empty, catalog_named, children, is_catalog_named, is_child, is_child_of, is_empty, is_namespace_named, lies_below, namespace_id, namespace_named};
+ghost use Rattle.pol_content.specs.Order.{by_levels, by_name};
+ghost use Rattle.pol_content.specs.Content.{CatalogNamesDiffer, NamespaceNamesDiffer, catalog_id, catalog_is_empty, catalog_named, children, first_missing, is_catalog_named, is_child, is_child_of, is_empty, is_missing, is_namespace_named, lies_below, namespace_id, namespace_named};
 
 use crate::{CatalogRow, NamespaceName, NamespaceRow};
 use pol_names::{Namespace, Plain};
@@ -62,6 +63,14 @@ impl Content {
         self.catalogs.rows()
     }
 
+    /// The catalogues in byte order of their names.
+    pub fn catalogs_by_name(&self, alloc: Global) -> Result<Vec<&CatalogRow>, OutOfMemory>
+        ensures { IfOk result (λ listed. map (λ row. row.now) listed.items ≡ by_name self.now.rows.catalogs) }
+    {
+        let rows = self.catalogs.rows().as_slice();
+        sorted_by_name(lent(alloc, rows)?)
+    }
+
     /// The namespace of this catalogue with these levels. It scans no rows.
     pub fn namespace(&self, catalog: u64, levels: &Namespace) -> Option<&NamespaceRow>
         ensures found { Finds namespace_id (is_namespace_named catalog levels.now) self.now.rows.namespaces (option_copied result) }
@@ -84,8 +93,34 @@ impl Content {
         self.namespaces.rows()
     }
 
+    /// The first namespace that the catalogue doesn't have of those in which this one stands, by rising length, and
+    /// then itself; `None` where all are there. It scans no rows.
+    pub fn first_missing(
+        &self,
+        alloc: Global,
+        catalog: u64,
+        levels: &Namespace,
+    ) -> Result<Option<Namespace>, OutOfMemory>
+        ensures { IfOk result (λ missing. missing ≡ first_missing catalog levels.now self.now.rows) }
+    {
+        for depth in 0..levels.levels().len() {
+            let path = levels.ancestor(alloc, depth + 1)?;
+            if self.is_missing(catalog, &path) {
+                return Ok(Some(path));
+            }
+        }
+        Ok(None)
+    }
+
+    /// Whether no namespace of this catalogue has these levels. It scans no rows.
+    fn is_missing(&self, catalog: u64, levels: &Namespace) -> bool
+        ensures { result ≡ is_missing catalog self.now.rows levels.now }
+    {
+        self.namespace(catalog, levels).is_none()
+    }
+
     /// The namespaces of a catalogue that stand directly below the parent, or that have one level where there is
-    /// none, in the order in which they were put.
+    /// none, in the order of their levels.
     pub fn children(
         &self,
         alloc: Global,
@@ -94,7 +129,8 @@ impl Content {
     ) -> Result<Vec<&NamespaceRow>, OutOfMemory>
         ensures { IfOk result (λ found. map (λ row. row.now) found.items ≡ children catalog (option_copied parent.entry) self.now.rows) }
     {
-        children_of(alloc, self.namespaces.rows().as_slice(), catalog, parent)
+        let rows = self.namespaces.rows().as_slice();
+        sorted_by_levels(children_of(alloc, rows, catalog, parent)?)
     }
 
     /// Whether no namespace stands below this one, directly or deeper. An id that isn't there has none below it.
@@ -188,6 +224,31 @@ impl Clone for Content {
             namespaces,
         })
     }
+}
+
+/// The catalogues, in their order.
+fn lent(alloc: Global, rows: &[CatalogRow]) -> Result<Vec<&CatalogRow>, AllocError>
+    ensures { IfOk result (λ lent. map (λ row. row.now) lent.items ≡ rows.now) }
+{
+    rows.iter().collect(alloc)
+}
+
+/// The catalogues in byte order of their names.
+fn sorted_by_name<'a>(rows: Vec<&'a CatalogRow>) -> Result<Vec<&'a CatalogRow>, OutOfMemory>
+    ensures { IfOk result (λ sorted. map (λ row. row.now) sorted.items ≡ by_name (map (λ row. row.now) rows.entry.items)) }
+{
+    let mut sorted = rows;
+    sorted.sort_by(|left, right| left.name.cmp(&right.name))?;
+    Ok(sorted)
+}
+
+/// The namespaces in the order of their levels.
+fn sorted_by_levels<'a>(rows: Vec<&'a NamespaceRow>) -> Result<Vec<&'a NamespaceRow>, OutOfMemory>
+    ensures { IfOk result (λ sorted. map (λ row. row.now) sorted.items ≡ by_levels (map (λ row. row.now) rows.entry.items)) }
+{
+    let mut sorted = rows;
+    sorted.sort_by(|left, right| left.levels.cmp(&right.levels))?;
+    Ok(sorted)
 }
 
 /// Those of the namespaces that have the catalogue and stand directly below the parent.

@@ -1,10 +1,12 @@
-//! Catalogues and namespaces, each found by its name without a scan.
+//! Catalogues and namespaces, each found by its name without a scan, and the changes of a state.
 #![tactic(auto)]
 
+mod change;
 mod content;
 pub mod laws;
 mod rows;
 
+pub use change::Change;
 pub use content::Content;
 pub use rows::{CatalogRow, NamespaceName, NamespaceRow};
 

@@ -116,6 +116,50 @@ fn rows_are_found_by_their_names(rt: HostRuntime) -> Result<(), Fail> {
     Ok(())
 }
 
+/// Whether the first namespace that is missing on the way to this one has this segment, or none is where it is empty.
+fn is_first_missing(
+    alloc: Global,
+    content: &Content,
+    catalog: u64,
+    segment: &str,
+    missing: &str,
+) -> Result<bool, Fail> {
+    let levels = Namespace::from_segment(alloc, segment)?;
+    match content.first_missing(alloc, catalog, &levels)? {
+        Some(path) => Ok(path.segment(alloc)?.as_str() == missing),
+        None => Ok(missing.is_empty()),
+    }
+}
+
+fn finds_first_missing(alloc: Global, content: &mut Content) -> Result<bool, Fail> {
+    fill(alloc, content)?;
+    let mut all = true;
+    for (catalog, segment, missing) in [
+        (3, "a", ""),
+        (3, "a\u{1f}b\u{1f}c", ""),
+        (3, "a\u{1f}b\u{1f}c\u{1f}d", "a\u{1f}b\u{1f}c\u{1f}d"),
+        (3, "x\u{1f}a\u{1f}b", "x"),
+        (3, "d\u{1f}b\u{1f}c", "d\u{1f}b"),
+        (4, "a\u{1f}b\u{1f}c", "a\u{1f}b"),
+        (5, "a", "a"),
+    ] {
+        all = all && is_first_missing(alloc, content, catalog, segment, missing)?;
+    }
+    content.drop_namespace(6);
+    let past_a_gap = is_first_missing(alloc, content, 3, "a\u{1f}b\u{1f}c", "a\u{1f}b")?;
+    Ok(all && past_a_gap)
+}
+
+#[test]
+fn the_first_missing_namespace_is_told(rt: HostRuntime) -> Result<(), Fail> {
+    let told = {
+        let mut content = Content::new(rt.alloc());
+        finds_first_missing(rt.alloc(), &mut content)
+    };
+    assert!(rt; told?);
+    Ok(())
+}
+
 /// Whether these are the ids of the children.
 fn has_children(
     alloc: Global,
@@ -130,19 +174,51 @@ fn has_children(
 
 fn lists_direct_children(alloc: Global, content: &mut Content) -> Result<bool, Fail> {
     fill(alloc, content)?;
+    for (id, segment) in [
+        (10, "B"),
+        (11, "aa"),
+        (12, "a\u{1f}a\u{1f}a"),
+        (13, "a\u{1f}a"),
+    ] {
+        put_namespace(alloc, content, id, 3, segment)?;
+    }
     let parent = Namespace::from_segment(alloc, "a")?;
-    let of_sales = has_children(alloc, content, 3, None, &[5, 9])?;
+    let of_sales = has_children(alloc, content, 3, None, &[10, 5, 11, 9])?;
     let of_stock = has_children(alloc, content, 4, None, &[7])?;
-    let below = has_children(alloc, content, 3, Some(&parent), &[6])?;
+    let below = has_children(alloc, content, 3, Some(&parent), &[13, 6])?;
     let none = has_children(alloc, content, 4, Some(&parent), &[])?;
     Ok(of_sales && of_stock && below && none)
 }
 
 #[test]
-fn children_stand_directly_below(rt: HostRuntime) -> Result<(), Fail> {
+fn children_stand_directly_below_and_are_listed_in_order(rt: HostRuntime) -> Result<(), Fail> {
     let listed = {
         let mut content = Content::new(rt.alloc());
         lists_direct_children(rt.alloc(), &mut content)
+    };
+    assert!(rt; listed?);
+    Ok(())
+}
+
+fn lists_catalogs(alloc: Global, content: &mut Content) -> Result<bool, Fail> {
+    for (id, name) in [
+        (3, "stock"),
+        (4, "sales"),
+        (5, "sales-2"),
+        (6, "Zoo"),
+        (7, "sale"),
+    ] {
+        put_catalog(alloc, content, id, name)?;
+    }
+    let listed = content.catalogs_by_name(alloc)?;
+    Ok(listed.iter().map(|row| row.id).eq([6, 7, 4, 5, 3]))
+}
+
+#[test]
+fn catalogues_are_listed_in_byte_order(rt: HostRuntime) -> Result<(), Fail> {
+    let listed = {
+        let mut content = Content::new(rt.alloc());
+        lists_catalogs(rt.alloc(), &mut content)
     };
     assert!(rt; listed?);
     Ok(())
