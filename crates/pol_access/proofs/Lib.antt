@@ -1,1 +1,4 @@
-pub mod IndexedLemmas
+pub mod MayLemmas
+pub mod NamesLemmas
+pub mod PrivilegeLemmas
+pub mod SecurableLemmas

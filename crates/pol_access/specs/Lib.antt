@@ -1,2 +1,8 @@
 pub mod Access
-pub mod Indexed
+pub mod Implication
+pub mod Laws
+pub mod May
+pub mod Names
+pub mod Privilege
+pub mod Search
+pub mod Securable

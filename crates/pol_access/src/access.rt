@@ -1,165 +1,405 @@
-ghost use Rattle.std.specs.Prelude.{◌≡◌, ℕ, List, [], Some, if◌then◌else◌, OnOk, OnErr, option_copied};
+ghost use Rattle.std.specs.Prelude.{◌≡◌, ◌==◌, ◌<◌, ◌≤◌, ◌+◌, [], false, filter, map, Ok, IfOk, IsOk, OnOk, option_copied};
+ghost use Rattle.std.specs.List.{IsDistinct};
+ghost use Rattle.std.specs.Slice.Iter.{iter_rest};
 ghost use Rattle.std.specs.Str.{bytes_eq};
-ghost use Rattle.indexmap.specs.IndexMap.{get_by_text};
-ghost use Rattle.pol_tables.specs.Facts.{facts_with};
-ghost use Rattle.pol_tables.specs.Table.{rows_with};
-ghost use Rattle.pol_access.specs.contracts.rows.MemberRow.{the_row};
-ghost use Rattle.pol_access.specs.Access.{principal_id, client_id_of, principal_role_id, principal_role_name, principal_of_client, principal_role_named, is_member};
-ghost use Rattle.pol_access.specs.Indexed.{IsNamedAlone};
+ghost use Rattle.pol_access.specs.Access.{IsWithin, catalog_role_dropped, catalog_role_id, catalog_roles_dropped, client_id_of, grants_on_dropped, is_joined, is_member, principal_dropped, principal_id, principal_name, principal_role_dropped, principal_role_id, principal_role_name};
+ghost use Rattle.pol_access.specs.Names.{catalog_role_named, has_catalog_role_name, has_client_id, has_name, has_role_name, principal_named, principal_of_client, principal_role_named, same_role_name};
+ghost use Rattle.pol_access.specs.contracts.rows.GrantRow as grant;
+ghost use Rattle.pol_access.specs.contracts.rows.JoinRow as join;
+ghost use Rattle.pol_access.specs.contracts.rows.MemberRow as member;
+ghost use Rattle.pol_tables.specs.Facts.{facts_with, facts_without, holds};
+ghost use Rattle.pol_tables.specs.Named.{Finds};
+ghost use Rattle.pol_tables.specs.Table.{row_of, rows_with};
 
-use crate::{MemberRow, PrincipalRoleRow, PrincipalRow};
-use indexmap::IndexMap;
-use pol_tables::{Facts, Table};
+use crate::dropped::{
+    drop_roles_of, keep_grants_of_others, keep_grants_on_others, keep_joins_of_others,
+    keep_joins_to_others, keep_members_of_others, keep_other_members,
+};
+use crate::names::{CatalogRoleName, PrincipalRoleName};
+use crate::principals::Principals;
+use crate::{
+    CatalogRoleRow, GrantRow, JoinRow, MemberRow, PrincipalRoleRow, PrincipalRow, Securable,
+};
+use pol_tables::{Facts, NamedTable};
 use pol_types::OutOfMemory;
 use std::alloc::{AllocError, Global};
 use std::marker::Model;
+use std::slice;
 
-/// Principals by id and by client id, principal roles by id and by name, and which principals are members of which
-/// roles. Contracts see the rows.
+/// How many rows of each kind.
+#[derive(Clone, Copy, Debug, PartialEq, Eq)]
+pub struct AccessRoom {
+    pub principals: usize,
+    pub principal_roles: usize,
+    pub catalog_roles: usize,
+    pub members: usize,
+    pub joins: usize,
+    pub grants: usize,
+}
+
+/// Principals, principal roles, catalogue roles, and who is a member, joined and granted what. Contracts see the
+/// rows, and the room: how many more of each can be put without taking memory. What has a name or a client id is
+/// found by it without a scan, and is the only such row where names stand once. A drop takes along what names the
+/// dropped row; it takes no memory, as a put takes none.
 #[derive(Debug, Drop)]
 pub struct Access {
-    principals: Table<PrincipalRow>,
-    principal_roles: Table<PrincipalRoleRow>,
+    principals: Principals,
+    principal_roles: NamedTable<PrincipalRoleRow>,
+    catalog_roles: NamedTable<CatalogRoleRow>,
     members: Facts<MemberRow>,
-    ids_of_clients: IndexMap<String, u64>,
-    ids_of_role_names: IndexMap<String, u64>,
+    joins: Facts<JoinRow>,
+    grants: Facts<GrantRow>,
 }
 
 impl Model for Access {
-    ghost use Rattle.indexmap.specs.IndexMap.{get_by_text};
-    ghost use Rattle.pol_access.specs.Access.{AccessRows, principal_id, client_id_of, principal_role_id, principal_role_name};
-    ghost use Rattle.pol_access.specs.Indexed.{IsIndexed};
+    ghost use Rattle.pol_access.specs.Access.{AccessValue};
 
-    ghost Value = { AccessRows };
+    ghost Value = { AccessValue };
 
-    ghost view = { λ access. record { principals = access.principals.rows; principal_roles = access.principal_roles.rows; members = access.members.facts } };
-
-    ghost invariant = { λ access. IsIndexed principal_id client_id_of access.principals.rows (get_by_text access.ids_of_clients) × IsIndexed principal_role_id principal_role_name access.principal_roles.rows (get_by_text access.ids_of_role_names) };
+    ghost view = { λ access. record { rows = record { principals = access.principals.rows; principal_roles = access.principal_roles.rows; catalog_roles = access.catalog_roles.rows; members = access.members.facts; joins = access.joins.facts; grants = access.grants.facts }; room = record { principals = access.principals.room; principal_roles = access.principal_roles.room; catalog_roles = access.catalog_roles.room; members = access.members.room; joins = access.joins.room; grants = access.grants.room } } };
 }
 
 impl Access {
     /// No rows, and no memory taken.
     pub fn new(alloc: Global) -> Self
-        ensures { result ≡ record { principals = []; principal_roles = []; members = [] } }
+        ensures { result.rows ≡ record { principals = []; principal_roles = []; catalog_roles = []; members = []; joins = []; grants = [] } }
     {
         Access {
-            principals: Table::new(alloc),
-            principal_roles: Table::new(alloc),
+            principals: Principals::new(alloc),
+            principal_roles: NamedTable::new(alloc),
+            catalog_roles: NamedTable::new(alloc),
             members: Facts::new(alloc),
-            ids_of_clients: IndexMap::new(alloc),
-            ids_of_role_names: IndexMap::new(alloc),
+            joins: Facts::new(alloc),
+            grants: Facts::new(alloc),
         }
     }
 
-    /// The principal of this client id.
+    /// The principals, in their order.
+    pub fn principals(&self) -> slice::Iter<'_, PrincipalRow>
+        ensures { iter_rest result ≡ self.now.rows.principals }
+    {
+        self.principals.rows()
+    }
+
+    /// The principal of this id.
+    pub fn principal(&self, id: u64) -> Option<&PrincipalRow>
+        ensures { option_copied result ≡ row_of principal_id id self.now.rows.principals }
+    {
+        self.principals.find(id)
+    }
+
+    /// A principal of this name.
+    pub fn principal_named(&self, name: &str) -> Option<&PrincipalRow>
+        ensures found { Finds principal_id (has_name name.now) self.now.rows.principals (option_copied result) }
+        ensures only { IsDistinct bytes_eq (map principal_name self.now.rows.principals) → option_copied result ≡ principal_named name.now self.now.rows }
+    {
+        self.principals.named(name)
+    }
+
+    /// A principal of this client id.
     pub fn principal_of_client(&self, client_id: &str) -> Option<&PrincipalRow>
-        ensures { option_copied result ≡ principal_of_client client_id.now self.now }
+        ensures found { Finds principal_id (has_client_id client_id.now) self.now.rows.principals (option_copied result) }
+        ensures only { IsDistinct bytes_eq (map client_id_of self.now.rows.principals) → option_copied result ≡ principal_of_client client_id.now self.now.rows }
     {
-        let id = self.ids_of_clients.get(client_id)?;
-        let row = self.principals.find(*id)?;
-        if client_id == row.client_id.as_str() {
-            return Some(row);
-        }
-        None
+        self.principals.of_client(client_id)
     }
 
-    /// The principal role of this name.
-    pub fn principal_role_named(&self, name: &str) -> Option<&PrincipalRoleRow>
-        ensures { option_copied result ≡ principal_role_named name.now self.now }
+    /// The principal roles, in their order.
+    pub fn principal_roles(&self) -> slice::Iter<'_, PrincipalRoleRow>
+        ensures { iter_rest result ≡ self.now.rows.principal_roles }
     {
-        let id = self.ids_of_role_names.get(name)?;
-        let row = self.principal_roles.find(*id)?;
-        if name == row.name.as_str() {
-            return Some(row);
-        }
-        None
+        self.principal_roles.rows()
+    }
+
+    /// The principal role of this id.
+    pub fn principal_role(&self, id: u64) -> Option<&PrincipalRoleRow>
+        ensures { option_copied result ≡ row_of principal_role_id id self.now.rows.principal_roles }
+    {
+        self.principal_roles.find(id)
+    }
+
+    /// A principal role of this name.
+    pub fn principal_role_named(&self, name: &str) -> Option<&PrincipalRoleRow>
+        ensures found { Finds principal_role_id (has_role_name name.now) self.now.rows.principal_roles (option_copied result) }
+        ensures only { IsDistinct bytes_eq (map principal_role_name self.now.rows.principal_roles) → option_copied result ≡ principal_role_named name.now self.now.rows }
+    {
+        self.principal_roles.named(&PrincipalRoleName(name))
+    }
+
+    /// The catalogue roles, in their order.
+    pub fn catalog_roles(&self) -> slice::Iter<'_, CatalogRoleRow>
+        ensures { iter_rest result ≡ self.now.rows.catalog_roles }
+    {
+        self.catalog_roles.rows()
+    }
+
+    /// The catalogue role of this id.
+    pub fn catalog_role(&self, id: u64) -> Option<&CatalogRoleRow>
+        ensures { option_copied result ≡ row_of catalog_role_id id self.now.rows.catalog_roles }
+    {
+        self.catalog_roles.find(id)
+    }
+
+    /// A role of the catalogue, named by its id, of this name.
+    pub fn catalog_role_named(&self, catalog: u64, name: &str) -> Option<&CatalogRoleRow>
+        ensures found { Finds catalog_role_id (has_catalog_role_name catalog name.now) self.now.rows.catalog_roles (option_copied result) }
+        ensures only { IsDistinct same_role_name self.now.rows.catalog_roles → option_copied result ≡ catalog_role_named catalog name.now self.now.rows }
+    {
+        self.catalog_roles.named(&CatalogRoleName { catalog, name })
+    }
+
+    /// The members, in the order in which they were put.
+    pub fn members(&self) -> slice::Iter<'_, MemberRow>
+        ensures { iter_rest result ≡ self.now.rows.members }
+    {
+        self.members.facts()
     }
 
     /// Whether the principal is a member of the role, each named by its id.
     pub fn is_member(&self, principal: u64, role: u64) -> bool
-        ensures { result ≡ is_member principal role self.now }
+        ensures { result ≡ is_member principal role self.now.rows }
     {
         self.members.contains(&MemberRow { principal, role })
     }
 
-    /// Puts a principal: a new id goes last, and a known id's row is replaced in its place.
-    pub fn put_principal(&mut self, alloc: Global, row: PrincipalRow) -> Result<(), OutOfMemory>
-        requires { IsNamedAlone principal_id client_id_of row self.old.principals }
-        ensures put { OnOk result (self.new ≡ record self.old { principals = rows_with principal_id row self.old.principals }) }
-        ensures err { OnErr result (self.new ≡ self.old) }
+    /// The joins, in the order in which they were put.
+    pub fn joins(&self) -> slice::Iter<'_, JoinRow>
+        ensures { iter_rest result ≡ self.now.rows.joins }
     {
-        self.principals.reserve(1)?;
-        note(
-            alloc,
-            &mut self.ids_of_clients,
-            row.client_id.as_str(),
-            row.id,
-        )?;
+        self.joins.facts()
+    }
+
+    /// Whether the principal role is joined to the catalogue role, each named by its id.
+    pub fn is_joined(&self, principal_role: u64, catalog_role: u64) -> bool
+        ensures { result ≡ is_joined principal_role catalog_role self.now.rows }
+    {
+        self.joins.contains(&JoinRow {
+            principal_role,
+            catalog_role,
+        })
+    }
+
+    /// The grants, in the order in which they were put.
+    pub fn grants(&self) -> slice::Iter<'_, GrantRow>
+        ensures { iter_rest result ≡ self.now.rows.grants }
+    {
+        self.grants.facts()
+    }
+
+    /// Whether the grant is one of these.
+    pub fn has_grant(&self, row: &GrantRow) -> bool
+        ensures { result ≡ holds grant.the_row.coded row.now self.now.rows.grants }
+    {
+        self.grants.contains(row)
+    }
+
+    /// Makes room for so many more rows, so that putting them takes no memory. On an error the rows stay, and no room
+    /// shrinks.
+    pub fn reserve(&mut self, more: &AccessRoom) -> Result<(), OutOfMemory>
+        ensures rows { self.new.rows ≡ self.old.rows }
+        ensures reserved { OnOk result (IsWithin more.now self.new.room) }
+        ensures succeeds { IsWithin more.now self.old.room → IsOk result }
+        ensures room { IsWithin self.old.room self.new.room }
+    {
+        self.principals.reserve(more.principals)?;
+        self.principal_roles.reserve(more.principal_roles)?;
+        self.catalog_roles.reserve(more.catalog_roles)?;
+        self.members.reserve(more.members)?;
+        self.joins.reserve(more.joins)?;
+        self.grants.reserve(more.grants)
+    }
+
+    /// Puts a principal: a new id goes last, and a known id's row is replaced in its place.
+    pub fn put_principal(&mut self, row: PrincipalRow)
+        requires { 0 < self.old.room.principals }
+        ensures rows { self.new.rows ≡ record self.old.rows { principals = rows_with principal_id row self.old.rows.principals } }
+        ensures room { self.old.room.principals ≤ self.new.room.principals + 1 }
+        ensures others { self.new.room ≡ record self.old.room { principals = self.new.room.principals } }
+    {
         self.principals.put(row);
-        Ok(())
     }
 
     /// Puts a principal role: a new id goes last, and a known id's row is replaced in its place.
-    pub fn put_principal_role(
-        &mut self,
-        alloc: Global,
-        row: PrincipalRoleRow,
-    ) -> Result<(), OutOfMemory>
-        requires { IsNamedAlone principal_role_id principal_role_name row self.old.principal_roles }
-        ensures put { OnOk result (self.new ≡ record self.old { principal_roles = rows_with principal_role_id row self.old.principal_roles }) }
-        ensures err { OnErr result (self.new ≡ self.old) }
+    pub fn put_principal_role(&mut self, row: PrincipalRoleRow)
+        requires { 0 < self.old.room.principal_roles }
+        ensures rows { self.new.rows ≡ record self.old.rows { principal_roles = rows_with principal_role_id row self.old.rows.principal_roles } }
+        ensures room { self.old.room.principal_roles ≤ self.new.room.principal_roles + 1 }
+        ensures others { self.new.room ≡ record self.old.room { principal_roles = self.new.room.principal_roles } }
     {
-        self.principal_roles.reserve(1)?;
-        note(
-            alloc,
-            &mut self.ids_of_role_names,
-            row.name.as_str(),
-            row.id,
-        )?;
         self.principal_roles.put(row);
-        Ok(())
+    }
+
+    /// Puts a catalogue role: a new id goes last, and a known id's row is replaced in its place.
+    pub fn put_catalog_role(&mut self, row: CatalogRoleRow)
+        requires { 0 < self.old.room.catalog_roles }
+        ensures rows { self.new.rows ≡ record self.old.rows { catalog_roles = rows_with catalog_role_id row self.old.rows.catalog_roles } }
+        ensures room { self.old.room.catalog_roles ≤ self.new.room.catalog_roles + 1 }
+        ensures others { self.new.room ≡ record self.old.room { catalog_roles = self.new.room.catalog_roles } }
+    {
+        self.catalog_roles.put(row);
     }
 
     /// Puts a member: a new one goes last, and one that is known changes nothing.
-    pub fn put_member(&mut self, row: MemberRow) -> Result<(), OutOfMemory>
-        ensures put { OnOk result (self.new ≡ record self.old { members = facts_with the_row.coded row self.old.members }) }
-        ensures err { OnErr result (self.new ≡ self.old) }
+    pub fn put_member(&mut self, row: MemberRow)
+        requires { holds member.the_row.coded row self.old.rows.members ≡ false → 0 < self.old.room.members }
+        ensures rows { self.new.rows ≡ record self.old.rows { members = facts_with member.the_row.coded row self.old.rows.members } }
+        ensures room { self.old.room.members ≤ self.new.room.members + 1 }
+        ensures others { self.new.room ≡ record self.old.room { members = self.new.room.members } }
     {
-        self.members.reserve(1)?;
         self.members.put(row);
-        Ok(())
+    }
+
+    /// Puts a join: a new one goes last, and one that is known changes nothing.
+    pub fn put_join(&mut self, row: JoinRow)
+        requires { holds join.the_row.coded row self.old.rows.joins ≡ false → 0 < self.old.room.joins }
+        ensures rows { self.new.rows ≡ record self.old.rows { joins = facts_with join.the_row.coded row self.old.rows.joins } }
+        ensures room { self.old.room.joins ≤ self.new.room.joins + 1 }
+        ensures others { self.new.room ≡ record self.old.room { joins = self.new.room.joins } }
+    {
+        self.joins.put(row);
+    }
+
+    /// Puts a grant: a new one goes last, and one that is known changes nothing.
+    pub fn put_grant(&mut self, row: GrantRow)
+        requires { holds grant.the_row.coded row self.old.rows.grants ≡ false → 0 < self.old.room.grants }
+        ensures rows { self.new.rows ≡ record self.old.rows { grants = facts_with grant.the_row.coded row self.old.rows.grants } }
+        ensures room { self.old.room.grants ≤ self.new.room.grants + 1 }
+        ensures others { self.new.room ≡ record self.old.room { grants = self.new.room.grants } }
+    {
+        self.grants.put(row);
+    }
+
+    /// Drops the principal of this id, and its memberships.
+    pub fn drop_principal(&mut self, id: u64)
+        ensures rows { self.new.rows ≡ principal_dropped id self.old.rows }
+        ensures room { IsWithin self.old.room self.new.room }
+    {
+        self.principals.take(id);
+        keep_members_of_others(&mut self.members, id);
+    }
+
+    /// Drops the principal role of this id, its members and its joins.
+    pub fn drop_principal_role(&mut self, id: u64)
+        ensures rows { self.new.rows ≡ principal_role_dropped id self.old.rows }
+        ensures room { IsWithin self.old.room self.new.room }
+    {
+        self.principal_roles.take(id);
+        keep_other_members(&mut self.members, id);
+        keep_joins_of_others(&mut self.joins, id);
+    }
+
+    /// Drops the catalogue role of this id, its joins and its grants.
+    pub fn drop_catalog_role(&mut self, id: u64)
+        ensures rows { self.new.rows ≡ catalog_role_dropped id self.old.rows }
+        ensures room { IsWithin self.old.room self.new.room }
+    {
+        self.catalog_roles.take(id);
+        keep_joins_to_others(&mut self.joins, id);
+        keep_grants_of_others(&mut self.grants, id);
+    }
+
+    /// Drops the roles of a catalogue, named by its id, their joins and their grants.
+    pub fn drop_catalog_roles_of(&mut self, catalog: u64)
+        ensures rows { self.new.rows ≡ catalog_roles_dropped catalog self.old.rows }
+        ensures room { IsWithin self.old.room self.new.room }
+    {
+        drop_roles_of(
+            &mut self.catalog_roles,
+            &mut self.joins,
+            &mut self.grants,
+            catalog,
+        );
+    }
+
+    /// Drops the grants on a securable.
+    pub fn drop_grants_on(&mut self, securable: Securable)
+        ensures rows { self.new.rows ≡ grants_on_dropped securable self.old.rows }
+        ensures room { IsWithin self.old.room self.new.room }
+    {
+        keep_grants_on_others(&mut self.grants, securable);
+    }
+
+    /// Drops a member, and answers whether it was there.
+    pub fn drop_member(&mut self, row: &MemberRow) -> bool
+        ensures dropped { result ≡ holds member.the_row.coded row.now self.old.rows.members }
+        ensures rows { self.new.rows ≡ record self.old.rows { members = facts_without member.the_row.coded row.now self.old.rows.members } }
+        ensures room { IsWithin self.old.room self.new.room }
+    {
+        self.members.take(row)
+    }
+
+    /// Drops a join, and answers whether it was there.
+    pub fn drop_join(&mut self, row: &JoinRow) -> bool
+        ensures dropped { result ≡ holds join.the_row.coded row.now self.old.rows.joins }
+        ensures rows { self.new.rows ≡ record self.old.rows { joins = facts_without join.the_row.coded row.now self.old.rows.joins } }
+        ensures room { IsWithin self.old.room self.new.room }
+    {
+        self.joins.take(row)
+    }
+
+    /// Drops a grant, and answers whether it was there.
+    pub fn drop_grant(&mut self, row: &GrantRow) -> bool
+        ensures dropped { result ≡ holds grant.the_row.coded row.now self.old.rows.grants }
+        ensures rows { self.new.rows ≡ record self.old.rows { grants = facts_without grant.the_row.coded row.now self.old.rows.grants } }
+        ensures room { IsWithin self.old.room self.new.room }
+    {
+        self.grants.take(row)
     }
 }
 
 impl Clone for Access {
-    ghost is_clone = { λ source clone. clone ≡ source };
+    ghost is_clone = { λ source clone. clone.rows ≡ source.rows };
 
     fn clone(&self) -> Result<Self, AllocError> {
         let principals = self.principals.clone()?;
-        let principal_roles = self.principal_roles.clone()?;
-        let members = self.members.clone()?;
-        let ids_of_clients = self.ids_of_clients.clone()?;
-        let ids_of_role_names = self.ids_of_role_names.clone()?;
+        let (principals, roles) = beside(principals, clone_roles(self))?;
+        let ((principals, roles), facts) = beside((principals, roles), clone_facts(self))?;
+        let (principal_roles, catalog_roles) = roles;
+        let (members, joins, grants) = facts;
         Ok(Access {
             principals,
             principal_roles,
+            catalog_roles,
             members,
-            ids_of_clients,
-            ids_of_role_names,
+            joins,
+            grants,
         })
     }
 }
 
-/// Notes the id that a name stands for from now on.
-fn note(
-    alloc: Global,
-    ids: &mut IndexMap<String, u64>,
-    name: &str,
-    id: u64,
-) -> Result<(), OutOfMemory>
-    ensures noted { OnOk result ((other : List ℕ) → get_by_text ids.new other ≡ (if bytes_eq name.now other then Some id else get_by_text ids.old other)) }
-    ensures err { OnErr result ((other : List ℕ) → get_by_text ids.new other ≡ get_by_text ids.old other) }
+/// Copies of the tables of roles.
+fn clone_roles(
+    access: &Access,
+) -> Result<(NamedTable<PrincipalRoleRow>, NamedTable<CatalogRoleRow>), AllocError>
+    ensures principal_roles { IfOk result (λ copies. copies.0.rows ≡ access.now.rows.principal_roles) }
+    ensures catalog_roles { IfOk result (λ copies. copies.1.rows ≡ access.now.rows.catalog_roles) }
 {
-    ids.insert(String::from_str(alloc, name)?, id)?;
-    Ok(())
+    let principal_roles = access.principal_roles.clone()?;
+    let catalog_roles = access.catalog_roles.clone()?;
+    Ok((principal_roles, catalog_roles))
+}
+
+/// Copies of the sets of facts.
+fn clone_facts(
+    access: &Access,
+) -> Result<(Facts<MemberRow>, Facts<JoinRow>, Facts<GrantRow>), AllocError>
+    ensures members { IfOk result (λ copies. copies.0.facts ≡ access.now.rows.members) }
+    ensures joins { IfOk result (λ copies. copies.1.facts ≡ access.now.rows.joins) }
+    ensures grants { IfOk result (λ copies. copies.2.facts ≡ access.now.rows.grants) }
+{
+    let members = access.members.clone()?;
+    let joins = access.joins.clone()?;
+    let grants = access.grants.clone()?;
+    Ok((members, joins, grants))
+}
+
+/// What there is beside what was to be made, where that was.
+fn beside<A: Drop, B>(first: A, second: Result<B, AllocError>) -> Result<(A, B), AllocError>
+    ensures first { IfOk result (λ both. both.0 ≡ first) }
+    ensures second { IfOk result (λ both. second ≡ Ok both.1) }
+{
+    match second {
+        Ok(second) => Ok((first, second)),
+        Err(error) => Err(error),
+    }
 }

@@ -1,25 +1,9 @@
-use Rattle.std.proofs.Common.{None, sym, ◌∙◌}
-use Rattle.indexmap.specs.IndexMap.{get_by_text}
-use Rattle.pol_access.specs.Access.{principal_id, client_id_of}
-use Rattle.pol_access.proofs.IndexedLemmas.{find-indexed, find-by_id, kept-borne, kept-unborne}
+use Rattle.std.proofs.Common.{option_copied}
+use Rattle.pol_access.specs.Access.{client_id_of, principal_id}
+use Rattle.pol_access.specs.Names.{has_client_id}
+use Rattle.pol_access.proofs.NamesLemmas.{found-alone, names-once}
 use Rattle.pol_access.proofs.access.Access.principal_of_client.Goals as goal
 
-pub returns-in_err-id : goal.returns-in_err-id
-returns-in_err-id c =
-    rw (← c.self.view_is, c.from_residual.ensures) (find-indexed principal_id client_id_of c.args.client_id.now c.self.inside.principals.rows (get_by_text c.self.inside.ids_of_clients) None c.self.invariant.0 (sym c.in_err-id.ensures.value))
-
-pub returns-in_err-row : goal.returns-in_err-row
-returns-in_err-row c =
-    rw (← c.self.view_is, c.from_residual-in_err-row.ensures) (find-by_id principal_id client_id_of c.args.client_id.now c.self.inside.principals.rows (get_by_text c.self.inside.ids_of_clients) _ None c.self.invariant.0 c.in_ok-id.ensures.value c.in_err-row.ensures)
-
-pub returns-then-eq : goal.returns-then-eq
-returns-then-eq c =
-    let found = find-by_id principal_id client_id_of c.args.client_id.now c.self.inside.principals.rows (get_by_text c.self.inside.ids_of_clients) _ _ c.self.invariant.0 c.in_ok-id.ensures.value c.in_ok-row.ensures in
-    let borne = rw c.as_str.ensures at c.if-eq.ensures in
-    rw (← c.self.view_is) (sym (kept-borne principal_id client_id_of c.args.client_id.now c.in_ok-row.row.now (sym borne)) ∙ found)
-
-pub returns : goal.returns
-returns c =
-    let found = find-by_id principal_id client_id_of c.args.client_id.now c.self.inside.principals.rows (get_by_text c.self.inside.ids_of_clients) _ _ c.self.invariant.0 c.in_ok-id.ensures.value c.in_ok-row.ensures in
-    let unborne = rw c.as_str.ensures at c.if-eq.ensures in
-    rw (← c.self.view_is) (sym (kept-unborne principal_id client_id_of c.args.client_id.now c.in_ok-row.row.now (sym unborne)) ∙ found)
+pub returns-clause-only : goal.returns-clause-only
+returns-clause-only c differ =
+    rw (← c.self.view_is) (found-alone (has_client_id c.args.client_id.now) principal_id c.self.inside.principals.rows (option_copied c.of_client.result) (names-once client_id_of c.args.client_id.now c.self.inside.principals.rows (rw (← c.self.view_is) at differ)) c.of_client.ensures)
