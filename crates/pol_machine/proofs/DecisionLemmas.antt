@@ -1,32 +1,37 @@
 -- Decisions: the reply and the state after, by the first rule that fails.
-use Rattle.std.proofs.Common.{◌≡◌, ◌≤◌, ◌+◌, ◌^◌, ℕ, List, [], ◌∷◌, Option, None, Some, Result, Ok, Err, refl, sym, ap, subst, ◌∙◌, cond, Bool, true, false, is_some, nat_lt, true≢false}
+use Rattle.std.proofs.Common.{◌≡◌, ◌≤◌, ◌+◌, ◌^◌, ℕ, List, [], ◌∷◌, Option, None, Some, Result, Ok, Err, refl, sym, ap, subst, ◌∙◌, true, false, is_some, true≢false}
 use Rattle.std.specs.List.{AllByRecursion}
 use Rattle.std.specs.Result.{IsErrAnd}
-use Rattle.std.proofs.lemmas.Bool.{ltb-false}
 use Rattle.pol_access.specs.declared.rows.PrincipalRow.{PrincipalRow}
+use Rattle.pol_content.specs.Content.{catalog_named}
+use Rattle.pol_names.specs.Namespace.{parent_of}
 use Rattle.pol_machine.specs.Applied.{applied}
+use Rattle.pol_machine.specs.Catalogs.{new_catalog}
+use Rattle.pol_machine.specs.Acting.{done}
+use Rattle.pol_machine.specs.Namespaces.{namespace_at, with_properties}
 use Rattle.pol_machine.specs.Changes.{changes_between}
 use Rattle.pol_machine.specs.Judged.{Acts, Judges}
 use Rattle.pol_machine.specs.Machine.{acting, next_by, next_state, reply_by, reply_of, rows_by, rules_of, stamped}
 use Rattle.pol_machine.specs.Reply.{is_run_full}
 use Rattle.pol_machine.specs.Rows.{Rows}
-use Rattle.pol_machine.specs.Rules.{client_of, first_refusal, invalid_client, invalid_scope, over_limit, run_full, with_serial}
-use Rattle.pol_machine.specs.Sessions.{open_session, opened, session_opened, time_of}
+use Rattle.pol_machine.specs.Rules.{above, client_of, first_refusal, given, key_twice, namespace_holds, over_limit, run_full, with_serial, time_of}
+use Rattle.pol_machine.specs.Sessions.{open_session, opened, session_opened}
 use Rattle.pol_machine.specs.Sound.{IsSound}
-use Rattle.pol_machine.specs.declared.change.Change.{Change}
+use Rattle.pol_content.specs.declared.change.Change.{Change}
 use Rattle.pol_machine.specs.declared.command.Action.{Action}
-use Rattle.pol_machine.specs.declared.command.Action.TheVariants.{OpenSession}
+use Rattle.pol_machine.specs.declared.command.Action.TheVariants.{OpenSession, GetConfig, ListCatalogs, CreateCatalog, GetCatalog, DropCatalog, ListNamespaces, CreateNamespace, LoadNamespace, HeadNamespace, DropNamespace, UpdateProperties}
 use Rattle.pol_machine.specs.declared.command.Command.{Command}
 use Rattle.pol_machine.specs.declared.reply.Answer.{Answer}
-use Rattle.pol_machine.specs.declared.reply.Quantity.TheVariants.{NextSerial}
+use Rattle.pol_machine.specs.declared.reply.Quantity.TheVariants as quantity
 use Rattle.pol_machine.specs.declared.reply.Refusal.{Refusal}
-use Rattle.pol_machine.specs.declared.reply.Refusal.TheVariants.{InvalidClient, InvalidScope, Limit}
 use Rattle.pol_machine.specs.declared.reply.Reply.TheVariants.{Answered, Refused}
 use Rattle.pol_machine.specs.declared.rules.Acted.{Acted}
 use Rattle.pol_machine.specs.declared.rules.Stop.{Stop}
 use Rattle.pol_machine.specs.declared.rules.Stop.TheVariants as stop
+use Rattle.pol_machine.proofs.ActionLemmas.{leads-catalog, leads-catalog_dropped, leads-first, leads-namespace, leads-namespace_dropped, leads-properties, leads-reading, sound-create_catalog, sound-create_namespace, sound-drop_catalog, sound-drop_namespace, sound-reading, sound-update_properties}
 use Rattle.pol_machine.proofs.ChangesLemmas.{changes-timed}
-use Rattle.pol_machine.proofs.RulesLemmas.{first-other, given-other, refusal-past, refuse_if-other, run_full-tells, tells_full, EachPasses-none}
+use Rattle.pol_machine.proofs.LimitsLemmas.{above-within, serial_limits}
+use Rattle.pol_machine.proofs.RulesLemmas.{caller-other, catalog-other, client-other, deeper-other, first-other, given-other, holds-other, key-other, levels-other, limit-other, no_catalogue-other, on_namespace-other, parent-other, refusal-past, run_full-tells, scope-other, tells_full, text-other, texts-other, type-other, EachPasses-none}
 use Rattle.pol_machine.proofs.SessionsLemmas.{leads-by, limit-opened}
 use Rattle.pol_machine.proofs.SoundLemmas.{client-given, opened-sound, scope-given, stamped-sound, within-bounds, IsWithin}
 
@@ -91,19 +96,31 @@ module _ (s : Rows) (command : Command) where
   action_leads : (action : Action) → IsSound s → let done : Rows = rows_by (first_refusal (acting s command action).rules) s (acting s command action).after in applied (changes_between s (stamped s command done)) (time_of s command) command.charge s ≡ stamped s command done
   action_leads (OpenSession client_id secret scopes) sound =
       leads-by s command scopes (first_refusal (open_session s command client_id secret scopes).rules) (client_of s client_id secret) sound
+  action_leads (GetConfig name) sound = leads-reading s command _
+  action_leads ListCatalogs sound = leads-reading s command _
+  action_leads (CreateCatalog name base allowed properties external) sound =
+      leads-first s command _ _ (leads-catalog s command sound (new_catalog s name base allowed properties) refl)
+  action_leads (GetCatalog name) sound = leads-reading s command _
+  action_leads (DropCatalog name) sound =
+      leads-first s command _ _ (leads-catalog_dropped s command sound name (catalog_named name s.content) refl)
+  action_leads (ListNamespaces name parent) sound = leads-reading s command _
+  action_leads (CreateNamespace name levels properties) sound =
+      leads-first s command _ _ (leads-namespace s command sound levels properties (catalog_named name s.content))
+  action_leads (LoadNamespace name levels) sound = leads-reading s command _
+  action_leads (HeadNamespace name levels) sound = leads-reading s command _
+  action_leads (DropNamespace name levels) sound =
+      leads-first s command _ _ (leads-namespace_dropped s command sound name levels (namespace_at s name levels) refl)
+  action_leads (UpdateProperties name levels removals updates) sound =
+      leads-first s command _ _ (leads-properties s command sound name levels removals updates (namespace_at s name levels) refl)
 
   -- the changes lead to the next state
   pub changes-lead : IsSound s → run_full s command.charge ≡ None → applied (changes_between s (next_state s command)) (time_of s command) command.charge s ≡ next_state s command
   changes-lead sound open_ =
       ap (λ next. applied (changes_between s next) (time_of s command) command.charge s) (next-open open_) ∙ action_leads command.action sound ∙ sym (next-open open_)
 
-  serial_bound : over_limit (with_serial (s.next_serial + 1) s) ≡ None → s.next_serial + 1 ≤ 2 ^ 62
-  unfolding over_limit
-  serial_bound within = by (nat_lt (2 ^ 62) (s.next_serial + 1)) refl within
-    where
-      by : (b : Bool) → nat_lt (2 ^ 62) (s.next_serial + 1) ≡ b → cond b (Some (Limit NextSerial (2 ^ 62))) None ≡ None → s.next_serial + 1 ≤ 2 ^ 62
-      by true is contrary = cc
-      by false is none = ltb-false (2 ^ 62) (s.next_serial + 1) is
+  serial_bound : IsSound s → over_limit (with_serial (s.next_serial + 1) s) ≡ None → s.next_serial + 1 ≤ 2 ^ 62
+  serial_bound sound few =
+      above-within quantity.NextSerial (2 ^ 62) (s.next_serial + 1) (EachPasses-none (above quantity.NextSerial (2 ^ 62) (s.next_serial + 1) ∷ []) (sym (serial_limits s sound (s.next_serial + 1)) ∙ few)).0
 
   session_sound : (client_id secret : List ℕ) (scopes : List (List ℕ)) (first : Option Refusal) (client : Option PrincipalRow) → IsSound s → IsWithin s command
       → first_refusal (open_session s command client_id secret scopes).rules ≡ first → client_of s client_id secret ≡ client
@@ -114,11 +131,26 @@ module _ (s : Rows) (command : Command) where
   session_sound client_id secret scopes None (Some principal) sound within none found =
       let passes = EachPasses-none (open_session s command client_id secret scopes).rules none in
       opened-sound s command (opened s command scopes principal) sound within refl (client-given s client_id secret principal sound found) (scope-given s principal.id scopes sound)
-      (serial_bound (sym (limit-opened s command scopes client_id secret principal found) ∙ passes.1.1.0))
+      (serial_bound sound (sym (limit-opened s command scopes client_id secret principal found) ∙ passes.1.1.0))
 
   action_sound : (action : Action) → IsSound s → IsWithin s command → IsSound (stamped s command (rows_by (first_refusal (acting s command action).rules) s (acting s command action).after))
   action_sound (OpenSession client_id secret scopes) sound within =
       session_sound client_id secret scopes _ _ sound within refl refl
+  action_sound (GetConfig name) sound within = sound-reading s command sound within _
+  action_sound ListCatalogs sound within = sound-reading s command sound within _
+  action_sound (CreateCatalog name base allowed properties external) sound within =
+      sound-create_catalog s command sound within name base allowed properties external _ refl
+  action_sound (GetCatalog name) sound within = sound-reading s command sound within _
+  action_sound (DropCatalog name) sound within = sound-drop_catalog s command sound within name _ _ refl refl
+  action_sound (ListNamespaces name parent) sound within = sound-reading s command sound within _
+  action_sound (CreateNamespace name levels properties) sound within =
+      sound-create_namespace s command sound within name levels properties _ _ refl refl
+  action_sound (LoadNamespace name levels) sound within = sound-reading s command sound within _
+  action_sound (HeadNamespace name levels) sound within = sound-reading s command sound within _
+  action_sound (DropNamespace name levels) sound within =
+      sound-drop_namespace s command sound within name levels _ _ refl refl
+  action_sound (UpdateProperties name levels removals updates) sound within =
+      sound-update_properties s command sound within name levels removals updates _ _ refl refl
 
   -- the next state is sound
   pub next-sound : IsSound s → command.moment ≤ 2 ^ 62 → IsSound (next_state s command)
@@ -130,14 +162,30 @@ module _ (s : Rows) (command : Command) where
       by None open_ = action_sound command.action sound (within-bounds s command sound moment open_)
 
   others : (action : Action) → AllByRecursion (λ rule. tells_full rule ≡ false) (acting s command action).rules
-  unfolding invalid_client invalid_scope over_limit
-  others (OpenSession client_id secret scopes) = (
-    refuse_if-other _ InvalidClient refl,
-    (
-      given-other (client_of s client_id secret) _ (λ principal. refuse_if-other _ InvalidScope refl),
-      (refuse_if-other _ (Limit NextSerial (2 ^ 62)) refl, tt),
-    ),
-  )
+  others (OpenSession client_id secret scopes) =
+      (client-other s client_id secret, (given-other (client_of s client_id secret) _ (λ principal. scope-other s principal.id scopes), (limit-other _, tt)))
+  others (GetConfig name) =
+      (caller-other s command, (no_catalogue-other s name, tt))
+  others ListCatalogs =
+      (caller-other s command, tt)
+  others (CreateCatalog name base allowed properties external) =
+      (caller-other s command, (catalog-other s name, (text-other base, (texts-other allowed, (type-other external, (limit-other _, tt))))))
+  others (GetCatalog name) =
+      (caller-other s command, (no_catalogue-other s name, tt))
+  others (DropCatalog name) =
+      (caller-other s command, (no_catalogue-other s name, (given-other (catalog_named name s.content) _ (holds-other s), tt)))
+  others (ListNamespaces name parent) =
+      (caller-other s command, (no_catalogue-other s name, (given-other (catalog_named name s.content) _ (λ catalog. parent-other s catalog.id parent), tt)))
+  others (CreateNamespace name levels properties) =
+      (caller-other s command, (no_catalogue-other s name, (given-other (catalog_named name s.content) _ (λ catalog. parent-other s catalog.id (parent_of levels)), (given-other (catalog_named name s.content) _ (levels-other s levels), (limit-other _, tt)))))
+  others (LoadNamespace name levels) =
+      on_namespace-other s command name levels [] tt
+  others (HeadNamespace name levels) =
+      on_namespace-other s command name levels [] tt
+  others (DropNamespace name levels) =
+      on_namespace-other s command name levels (given (namespace_at s name levels) (namespace_holds s) ∷ []) (given-other (namespace_at s name levels) _ (deeper-other s), tt)
+  others (UpdateProperties name levels removals updates) =
+      on_namespace-other s command name levels (key_twice removals updates ∷ over_limit (done s (namespace_at s name levels) (with_properties s removals updates)) ∷ []) (key-other removals updates, (limit-other _, tt))
 
   told_by : (first : Option Refusal) → is_run_full (reply_by first answer) ≡ tells_full first
   told_by None = refl

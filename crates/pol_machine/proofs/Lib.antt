@@ -1,7 +1,11 @@
+pub mod ActionLemmas
 pub mod AppliedLemmas
 pub mod ChangesLemmas
+pub mod ContentLemmas
 pub mod DecisionLemmas
 pub mod FreshLemmas
+pub mod JudgedLemmas
+pub mod LimitsLemmas
 pub mod RulesLemmas
 pub mod ScopesLemmas
 pub mod SessionsLemmas

@@ -8,10 +8,10 @@ use Rattle.pol_machine.specs.Applied.{applied}
 use Rattle.pol_machine.specs.Changes.{changes_between}
 use Rattle.pol_machine.specs.Machine.{rows_by, stamped}
 use Rattle.pol_machine.specs.Rows.{Rows}
-use Rattle.pol_machine.specs.Rules.{client_of, first_refusal, given, invalid_client, invalid_scope, over_limit, with_serial}
-use Rattle.pol_machine.specs.Sessions.{open_session, opened, scope_of, session_opened, time_of, with_session}
+use Rattle.pol_machine.specs.Rules.{client_of, first_refusal, given, invalid_client, invalid_scope, over_limit, with_serial, time_of}
+use Rattle.pol_machine.specs.Sessions.{open_session, opened, scope_of, session_opened, with_session}
 use Rattle.pol_machine.specs.Sound.{IsSound}
-use Rattle.pol_machine.specs.declared.change.Change.TheVariants.{Time, NextSerial, PutSession}
+use Rattle.pol_content.specs.declared.change.Change.TheVariants.{Time, NextSerial, PutSession}
 use Rattle.pol_machine.specs.declared.command.Command.{Command}
 use Rattle.pol_machine.specs.declared.reply.Refusal.{Refusal}
 use Rattle.pol_machine.proofs.ChangesLemmas.{applied-opened, changes-opened, changes-timed, serials-below}
@@ -56,7 +56,7 @@ module _ (s : Rows) (command : Command) (scopes : List (List ℕ)) where
       ap (λ changes. applied changes (time_of s command) command.charge s) (changes-session principal sound)
       ∙ applied-opened s (opened s command scopes principal) (opened-below principal sound) (time_of s command) command.charge
 
-  -- the bound of serials is judged on the next serial alone
+  -- bounds are judged on the next serial alone
   limit_alike : (principal : PrincipalRow) → over_limit (with_session s (opened s command scopes principal)) ≡ over_limit (with_serial (s.next_serial + 1) s)
   unfolding over_limit
   limit_alike principal = refl

@@ -1,24 +1,30 @@
 -- The state after a command is sound.
-use Rattle.std.proofs.Common.{◌≡◌, ℕ, ◌+◌, ◌≤◌, ◌^◌, Bool, true, false, cond, List, [], ◌∷◌, Option, None, Some, refl, sym, ap, subst, ◌∙◌, inl, inr, arith, nat_lt, length, ◌==◌, ◌||◌}
+use Rattle.std.proofs.Common.{◌≡◌, ℕ, ◌+◌, ◌<◌, ◌≤◌, ◌^◌, Bool, true, false, cond, List, [], ◌∷◌, Option, None, Some, refl, sym, ap, subst, ◌∙◌, inl, inr, arith, nat_lt, length, ◌==◌, ◌||◌}
 use Rattle.std.specs.List.{cons_option, find, filter_map, list_any, AllByRecursion}
 use Rattle.std.specs.Str.{bytes_eq}
 use Rattle.std.proofs.lemmas.Bool.{cases_Bool, ltb-false}
 use Rattle.std.specs.Option.{option_map}
-use Rattle.pol_access.specs.Access.{principal_id, principal_role_id, is_member}
+use Rattle.pol_access.specs.Access.{AccessRows, catalog_role_id, principal_id, principal_role_id, is_member}
+use Rattle.pol_access.specs.declared.securable.Securable.{Securable}
+use Rattle.pol_access.specs.declared.securable.Securable.TheVariants as securable
 use Rattle.pol_access.specs.declared.rows.PrincipalRow.{PrincipalRow}
 use Rattle.pol_access.specs.declared.rows.PrincipalRoleRow.{PrincipalRoleRow}
+use Rattle.pol_content.specs.Content.{ContentRows}
+use Rattle.pol_content.specs.Sound.{IsSoundContent}
+use Rattle.pol_names.specs.declared.scope.Scope.{Scope}
 use Rattle.pol_names.specs.declared.scope.Scope.TheVariants as scope
 use Rattle.pol_tables.specs.Rising.{KeysBelow}
 use Rattle.pol_tables.proofs.ListLemmas.{each-push, each-weaken}
-use Rattle.pol_tables.proofs.RisingLemmas.{KeysRise-push}
+use Rattle.pol_tables.proofs.NumberedLemmas.{AreNumbered-more, below-next}
+use Rattle.pol_tables.proofs.RisingLemmas.{KeysRise-push, knows-below}
 use Rattle.pol_tables.proofs.TableLemmas.{some_is}
-use Rattle.pol_tokens.specs.Tokens.{serial_of}
+use Rattle.pol_tokens.specs.Tokens.{TokenRows, serial_of}
 use Rattle.pol_tokens.specs.declared.session.SessionRow.{SessionRow}
 use Rattle.pol_machine.specs.Machine.{stamped}
 use Rattle.pol_machine.specs.Rows.{Rows}
-use Rattle.pol_machine.specs.Rules.{all_roles, client_of, held_role, kept_if, role_of_scope, role_scope, run_full}
-use Rattle.pol_machine.specs.Sessions.{scope_of, time_of, with_session}
-use Rattle.pol_machine.specs.Sound.{IsGiven, IsSessionOf, IsSound, NamesGiven}
+use Rattle.pol_machine.specs.Rules.{all_roles, client_of, held_role, kept_if, role_of_scope, role_scope, run_full, time_of}
+use Rattle.pol_machine.specs.Sessions.{scope_of, with_session}
+use Rattle.pol_machine.specs.Sound.{is_access_id, IdsApart, IsCatalogRoleOf, IsGiven, IsGrantOf, IsSecurableGiven, IsSessionOf, IsSound, IsSoundAccess, IsSoundTokens, NamesGiven}
 use Rattle.pol_machine.specs.declared.command.Command.{Command}
 use Rattle.pol_machine.specs.declared.reply.Refusal.TheVariants.{RunFull}
 use Rattle.pol_machine.proofs.ChangesLemmas.{serials-below}
@@ -97,6 +103,8 @@ within-bounds s command sound moment open_ = record {
 pub stamped-sound : (s : Rows) (command : Command) → IsSound s → IsWithin s command → IsSound (stamped s command s)
 stamped-sound s command sound within = record {
   access = sound.access;
+  content = sound.content;
+  ids_apart = sound.ids_apart;
   tokens = sound.tokens;
   time_bound = within.time;
   next_id_bound = sound.next_id_bound;
@@ -109,6 +117,8 @@ pub opened-sound : (s : Rows) (command : Command) (row : SessionRow) → IsSound
     → IsSound (stamped s command (with_session s row))
 opened-sound s command row sound within serial principal scope bound = record {
   access = sound.access;
+  content = sound.content;
+  ids_apart = sound.ids_apart;
   tokens = record {
     sessions_rise = KeysRise-push serial_of row s.tokens.sessions sound.tokens.sessions_rise (subst (λ high. KeysBelow serial_of high s.tokens.sessions) (sym serial) (serials-below s sound));
     sessions = each-push (IsSessionOf s.next_id (s.next_serial + 1)) s.tokens.sessions row (each-weaken (IsSessionOf s.next_id s.next_serial) (IsSessionOf s.next_id (s.next_serial + 1)) s.tokens.sessions (λ kept. later_serial s.next_id s.next_serial (s.next_serial + 1) kept (omega arith)) sound.tokens.sessions) (record { below = omega (arith, serial); principal = principal; scope = scope });
@@ -118,3 +128,79 @@ opened-sound s command row sound within serial principal scope bound = record {
   next_serial_bound = bound;
   charged_bound = within.charged;
 }
+
+-- more ids keep principals, roles, members and sessions sound
+given-later : (low high id : ℕ) → low ≤ high → IsGiven low id → IsGiven high id
+given-later low high id more given = let under : id < high = omega (arith, more, given.1) in (given.0, under)
+
+securable-later : (low high : ℕ) (one : Securable) → low ≤ high → IsSecurableGiven low one → IsSecurableGiven high one
+securable-later low high securable.Realm more given = tt
+securable-later low high (securable.Catalog id) more given = given-later low high id more given
+securable-later low high (securable.Namespace id) more given = given-later low high id more given
+securable-later low high (securable.Table id) more given = given-later low high id more given
+securable-later low high (securable.View id) more given = given-later low high id more given
+
+later-access : (low high : ℕ) (access : AccessRows) → low ≤ high → IsSoundAccess low access → IsSoundAccess high access
+later-access low high access more sound = record {
+  principals = AreNumbered-more principal_id low high more access.principals sound.principals;
+  principal_roles = AreNumbered-more principal_role_id low high more access.principal_roles sound.principal_roles;
+  catalog_roles = AreNumbered-more catalog_role_id low high more access.catalog_roles sound.catalog_roles;
+  ids_differ = sound.ids_differ;
+  names_differ = sound.names_differ;
+  client_ids_differ = sound.client_ids_differ;
+  role_names_differ = sound.role_names_differ;
+  catalog_roles_known = each-weaken (IsCatalogRoleOf low access) (IsCatalogRoleOf high access) access.catalog_roles (λ row known. record { no_principal = known.no_principal; no_principal_role = known.no_principal_role; catalog = given-later low high row.catalog more known.catalog }) sound.catalog_roles_known;
+  catalog_role_names_differ = sound.catalog_role_names_differ;
+  members_differ = sound.members_differ;
+  member_principals = sound.member_principals;
+  member_roles = sound.member_roles;
+  joins_differ = sound.joins_differ;
+  join_principal_roles = sound.join_principal_roles;
+  join_catalog_roles = sound.join_catalog_roles;
+  grants_differ = sound.grants_differ;
+  grants_known = each-weaken (IsGrantOf low access) (IsGrantOf high access) access.grants (λ row known. record { role = known.role; securable = securable-later low high row.securable more known.securable; allowed = known.allowed }) sound.grants_known;
+  root_chain = sound.root_chain;
+  principals_bound = sound.principals_bound;
+  principal_roles_bound = sound.principal_roles_bound;
+  catalog_roles_bound = sound.catalog_roles_bound;
+  members_bound = sound.members_bound;
+  joins_bound = sound.joins_bound;
+  grants_bound = sound.grants_bound;
+}
+
+names-later : (low high : ℕ) (scope : Scope) → low ≤ high → NamesGiven low scope → NamesGiven high scope
+names-later low high scope.All more given = tt
+names-later low high (scope.Roles roles) more given =
+    each-weaken (IsGiven low) (IsGiven high) roles (λ id here. given-later low high id more here) given
+
+later-tokens : (low high serial : ℕ) (tokens : TokenRows) → low ≤ high → IsSoundTokens low serial tokens → IsSoundTokens high serial tokens
+later-tokens low high serial tokens more sound = record {
+  sessions_rise = sound.sessions_rise;
+  sessions = each-weaken (IsSessionOf low serial) (IsSessionOf high serial) tokens.sessions (λ row known. record { below = known.below; principal = given-later low high row.principal more known.principal; scope = names-later low high row.scope more known.scope }) sound.sessions;
+}
+
+-- rows whose catalogues and namespaces are others, and more ids given out, are sound at the command's time
+pub content-sound : (s : Rows) (command : Command) (content : ContentRows) (next_id : ℕ) → IsSound s → IsWithin s command → s.next_id ≤ next_id → next_id ≤ 2 ^ 62 → IsSoundContent next_id content → IdsApart s.access content
+    → IsSound (stamped s command (record s { content = content; next_id = next_id }))
+content-sound s command content next_id sound within more bound kept apart = record {
+  access = later-access s.next_id next_id s.access more sound.access;
+  content = kept;
+  ids_apart = apart;
+  tokens = later-tokens s.next_id next_id s.next_serial s.tokens more sound.tokens;
+  time_bound = within.time;
+  next_id_bound = bound;
+  next_serial_bound = sound.next_serial_bound;
+  charged_bound = within.charged;
+}
+
+-- some id was given out
+pub next_id-some : (s : Rows) → IsSound s → 1 ≤ s.next_id
+next_id-some s sound =
+    let chain = sound.access.root_chain in
+    let given = found-holds (λ row. IsGiven s.next_id (principal_id row)) _ s.access.principals chain.root sound.access.principals.given chain.root_there in
+    omega (arith, given.0, given.1)
+
+-- the next id is no principal's and no role's
+pub next_id-unknown : (s : Rows) → IsSound s → is_access_id s.next_id s.access ≡ false
+next_id-unknown s sound =
+    rw (knows-below principal_id s.next_id s.access.principals (below-next principal_id s.next_id s.access.principals sound.access.principals), knows-below principal_role_id s.next_id s.access.principal_roles (below-next principal_role_id s.next_id s.access.principal_roles sound.access.principal_roles), knows-below catalog_role_id s.next_id s.access.catalog_roles (below-next catalog_role_id s.next_id s.access.catalog_roles sound.access.catalog_roles)) refl

@@ -5,8 +5,7 @@ use Rattle.pol_machine.specs.Changes.{changes_between}
 use Rattle.pol_machine.specs.Machine.{acting, next_state, reply_of, rules_of}
 use Rattle.pol_machine.specs.Reply.{is_run_full}
 use Rattle.pol_machine.specs.Rows.{Rows}
-use Rattle.pol_machine.specs.Rules.{EachPasses, run_full}
-use Rattle.pol_machine.specs.Sessions.{time_of}
+use Rattle.pol_machine.specs.Rules.{EachPasses, run_full, time_of}
 use Rattle.pol_machine.specs.Sound.{IsSound}
 use Rattle.pol_machine.specs.declared.command.Command.{Command}
 use Rattle.pol_machine.specs.declared.reply.Reply.TheVariants.{Answered}

@@ -1,8 +1,11 @@
+pub mod Acting
 pub mod Applied
+pub mod Catalogs
 pub mod Changes
 pub mod Judged
 pub mod Laws
 pub mod Machine
+pub mod Namespaces
 pub mod Reply
 pub mod Rows
 pub mod Rules

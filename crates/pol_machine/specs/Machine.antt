@@ -1,10 +1,13 @@
 -- The machine: the reply to a command in a state, and the state after it.
 use Rattle.std.specs.Prelude.{◌+◌, List, ◌∷◌, Option, Some, None}
 use Rattle.pol_machine.specs.Rows.{Rows}
-use Rattle.pol_machine.specs.Rules.{run_full, first_refusal}
-use Rattle.pol_machine.specs.Sessions.{Acting, open_session, time_of}
+use Rattle.pol_machine.specs.Rules.{run_full, first_refusal, time_of}
+use Rattle.pol_machine.specs.Acting.{Acting}
+use Rattle.pol_machine.specs.Catalogs.{create_catalog, drop_catalog, get_catalog, get_config, list_catalogs}
+use Rattle.pol_machine.specs.Namespaces.{create_namespace, drop_namespace, head_namespace, list_namespaces, load_namespace, update_properties}
+use Rattle.pol_machine.specs.Sessions.{open_session}
 use Rattle.pol_machine.specs.declared.command.Action.{Action}
-use Rattle.pol_machine.specs.declared.command.Action.TheVariants.{OpenSession}
+use Rattle.pol_machine.specs.declared.command.Action.TheVariants.{OpenSession, GetConfig, ListCatalogs, CreateCatalog, GetCatalog, DropCatalog, ListNamespaces, CreateNamespace, LoadNamespace, HeadNamespace, DropNamespace, UpdateProperties}
 use Rattle.pol_machine.specs.declared.command.Command.{Command}
 use Rattle.pol_machine.specs.declared.reply.Answer.{Answer}
 use Rattle.pol_machine.specs.declared.reply.Refusal.{Refusal}
@@ -14,6 +17,17 @@ use Rattle.pol_machine.specs.declared.reply.Reply.TheVariants.{Answered, Refused
 -- the rules, the rows after and the answer of each action
 abbrev pub acting : Rows → Command → Action → Acting
 acting s command (OpenSession client_id secret scopes) = open_session s command client_id secret scopes
+acting s command (GetConfig name) = get_config s command name
+acting s command ListCatalogs = list_catalogs s command
+acting s command (CreateCatalog name base allowed properties external) = create_catalog s command name base allowed properties external
+acting s command (GetCatalog name) = get_catalog s command name
+acting s command (DropCatalog name) = drop_catalog s command name
+acting s command (ListNamespaces name parent) = list_namespaces s command name parent
+acting s command (CreateNamespace name levels properties) = create_namespace s command name levels properties
+acting s command (LoadNamespace name levels) = load_namespace s command name levels
+acting s command (HeadNamespace name levels) = head_namespace s command name levels
+acting s command (DropNamespace name levels) = drop_namespace s command name levels
+acting s command (UpdateProperties name levels removals updates) = update_properties s command name levels removals updates
 
 -- the rules of a command, in their order
 abbrev pub rules_of : Rows → Command → List (Option Refusal)

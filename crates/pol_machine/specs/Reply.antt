@@ -1,14 +1,25 @@
 -- What replies say.
 use Rattle.std.specs.Prelude.{ℕ, Bool, true, false, List, codes}
+use Rattle.pol_machine.specs.declared.reply.OptionName.{OptionName}
+use Rattle.pol_machine.specs.declared.reply.OptionName.TheVariants as option
 use Rattle.pol_machine.specs.declared.reply.Quantity.{Quantity}
-use Rattle.pol_machine.specs.declared.reply.Quantity.TheVariants.{NextSerial}
+use Rattle.pol_machine.specs.declared.reply.Quantity.TheVariants.{Catalogs, Namespaces, AllowedLocations, Properties, NextId, NextSerial}
 use Rattle.pol_machine.specs.declared.reply.Refusal.{Refusal}
 use Rattle.pol_machine.specs.declared.reply.Refusal.TheVariants.{RunFull}
 use Rattle.pol_machine.specs.declared.reply.Reply.{Reply}
 use Rattle.pol_machine.specs.declared.reply.Reply.TheVariants.{Answered, Refused}
 
+-- the name of an option
+abbrev pub option_text : OptionName → List ℕ
+option_text option.Type = codes "type"
+
 -- the name of a quantity
 abbrev pub quantity_text : Quantity → List ℕ
+quantity_text Catalogs = codes "catalogues"
+quantity_text Namespaces = codes "namespaces"
+quantity_text AllowedLocations = codes "allowed locations"
+quantity_text Properties = codes "properties"
+quantity_text NextId = codes "next_id"
 quantity_text NextSerial = codes "next_serial"
 
 -- whether a refusal is that the run is full

@@ -4,22 +4,29 @@ use Rattle.sha2.specs.Sha256.{sha256}
 use Rattle.pol_access.specs.Access.{AccessRows}
 use Rattle.pol_access.specs.declared.rows.PrincipalRoleRow.{PrincipalRoleRow}
 use Rattle.pol_access.specs.declared.rows.PrincipalRow.{PrincipalRow}
+use Rattle.pol_content.specs.Content.{ContentRows, ContentRoom}
 use Rattle.pol_tokens.specs.Tokens.{TokenRows, TokensRoom}
 
 -- a state: the rows of each layer, the time, the next id and the next serial to be given out, and the sum of the
 -- charges of this run
 pub record Rows : Type 0 where
   pub access : AccessRows
+  pub content : ContentRows
   pub tokens : TokenRows
   pub time : ℕ
   pub next_id : ℕ
   pub next_serial : ℕ
   pub charged : ℕ
 
--- a state as it is held: its rows, and how many more rows need no memory
+-- how many more rows of each layer need no memory
+pub record Room : Type 0 where
+  pub content : ContentRoom
+  pub tokens : TokensRoom
+
+-- a state as it is held: its rows, and its room
 pub record Held : Type 0 where
   pub rows : Rows
-  pub room : TokensRoom
+  pub room : Room
 
 -- what is kept of a secret: its SHA-256 digest
 unfoldable pub digest_of : List ℕ → List ℕ
@@ -38,8 +45,12 @@ fresh_state secret = record {
   access = record {
     principals = root_row secret ∷ [];
     principal_roles = service_admin_row ∷ [];
+    catalog_roles = [];
     members = record { principal = 1; role = 2 } ∷ [];
+    joins = [];
+    grants = [];
   };
+  content = record { catalogs = []; namespaces = [] };
   tokens = record { sessions = [] };
   time = 0;
   next_id = 3;

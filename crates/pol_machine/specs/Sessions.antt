@@ -1,5 +1,5 @@
 -- Opening a session.
-use Rattle.std.specs.Prelude.{ℕ, ◌+◌, max, ◌||◌, List, [], ◌∷◌, ◌++◌, Option, Some, None, if◌then◌else◌, length, ◌==◌}
+use Rattle.std.specs.Prelude.{ℕ, ◌+◌, ◌||◌, List, [], ◌∷◌, ◌++◌, Option, Some, None, if◌then◌else◌, length, ◌==◌}
 use Rattle.std.specs.List.{list_any, filter_map}
 use Rattle.std.specs.Str.{bytes_eq}
 use Rattle.pol_access.specs.declared.rows.PrincipalRow.{PrincipalRow}
@@ -7,21 +7,10 @@ use Rattle.pol_names.specs.declared.scope.Scope.{Scope}
 use Rattle.pol_names.specs.declared.scope.Scope.TheVariants as scope
 use Rattle.pol_tokens.specs.declared.session.SessionRow.{SessionRow}
 use Rattle.pol_machine.specs.Rows.{Rows}
-use Rattle.pol_machine.specs.Rules.{client_of, invalid_client, invalid_scope, over_limit, given, held_role, all_roles}
+use Rattle.pol_machine.specs.Acting.{Acting}
+use Rattle.pol_machine.specs.Rules.{client_of, invalid_client, invalid_scope, over_limit, given, held_role, all_roles, time_of}
 use Rattle.pol_machine.specs.declared.command.Command.{Command}
-use Rattle.pol_machine.specs.declared.reply.Refusal.{Refusal}
-use Rattle.pol_machine.specs.declared.reply.Answer.{Answer}
 use Rattle.pol_machine.specs.declared.reply.Answer.TheVariants.{SessionOpened}
-
--- an action in a state: its rules in their order, the rows once it is done, and its answer
-pub record Acting : Type 0 where
-  pub rules : List (Option Refusal)
-  pub after : Rows
-  pub answer : Answer
-
--- the time of a command: the greater of the state's and its moment
-abbrev pub time_of : Rows → Command → ℕ
-time_of s command = max s.time command.moment
 
 -- the scope that these words make: all roles where there are none or one of them says so, else the roles that they
 -- name, in their order

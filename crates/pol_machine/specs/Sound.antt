@@ -1,12 +1,23 @@
 -- Sound states.
-use Rattle.std.specs.Prelude.{◌≡◌, ◌<◌, ◌≤◌, ◌^◌, ℕ, true, false, List, length, codes, Some, map}
+use Rattle.std.specs.Prelude.{◌≡◌, ◌<◌, ◌≤◌, ◌^◌, ℕ, Bool, ◌||◌, true, false, length, codes, Some, map}
 use Rattle.std.specs.Bool.{⊤}
 use Rattle.std.specs.List.{AllByRecursion, IsDistinct}
 use Rattle.std.specs.Str.{bytes_eq}
-use Rattle.pol_access.specs.Access.{AccessRows, principal_id, client_id_of, principal_role_id, principal_role_name, principal_role_named, is_member}
-use Rattle.pol_access.specs.contracts.rows.MemberRow.{the_row}
+use Rattle.pol_access.specs.Access.{AccessRows, principal_id, principal_name, client_id_of, principal_role_id, principal_role_name, catalog_role_id, is_member}
+use Rattle.pol_access.specs.Names.{principal_named, principal_role_named, same_role_name}
+use Rattle.pol_access.specs.Privilege.{grantable}
+use Rattle.pol_access.specs.Securable.{kind_of}
+use Rattle.pol_access.specs.contracts.rows.GrantRow as grant
+use Rattle.pol_access.specs.contracts.rows.JoinRow as join
+use Rattle.pol_access.specs.contracts.rows.MemberRow as member
+use Rattle.pol_access.specs.declared.rows.CatalogRoleRow.{CatalogRoleRow}
+use Rattle.pol_access.specs.declared.rows.GrantRow.{GrantRow}
 use Rattle.pol_access.specs.declared.rows.PrincipalRow.{PrincipalRow}
 use Rattle.pol_access.specs.declared.rows.PrincipalRoleRow.{PrincipalRoleRow}
+use Rattle.pol_access.specs.declared.securable.Securable.{Securable}
+use Rattle.pol_access.specs.declared.securable.Securable.TheVariants as securable
+use Rattle.pol_content.specs.Content.{ContentRows}
+use Rattle.pol_content.specs.Sound.{IsSoundContent}
 use Rattle.pol_names.specs.declared.scope.Scope.{Scope}
 use Rattle.pol_names.specs.declared.scope.Scope.TheVariants as scope
 pub use Rattle.pol_tables.specs.Numbered.{AreNumbered, IsGiven}
@@ -21,25 +32,56 @@ use Rattle.pol_machine.specs.Rows.{Rows}
 pub record HasRootChain (access : AccessRows) : Type 0 where
   pub root : PrincipalRow
   pub admin : PrincipalRoleRow
-  pub root_there : Rattle.std.specs.List.find (λ row. bytes_eq (codes "root") row.name) access.principals ≡ Some root
+  pub root_there : principal_named (codes "root") access ≡ Some root
   pub admin_there : principal_role_named (codes "service_admin") access ≡ Some admin
   pub member : is_member root.id admin.id access ≡ true
 
--- sound principals, principal roles and members
+-- the id that a securable names was given out
+abbrev pub IsSecurableGiven : ℕ → Securable → Type 0
+IsSecurableGiven next_id securable.Realm = ⊤
+IsSecurableGiven next_id (securable.Catalog id) = IsGiven next_id id
+IsSecurableGiven next_id (securable.Namespace id) = IsGiven next_id id
+IsSecurableGiven next_id (securable.Table id) = IsGiven next_id id
+IsSecurableGiven next_id (securable.View id) = IsGiven next_id id
+
+-- a catalogue role's id is no principal's and no principal role's, and its catalogue's id was given out
+pub record IsCatalogRoleOf (next_id : ℕ) (access : AccessRows) (row : CatalogRoleRow) : Type 0 where
+  pub no_principal : knows principal_id row.id access.principals ≡ false
+  pub no_principal_role : knows principal_role_id row.id access.principal_roles ≡ false
+  pub catalog : IsGiven next_id row.catalog
+
+-- a grant's catalogue role is there, and its privilege may be granted on its securable, whose id was given out
+pub record IsGrantOf (next_id : ℕ) (access : AccessRows) (row : GrantRow) : Type 0 where
+  pub role : knows catalog_role_id row.catalog_role access.catalog_roles ≡ true
+  pub securable : IsSecurableGiven next_id row.securable
+  pub allowed : grantable row.privilege (kind_of row.securable) ≡ true
+
+-- sound principals, roles, members, joins and grants
 pub record IsSoundAccess (next_id : ℕ) (access : AccessRows) : Type 0 where
   pub principals : AreNumbered principal_id next_id access.principals
   pub principal_roles : AreNumbered principal_role_id next_id access.principal_roles
+  pub catalog_roles : AreNumbered catalog_role_id next_id access.catalog_roles
   pub ids_differ : AllByRecursion (λ row. knows principal_role_id row.id access.principal_roles ≡ false) access.principals
-  pub names_differ : IsDistinct bytes_eq (map (λ row. row.name) access.principals)
+  pub names_differ : IsDistinct bytes_eq (map principal_name access.principals)
   pub client_ids_differ : IsDistinct bytes_eq (map client_id_of access.principals)
   pub role_names_differ : IsDistinct bytes_eq (map principal_role_name access.principal_roles)
-  pub members_differ : IsDistinct (same the_row.coded) access.members
+  pub catalog_roles_known : AllByRecursion (IsCatalogRoleOf next_id access) access.catalog_roles
+  pub catalog_role_names_differ : IsDistinct same_role_name access.catalog_roles
+  pub members_differ : IsDistinct (same member.the_row.coded) access.members
   pub member_principals : AllByRecursion (λ row. knows principal_id row.principal access.principals ≡ true) access.members
   pub member_roles : AllByRecursion (λ row. knows principal_role_id row.role access.principal_roles ≡ true) access.members
+  pub joins_differ : IsDistinct (same join.the_row.coded) access.joins
+  pub join_principal_roles : AllByRecursion (λ row. knows principal_role_id row.principal_role access.principal_roles ≡ true) access.joins
+  pub join_catalog_roles : AllByRecursion (λ row. knows catalog_role_id row.catalog_role access.catalog_roles ≡ true) access.joins
+  pub grants_differ : IsDistinct (same grant.the_row.coded) access.grants
+  pub grants_known : AllByRecursion (IsGrantOf next_id access) access.grants
   pub root_chain : HasRootChain access
   pub principals_bound : length access.principals ≤ 10000
   pub principal_roles_bound : length access.principal_roles ≤ 10000
+  pub catalog_roles_bound : length access.catalog_roles ≤ 10000
   pub members_bound : length access.members ≤ 100000
+  pub joins_bound : length access.joins ≤ 100000
+  pub grants_bound : length access.grants ≤ 100000
 
 -- the ids that a scope names were given out
 abbrev pub NamesGiven : ℕ → Scope → Type 0
@@ -57,9 +99,21 @@ pub record IsSoundTokens (next_id next_serial : ℕ) (tokens : TokenRows) : Type
   pub sessions_rise : KeysRise serial_of tokens.sessions
   pub sessions : AllByRecursion (IsSessionOf next_id next_serial) tokens.sessions
 
+-- whether a row of principals and roles has this id
+abbrev pub is_access_id : ℕ → AccessRows → Bool
+is_access_id id access =
+    knows principal_id id access.principals || knows principal_role_id id access.principal_roles || knows catalog_role_id id access.catalog_roles
+
+-- no catalogue and no namespace has an id of theirs
+pub record IdsApart (access : AccessRows) (content : ContentRows) : Type 0 where
+  pub catalogs : AllByRecursion (λ row. is_access_id row.id access ≡ false) content.catalogs
+  pub namespaces : AllByRecursion (λ row. is_access_id row.id access ≡ false) content.namespaces
+
 -- a sound state
 pub record IsSound (s : Rows) : Type 0 where
   pub access : IsSoundAccess s.next_id s.access
+  pub content : IsSoundContent s.next_id s.content
+  pub ids_apart : IdsApart s.access s.content
   pub tokens : IsSoundTokens s.next_id s.next_serial s.tokens
   pub time_bound : s.time ≤ 2 ^ 62
   pub next_id_bound : s.next_id ≤ 2 ^ 62

@@ -4,6 +4,11 @@ ghost use Rattle.pol_machine.specs.Judged.{Acts};
 ghost use Rattle.pol_machine.specs.Machine.{acting, next_state, reply_of, rules_of};
 ghost use Rattle.pol_machine.specs.Sound.{IsSound};
 
+use crate::catalogs::{create_catalog, drop_catalog, get_catalog, get_config, list_catalogs};
+use crate::namespaces::{
+    create_namespace, drop_namespace, head_namespace, list_namespaces, load_namespace,
+    update_properties,
+};
 use crate::rules::{Acted, Stop, run_open};
 use crate::sessions::open_session;
 use crate::{Action, Change, Command, Reply, State};
@@ -51,5 +56,41 @@ fn act(alloc: Global, state: &State, command: &Command) -> Result<Acted, Stop>
             secret,
             scopes,
         } => open_session(alloc, state, command, client_id, secret, scopes),
+        Action::GetConfig { catalog } => get_config(alloc, state, command, catalog),
+        Action::ListCatalogs => list_catalogs(alloc, state, command),
+        Action::CreateCatalog {
+            name,
+            base,
+            allowed,
+            properties,
+            external,
+        } => create_catalog(
+            alloc, state, command, name, base, allowed, properties, *external,
+        ),
+        Action::GetCatalog { catalog } => get_catalog(alloc, state, command, catalog),
+        Action::DropCatalog { catalog } => drop_catalog(alloc, state, command, catalog),
+        Action::ListNamespaces { catalog, parent } => {
+            list_namespaces(alloc, state, command, catalog, parent)
+        }
+        Action::CreateNamespace {
+            catalog,
+            namespace,
+            properties,
+        } => create_namespace(alloc, state, command, catalog, namespace, properties),
+        Action::LoadNamespace { catalog, namespace } => {
+            load_namespace(alloc, state, command, catalog, namespace)
+        }
+        Action::HeadNamespace { catalog, namespace } => {
+            head_namespace(alloc, state, command, catalog, namespace)
+        }
+        Action::DropNamespace { catalog, namespace } => {
+            drop_namespace(alloc, state, command, catalog, namespace)
+        }
+        Action::UpdateProperties {
+            catalog,
+            namespace,
+            removals,
+            updates,
+        } => update_properties(alloc, state, command, catalog, namespace, removals, updates),
     }
 }

@@ -1,10 +1,14 @@
 //! The catalogue machine: what a command is answered in a state, and the changes that it makes there.
 #![tactic(auto)]
 
-mod change;
+mod callers;
+mod catalog_rules;
+mod catalogs;
 mod command;
 mod decision;
 pub mod laws;
+mod namespace_rules;
+mod namespaces;
 mod reply;
 mod rules;
 mod scopes;
@@ -13,10 +17,13 @@ mod state;
 #[cfg(test)]
 mod tests;
 
-pub use change::Change;
 pub use command::{Action, Caller, Command, Words4};
 pub use decision::{Decision, decide};
-pub use pol_access::{MemberRow, PrincipalRoleRow, PrincipalRow, RoleIds, Scope};
+pub use pol_access::{
+    CatalogRoleRow, GrantRow, JoinRow, MemberRow, PrincipalRoleRow, PrincipalRow, Privilege,
+    RoleIds, Scope, Securable,
+};
+pub use pol_content::{CatalogRow, Change, NamespaceRow};
 pub use pol_tokens::SessionRow;
-pub use reply::{Answer, Quantity, Refusal, Reply};
+pub use reply::{Answer, OptionName, Quantity, Refusal, Reply};
 pub use state::State;

@@ -1,20 +1,19 @@
-ghost use Rattle.std.specs.Prelude.{◌≡◌, ◌+◌, ◌<◌, ◌≤◌, ◌^◌, Some};
+ghost use Rattle.std.specs.Prelude.{◌≡◌, ◌+◌, ◌<◌, ◌≤◌, ◌^◌, []};
+ghost use Rattle.std.specs.Bool.{⊤};
 ghost use Rattle.pol_machine.specs.Judged.{Judges};
-ghost use Rattle.pol_machine.specs.Rows.{digest_of};
-ghost use Rattle.pol_machine.specs.Rules.{client_of, invalid_client, over_limit, run_full, with_serial};
+ghost use Rattle.pol_machine.specs.Rules.{above, over_limit, run_full, time_of, with_serial};
 ghost use Rattle.pol_machine.specs.Sound.{IsSound};
 ghost use Rattle.pol_machine.specs.declared.rules.Stop.TheVariants.{OutOfMemory as Unallocated};
 
-use crate::{Answer, Change, PrincipalRow, Quantity, Refusal, State};
+use crate::{Answer, Change, Command, Quantity, Refusal, State};
 use pol_types::{Listed, OutOfMemory};
-use sha2::{Digest, Sha256};
-use std::alloc::AllocFailed;
+use std::alloc::{AllocError, AllocFailed, Global};
 
 /// What the charges of one run come to at most.
 const RUN_BOUND: u64 = 1 << 30;
 
-/// What the next serial comes to at most.
-const SERIAL_BOUND: u64 = 1 << 62;
+/// What the next id and the next serial come to at most.
+pub(crate) const COUNTER_BOUND: u64 = 1 << 62;
 
 /// Why a command isn't done.
 #[derive(Debug, Drop)]
@@ -27,6 +26,14 @@ impl From<OutOfMemory> for Stop {
     ghost from_gives = { λ _ stop. stop ≡ Unallocated };
 
     fn from(_error: OutOfMemory) -> Self {
+        Stop::OutOfMemory
+    }
+}
+
+impl From<AllocError> for Stop {
+    ghost from_gives = { λ _ stop. stop ≡ Unallocated };
+
+    fn from(_error: AllocError) -> Self {
         Stop::OutOfMemory
     }
 }
@@ -59,43 +66,41 @@ pub(crate) fn run_open(state: &State, charge: u64) -> Result<(), Stop>
     Ok(())
 }
 
-/// The principal of the client id, whose secret this is.
-#[tactic(auto, unfolding(crate::specs::Rules::client_of, crate::specs::Rules::invalid_client))]
-pub(crate) fn client_there<'a>(
-    state: &'a State,
-    client_id: &str,
-    secret: &str,
-) -> Result<&'a PrincipalRow, Stop>
-    ensures { Judges (invalid_client state.now.rows client_id.now secret.now) (λ principal. client_of state.now.rows client_id.now secret.now ≡ Some principal.now) result }
+/// The time of a command: the greater of the state's and its moment.
+pub(crate) fn time_of(state: &State, command: &Command) -> u64
+    ensures { result ≡ time_of state.now.rows command.now }
 {
-    let Some(principal) = state.access().principal_of_client(client_id) else {
-        return Err(Stop::Refused(Refusal::InvalidClient));
-    };
-    if principal.digest != digest(secret) {
-        return Err(Stop::Refused(Refusal::InvalidClient));
-    }
-    Ok(principal)
+    state.time().max(command.moment)
 }
 
-/// What is kept of a secret.
-#[tactic(auto, unfolding(crate::specs::Rows::digest_of))]
-pub(crate) fn digest(secret: &str) -> [u8; 32]
-    ensures { result ≡ digest_of secret.now }
+/// What an action that changes nothing comes to.
+pub(crate) fn unchanged(alloc: Global, answer: Answer) -> Acted
+    ensures answer { result.answer ≡ answer }
+    ensures changes { result.changes ≡ [] }
 {
-    Sha256::digest(secret.as_bytes())
+    Acted {
+        answer,
+        changes: Listed::from(Vec::new(alloc)),
+    }
+}
+
+/// A number of a quantity is within its bound.
+pub(crate) fn within(quantity: Quantity, bound: u64, number: u64) -> Result<(), Stop>
+    ensures { Judges (above quantity bound number) (λ _. number ≤ bound) result }
+{
+    if number > bound {
+        return Err(Stop::Refused(Refusal::Limit { quantity, bound }));
+    }
+    Ok(())
 }
 
 /// The serial of the next session or token, which leaves a next one within the bound.
-#[tactic(auto, unfolding(crate::specs::Rules::over_limit))]
+#[tactic(auto, using(crate::proofs::LimitsLemmas::serial_limits))]
 pub(crate) fn serial_left(state: &State) -> Result<u64, Stop>
+    requires { IsSound state.now.rows }
     ensures { Judges (over_limit (with_serial (state.now.rows.next_serial + 1) state.now.rows)) (λ serial. (serial ≡ state.now.rows.next_serial) × (serial < 2 ^ 62)) result }
 {
     let serial = state.next_serial();
-    if serial >= SERIAL_BOUND {
-        return Err(Stop::Refused(Refusal::Limit {
-            quantity: Quantity::NextSerial,
-            bound: SERIAL_BOUND,
-        }));
-    }
+    within(Quantity::NextSerial, COUNTER_BOUND, serial + 1)?;
     Ok(serial)
 }

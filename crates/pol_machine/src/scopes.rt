@@ -1,9 +1,11 @@
-ghost use Rattle.std.specs.Prelude.{◌≡◌, ◌≢◌, ◌++◌, ℕ, List, codes, IfOk, MatchOption, length, ◌==◌, ◌||◌, option_copied};
-ghost use Rattle.std.specs.List.{filter_map, list_all, list_any};
+ghost use Rattle.std.specs.Prelude.{◌≡◌, ◌≢◌, ◌++◌, ℕ, List, codes, IfOk, MatchOption, length, map, ◌==◌, ◌||◌, option_copied};
+ghost use Rattle.std.specs.List.{filter_map, list_all, list_any, IsDistinct};
 ghost use Rattle.std.specs.Str.{bytes_eq};
 ghost use Rattle.pol_machine.specs.Judged.{Judges};
 ghost use Rattle.pol_machine.specs.Rules.{all_roles, role_scope, role_of_scope, held_role, is_scope, invalid_scope};
+ghost use Rattle.pol_access.specs.Access.{principal_role_name};
 ghost use Rattle.pol_machine.specs.Sessions.{scope_of};
+ghost use Rattle.pol_machine.specs.Sound.{IsSound};
 
 use crate::rules::Stop;
 use crate::{PrincipalRoleRow, Refusal, RoleIds, Scope, State};
@@ -24,6 +26,7 @@ pub(crate) fn scope_there(
     principal: u64,
     scopes: &Listed<Text>,
 ) -> Result<Scope, Stop>
+    requires { IsSound state.now.rows }
     ensures { Judges (invalid_scope state.now.rows principal scopes.now) (λ scope. scope ≡ scope_of state.now.rows principal scopes.now) result }
 {
     if !are_scopes(state.access(), principal, scopes) {
@@ -34,7 +37,8 @@ pub(crate) fn scope_there(
 
 /// Whether each of these words is all roles or a role of the principal.
 pub(crate) fn are_scopes(access: &Access, principal: u64, scopes: &Listed<Text>) -> bool
-    ensures { result ≡ list_all (is_scope access.now principal) scopes.now }
+    requires { IsDistinct bytes_eq (map principal_role_name access.now.rows.principal_roles) }
+    ensures { result ≡ list_all (is_scope access.now.rows principal) scopes.now }
 {
     scopes
         .iter()
@@ -43,7 +47,8 @@ pub(crate) fn are_scopes(access: &Access, principal: u64, scopes: &Listed<Text>)
 
 #[tactic(auto, unfolding(crate::specs::Rules::is_scope))]
 fn is_scope(access: &Access, principal: u64, scope: &str) -> bool
-    ensures { result ≡ is_scope access.now principal scope.now }
+    requires { IsDistinct bytes_eq (map principal_role_name access.now.rows.principal_roles) }
+    ensures { result ≡ is_scope access.now.rows principal scope.now }
 {
     scope == ALL_ROLES || held_role(access, principal, scope).is_some()
 }
@@ -55,6 +60,7 @@ fn scope(
     principal: u64,
     scopes: &Listed<Text>,
 ) -> Result<Scope, OutOfMemory>
+    requires { IsSound state.now.rows }
     ensures { IfOk result (λ scope. scope ≡ scope_of state.now.rows principal scopes.now) }
 {
     if mean_all_roles(scopes) {
@@ -71,7 +77,8 @@ fn held_roles(
     principal: u64,
     scopes: &Listed<Text>,
 ) -> Result<RoleIds, OutOfMemory>
-    ensures { IfOk result (λ roles. roles ≡ filter_map (held_role access.now principal) scopes.now) }
+    requires { IsDistinct bytes_eq (map principal_role_name access.now.rows.principal_roles) }
+    ensures { IfOk result (λ roles. roles ≡ filter_map (held_role access.now.rows principal) scopes.now) }
 {
     let roles: Vec<u64> = scopes
         .iter()
@@ -95,7 +102,8 @@ fn name_all_roles(scopes: &Listed<Text>) -> bool
 /// The id of the role of the principal that the scope names.
 #[tactic(auto, unfolding(crate::specs::Rules::held_role))]
 fn held_role(access: &Access, principal: u64, scope: &str) -> Option<u64>
-    ensures { result ≡ held_role access.now principal scope.now }
+    requires { IsDistinct bytes_eq (map principal_role_name access.now.rows.principal_roles) }
+    ensures { result ≡ held_role access.now.rows principal scope.now }
 {
     let role = role_of_scope(access, scope)?;
     if access.is_member(principal, role.id) {
@@ -106,7 +114,8 @@ fn held_role(access: &Access, principal: u64, scope: &str) -> Option<u64>
 
 /// The role that the scope names.
 fn role_of_scope<'a>(access: &'a Access, scope: &str) -> Option<&'a PrincipalRoleRow>
-    ensures { option_copied result ≡ role_of_scope access.now scope.now }
+    requires { IsDistinct bytes_eq (map principal_role_name access.now.rows.principal_roles) }
+    ensures { option_copied result ≡ role_of_scope access.now.rows scope.now }
 {
     let name = role_name(scope)?;
     access.principal_role_named(name)

@@ -1,9 +1,10 @@
 ghost use Rattle.std.specs.Prelude.{◌≡◌, ◌≤◌, ◌^◌};
 ghost use Rattle.pol_machine.specs.Judged.{Acts};
-ghost use Rattle.pol_machine.specs.Sessions.{open_session, opened, time_of};
+ghost use Rattle.pol_machine.specs.Sessions.{open_session, opened};
 ghost use Rattle.pol_machine.specs.Sound.{IsSound};
 
-use crate::rules::{Acted, Stop, client_there, serial_left};
+use crate::callers::client_there;
+use crate::rules::{Acted, Stop, serial_left, time_of};
 use crate::scopes::scope_there;
 use crate::{Answer, Change, Command, SessionRow, State};
 use pol_tokens::SESSION_LIFE;
@@ -27,7 +28,7 @@ pub(crate) fn open_session(
     let scope = scope_there(alloc, state, principal, scopes)?;
     let serial = serial_left(state)?;
     let (word_a, word_b) = (command.words.a, command.words.b);
-    let time = state.time().max(command.moment);
+    let time = time_of(state, command);
     let row = SessionRow {
         serial,
         word_a,

@@ -1,22 +1,34 @@
 ghost use Rattle.std.specs.Prelude.{◌≡◌, ◌≤◌, ◌+◌, [], ◌∷◌, count_by, IfOk, IsOk, OnOk};
-ghost use Rattle.pol_machine.specs.Applied.{applied, changed, puts_session, HasRoom};
+ghost use Rattle.pol_machine.specs.Applied.{applied, changed, puts_catalog, puts_namespace, puts_session, HasRoom, TakesRoom};
 ghost use Rattle.pol_machine.specs.Rows.{fresh_state, root_row, service_admin_row};
 ghost use Rattle.pol_machine.specs.Sound.{IsSound};
 
-use crate::rules::digest;
+use crate::callers::digest;
 use crate::{Change, MemberRow, PrincipalRoleRow, PrincipalRow};
-use pol_access::Access;
+use pol_access::{Access, AccessRoom};
+use pol_content::Content;
 use pol_names::Plain;
 use pol_tokens::Tokens;
 use pol_types::{OutOfMemory, Text};
 use std::alloc::{AllocError, Global};
 use std::marker::Model;
 
+/// How many rows of each kind a fresh state has.
+const FRESH_ROWS: AccessRoom = AccessRoom {
+    principals: 1,
+    principal_roles: 1,
+    catalog_roles: 0,
+    members: 1,
+    joins: 0,
+    grants: 0,
+};
+
 /// The state of a catalogue. Contracts see its rows with the counters beside them, and the room: how many more rows
 /// can be put without taking memory.
 #[derive(Debug, Drop)]
 pub struct State {
     access: Access,
+    content: Content,
     tokens: Tokens,
     time: u64,
     next_id: u64,
@@ -29,7 +41,7 @@ impl Model for State {
 
     ghost Value = { Held };
 
-    ghost view = { λ state. record { rows = record { access = state.access; tokens = state.tokens.rows; time = state.time; next_id = state.next_id; next_serial = state.next_serial; charged = state.charged }; room = state.tokens.room } };
+    ghost view = { λ state. record { rows = record { access = state.access.rows; content = state.content.rows; tokens = state.tokens.rows; time = state.time; next_id = state.next_id; next_serial = state.next_serial; charged = state.charged }; room = record { content = state.content.room; tokens = state.tokens.room } } };
 }
 
 impl State {
@@ -40,6 +52,7 @@ impl State {
     {
         Ok(State {
             access: fresh_access(alloc, root_secret)?,
+            content: Content::new(alloc),
             tokens: Tokens::new(alloc),
             time: 0,
             next_id: 3,
@@ -49,9 +62,21 @@ impl State {
     }
 
     pub(crate) fn access(&self) -> &Access
-        ensures { result.now ≡ self.now.rows.access }
+        ensures { result.now.rows ≡ self.now.rows.access }
     {
         &self.access
+    }
+
+    pub(crate) fn content(&self) -> &Content
+        ensures { result.now.rows ≡ self.now.rows.content }
+    {
+        &self.content
+    }
+
+    pub(crate) fn tokens(&self) -> &Tokens
+        ensures { result.now.rows ≡ self.now.rows.tokens }
+    {
+        &self.tokens
     }
 
     /// The time, in milliseconds since the Unix epoch: the greatest moment of a command so far.
@@ -59,6 +84,12 @@ impl State {
         ensures { result ≡ self.now.rows.time }
     {
         self.time
+    }
+
+    pub(crate) fn next_id(&self) -> u64
+        ensures { result ≡ self.now.rows.next_id }
+    {
+        self.next_id
     }
 
     pub(crate) fn next_serial(&self) -> u64
@@ -79,11 +110,9 @@ impl State {
         ensures reserved { OnOk result (HasRoom changes.now self.new.room) }
         ensures succeeds { HasRoom changes.now self.old.room → IsOk result }
     {
-        let sessions = changes
-            .iter()
-            .filter(|change| matches!(change, Change::PutSession(_)))
-            .count();
-        self.tokens.reserve_sessions(sessions)
+        self.content.reserve_catalogs(catalogs_put(changes))?;
+        self.content.reserve_namespaces(namespaces_put(changes))?;
+        self.tokens.reserve_sessions(sessions_put(changes))
     }
 
     /// Makes the changes in their order, then takes the time and adds the charge. Takes no memory.
@@ -101,14 +130,20 @@ impl State {
         self.charged += charge;
     }
 
+    #[tactic(auto, unfolding(crate::specs::Applied::puts_catalog, crate::specs::Applied::puts_namespace, crate::specs::Applied::puts_session))]
     fn change(&mut self, change: Change)
         requires { HasRoom (change ∷ []) self.old.room }
         ensures rows { self.new.rows ≡ changed self.old.rows change }
-        ensures room { self.old.room.sessions ≤ self.new.room.sessions + count_by puts_session (change ∷ []) }
+        ensures room { TakesRoom change self.old.room self.new.room }
     {
         match change {
             Change::Time(time) => self.time = time,
+            Change::NextId(id) => self.next_id = id,
             Change::NextSerial(serial) => self.next_serial = serial,
+            Change::PutCatalog(row) => self.content.put_catalog(row),
+            Change::DropCatalog(id) => self.content.drop_catalog(id),
+            Change::PutNamespace(row) => self.content.put_namespace(row),
+            Change::DropNamespace(id) => self.content.drop_namespace(id),
             Change::PutSession(row) => self.tokens.put_session(row),
         }
     }
@@ -118,10 +153,12 @@ impl Clone for State {
     ghost is_clone = { λ source clone. clone.rows ≡ source.rows };
 
     fn clone(&self) -> Result<Self, AllocError> {
-        let access = self.access.clone()?;
+        let content = self.content.clone()?;
         let tokens = self.tokens.clone()?;
+        let access = self.access.clone()?;
         Ok(State {
             access,
+            content,
             tokens,
             time: self.time,
             next_id: self.next_id,
@@ -131,19 +168,68 @@ impl Clone for State {
     }
 }
 
+/// How many of the changes put a catalogue.
+fn catalogs_put(changes: &[Change]) -> usize
+    ensures { result ≡ count_by puts_catalog changes.now }
+{
+    changes.iter().filter(|change| puts_catalog(change)).count()
+}
+
+#[tactic(auto, unfolding(crate::specs::Applied::puts_catalog))]
+fn puts_catalog(change: &Change) -> bool
+    ensures { result ≡ puts_catalog change.now }
+{
+    matches!(change, Change::PutCatalog(_))
+}
+
+/// How many of the changes put a namespace.
+fn namespaces_put(changes: &[Change]) -> usize
+    ensures { result ≡ count_by puts_namespace changes.now }
+{
+    changes
+        .iter()
+        .filter(|change| puts_namespace(change))
+        .count()
+}
+
+#[tactic(auto, unfolding(crate::specs::Applied::puts_namespace))]
+fn puts_namespace(change: &Change) -> bool
+    ensures { result ≡ puts_namespace change.now }
+{
+    matches!(change, Change::PutNamespace(_))
+}
+
+/// How many of the changes put a session.
+fn sessions_put(changes: &[Change]) -> usize
+    ensures { result ≡ count_by puts_session changes.now }
+{
+    changes.iter().filter(|change| puts_session(change)).count()
+}
+
+#[tactic(auto, unfolding(crate::specs::Applied::puts_session))]
+fn puts_session(change: &Change) -> bool
+    ensures { result ≡ puts_session change.now }
+{
+    matches!(change, Change::PutSession(_))
+}
+
 /// Principal `root` with this secret, principal role `service_admin`, and root's membership.
 fn fresh_access(alloc: Global, root_secret: &str) -> Result<Access, OutOfMemory>
-    ensures { IfOk result (λ access. access ≡ (fresh_state root_secret.now).access) }
+    ensures { IfOk result (λ access. access.rows ≡ (fresh_state root_secret.now).access) }
 {
     let root = root(alloc, root_secret)?;
     let service_admin = service_admin(alloc)?;
     let mut access = Access::new(alloc);
-    access.put_principal(alloc, root)?;
-    access.put_principal_role(alloc, service_admin)?;
+    let Ok(()) = access.reserve(&FRESH_ROWS) else {
+        drop(access);
+        return Err(OutOfMemory);
+    };
+    access.put_principal(root);
+    access.put_principal_role(service_admin);
     access.put_member(MemberRow {
         principal: 1,
         role: 2,
-    })?;
+    });
     Ok(access)
 }
 

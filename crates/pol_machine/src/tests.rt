@@ -3,8 +3,6 @@ ghost use Rattle.pol_machine.specs.Sound.{IsSound};
 
 use super::*;
 use crate::scopes::are_scopes;
-use pol_access::Access;
-use pol_names::Plain;
 use pol_types::{Listed, Text};
 use std::alloc::Global;
 use std::test::Fail;
@@ -240,13 +238,20 @@ fn check_scopes(alloc: Global, state: &State) -> Result<(), Fail>
 #[test]
 fn scope_is_all_roles_or_roles_of_the_principal(rt: HostRuntime) -> Result<(), Fail> {
     let state = fresh(rt.alloc())?;
-    check_scopes(rt.alloc(), &state)
+    let checked = check_scopes(rt.alloc(), &state);
+    drop(state);
+    checked
 }
 
 #[test]
 fn copy_decides_as_its_source(rt: HostRuntime) -> Result<(), Fail> {
-    let state = copy(&fresh(rt.alloc())?)?;
-    check_first(rt.alloc(), &state, None, Scope::All)
+    let source = fresh(rt.alloc())?;
+    let copied = copy(&source);
+    drop(source);
+    let state = copied?;
+    let checked = check_first(rt.alloc(), &state, None, Scope::All);
+    drop(state);
+    checked
 }
 
 /// Checks the refusals where the run is full and no serial is left, each before the ones below it.
@@ -284,7 +289,9 @@ fn check_refusals(alloc: Global, state: &State) -> Result<(), Fail>
 #[test]
 fn refusals_come_in_their_order(rt: HostRuntime) -> Result<(), Fail> {
     let state = raised(rt.alloc(), SERIAL_BOUND, RUN_BOUND)?;
-    check_refusals(rt.alloc(), &state)
+    let checked = check_refusals(rt.alloc(), &state);
+    drop(state);
+    checked
 }
 
 /// Checks that a refused session takes no serial, and that an earlier moment doesn't turn the time back.
@@ -308,24 +315,36 @@ fn check_steps(alloc: Global, state: &mut State) -> Result<(), Fail>
 #[test]
 fn serials_rise_by_one_and_time_never_goes_back(rt: HostRuntime) -> Result<(), Fail> {
     let mut state = fresh(rt.alloc())?;
-    check_steps(rt.alloc(), &mut state)
+    let checked = check_steps(rt.alloc(), &mut state);
+    drop(state);
+    checked
+}
+
+/// Whether `service_admin` is a scope of the principal.
+fn may_be_admin(alloc: Global, state: &State, principal: u64) -> Result<bool, Fail>
+    requires { IsSound state.now.rows }
+{
+    let admin = words(alloc, Some("PRINCIPAL_ROLE:service_admin"))?;
+    Ok(are_scopes(state.access(), principal, &admin))
+}
+
+fn check_holders(alloc: Global, state: &State) -> Result<(), Fail>
+    requires { IsSound state.now.rows }
+{
+    for (principal, held) in [(1, true), (2, false), (3, false)] {
+        if may_be_admin(alloc, state, principal)? != held {
+            return Err(Fail::new("another principal has the role"));
+        }
+    }
+    Ok(())
 }
 
 #[test]
 fn role_of_another_principal_is_no_scope(rt: HostRuntime) -> Result<(), Fail> {
-    let alloc = rt.alloc();
-    let mut access = Access::new(alloc);
-    let name = Plain::new(alloc, "audit")?;
-    access.put_principal_role(alloc, PrincipalRoleRow { id: 9, name })?;
-    access.put_member(MemberRow {
-        principal: 4,
-        role: 9,
-    })?;
-    let audit = words(alloc, Some("PRINCIPAL_ROLE:audit"))?;
-    for (principal, held) in [(4, true), (9, false), (5, false)] {
-        assert_eq!(rt; are_scopes(&access, principal, &audit), held);
-    }
-    Ok(())
+    let state = fresh(rt.alloc())?;
+    let checked = check_holders(rt.alloc(), &state);
+    drop(state);
+    checked
 }
 
 #[test]

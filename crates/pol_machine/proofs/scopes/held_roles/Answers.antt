@@ -7,4 +7,4 @@ use Rattle.pol_machine.proofs.scopes.held_roles.Goals as goal
 pub returns : goal.returns
 returns c =
     c.from.ensures
-    ∙ items_from_collect {E = ℕ} (Ok c.in_ok-roles.roles) c.in_ok-roles.ensures.ran (YieldsList-from_filter_map _ (held_role c.args.access.now c.args.principal) (YieldsList-from_slice c.args.scopes.now cc) c.filter_map.ensures.closure (λ x r q k. search (rules, tests)))
+    ∙ items_from_collect {E = ℕ} (Ok c.in_ok-roles.roles) c.in_ok-roles.ensures.ran (YieldsList-from_filter_map _ (held_role c.args.access.now.rows c.args.principal) (YieldsList-from_slice c.args.scopes.now cc) c.filter_map.ensures.closure (λ x r q k. search (rules, tests)))

@@ -1,6 +1,6 @@
-use Rattle.std.proofs.Common.{◌≡◌, ℕ, ◌+◌, ◌<◌, ◌^◌, arith, ap, sym, ◌∙◌}
+use Rattle.std.proofs.Common.{◌≡◌, ℕ, ◌+◌, ◌<◌, ◌^◌, ap, sym, ◌∙◌}
 use Rattle.pol_machine.specs.Rules.{over_limit, with_serial}
-use Rattle.pol_machine.specs.Sessions.{open_session, time_of}
+use Rattle.pol_machine.specs.Sessions.{open_session}
 use Rattle.pol_machine.specs.declared.reply.Answer.TheVariants.{SessionOpened}
 use Rattle.pol_machine.proofs.DecisionLemmas.{acts-stopped}
 use Rattle.pol_machine.proofs.SessionsLemmas.{changes-acting, changes-made, limit-refused, none-refused}
@@ -25,10 +25,10 @@ returns c =
     let scopes = c.args.scopes.now in
     let principal = c.in_ok-principal.field-0.now in
     let judged = rw (c.as_str.ensures, c.as_str-2.ensures) at c.in_ok-principal.ensures in
-    let time_is : c.max-time.result ≡ time_of s command = omega arith in (
+    let time_is = c.time_of-time.ensures in (
       none-refused s command scopes c.args.client_id.now c.args.secret.now principal judged.0 judged.1 c.in_ok-scope.ensures.0 c.in_ok-serial.ensures.0,
       ap (λ serial. SessionOpened serial command.words.a command.words.b) c.in_ok-serial.ensures.1.0,
       c.from.ensures ∙ c.in_ok-vec.ensures.items
-          ∙ changes-made s command scopes principal c.in_ok-serial.serial c.in_ok-scope.scope c.max-time.result c.in_ok-serial.ensures.1.0 c.in_ok-scope.ensures.1 time_is
+          ∙ changes-made s command scopes principal c.in_ok-serial.serial c.in_ok-scope.scope c.time_of-time.result c.in_ok-serial.ensures.1.0 c.in_ok-scope.ensures.1 time_is
           ∙ sym (changes-acting s command scopes c.args.client_id.now c.args.secret.now principal judged.0 judged.1 c.requires.sound),
     )

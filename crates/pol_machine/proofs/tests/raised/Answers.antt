@@ -1,9 +1,9 @@
 use Rattle.std.proofs.Common.{◌≡◌, ◌≤◌, ◌^◌, ℕ, List, [], ◌∷◌, arith, ap, subst, sym, lit≤, ◌∙◌}
-use Rattle.pol_machine.specs.Applied.{applied}
-use Rattle.pol_machine.specs.Rows.{fresh_state}
+use Rattle.pol_machine.specs.Applied.{applied, puts_catalog, puts_namespace, puts_session, HasRoom}
+use Rattle.pol_machine.specs.Rows.{fresh_state, Room}
 use Rattle.pol_machine.specs.Sound.{IsSound}
-use Rattle.pol_machine.specs.declared.change.Change.{Change}
-use Rattle.pol_machine.specs.declared.change.Change.TheVariants.{NextSerial}
+use Rattle.pol_content.specs.declared.change.Change.{Change}
+use Rattle.pol_content.specs.declared.change.Change.TheVariants.{NextSerial}
 use Rattle.pol_machine.proofs.FreshLemmas.{fresh-sound}
 use Rattle.pol_machine.proofs.tests.raised.Goals as goal
 
@@ -11,6 +11,8 @@ raised-sound : (secret : List ℕ) (serial charged : ℕ) → serial ≤ 2 ^ 62 
 unfolding fresh_state
 raised-sound secret serial charged bound within = record {
   access = (fresh-sound secret).access;
+  content = (fresh-sound secret).content;
+  ids_apart = (fresh-sound secret).ids_apart;
   tokens = record { sessions_rise = (fresh-sound secret).tokens.sessions_rise; sessions = tt };
   time_bound = lit≤ tt;
   next_id_bound = lit≤ tt;
@@ -18,8 +20,17 @@ raised-sound secret serial charged bound within = record {
   charged_bound = omega (arith, within);
 }
 
+no-room : (serial : ℕ) (room : Room) → HasRoom (NextSerial serial ∷ []) room
+unfolding puts_catalog puts_namespace puts_session
+no-room serial room = record { catalogs = omega arith; namespaces = omega arith; sessions = omega arith }
+
 pub apply-requires-clause-sound : goal.apply-requires-clause-sound
 apply-requires-clause-sound c =
     let changes : c.in_ok-changes.changes.items ≡ NextSerial c.args.serial ∷ [] = c.in_ok-changes.ensures.items in
     let is = ap (λ (changes : List Change). applied changes 0 c.args.charged c.in_ok-state.state.rows) changes ∙ ap (applied (NextSerial c.args.serial ∷ []) 0 c.args.charged) c.in_ok-state.ensures.rows in
     subst IsSound (sym is) (raised-sound _ c.args.serial c.args.charged c.requires.serial c.requires.charged)
+
+pub apply-requires-clause-room : goal.apply-requires-clause-room
+apply-requires-clause-room c =
+    let changes : c.in_ok-changes.changes.items ≡ NextSerial c.args.serial ∷ [] = c.in_ok-changes.ensures.items in
+    subst (λ (changes : List Change). HasRoom changes c.in_ok-state.state.room) (sym changes) (no-room c.args.serial c.in_ok-state.state.room)

@@ -5,5 +5,5 @@ use Rattle.pol_machine.proofs.state.State.fresh.Goals as goal
 
 pub returns : goal.returns
 returns c =
-    let made = fresh-made c.args.root_secret.now c.in_ok-fresh_access.field-0 c.new.result.rows c.in_ok-fresh_access.ensures c.new.ensures in
+    let made = fresh-made c.args.root_secret.now c.in_ok-fresh_access.field-0.rows c.new.result.rows c.new-2.result.rows c.in_ok-fresh_access.ensures c.new.ensures c.new-2.ensures in
     record { rows = made; sound = subst IsSound (sym made) (fresh-sound c.args.root_secret.now) }

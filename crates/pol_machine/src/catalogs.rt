@@ -1,0 +1,174 @@
+ghost use Rattle.std.specs.Prelude.{◌≡◌, ◌<◌, ◌+◌, ◌^◌, map, Some, IfOk};
+ghost use Rattle.pol_content.specs.Content.{catalog_id};
+ghost use Rattle.pol_content.specs.Order.{by_name};
+ghost use Rattle.pol_tables.specs.Table.{row_of};
+ghost use Rattle.pol_machine.specs.Catalogs.{create_catalog, drop_catalog, get_catalog, get_config, list_catalogs, with_catalog, without_catalog};
+ghost use Rattle.pol_machine.specs.Changes.{changes_between};
+ghost use Rattle.pol_machine.specs.Judged.{Acts};
+ghost use Rattle.pol_machine.specs.Machine.{stamped};
+ghost use Rattle.pol_machine.specs.Sound.{IsSound};
+ghost use Rattle.pol_machine.specs.declared.reply.Answer.TheVariants.{CatalogCreated, CatalogDropped};
+
+use crate::callers::signed_in;
+use crate::catalog_rules::{
+    all_located, catalog_empty, catalog_free, catalog_there, catalog_within, kept_here, located,
+};
+use crate::rules::{Acted, Stop, time_of, unchanged};
+use crate::{Answer, CatalogRow, Change, Command, State};
+use pol_names::Plain;
+use pol_properties::Properties;
+use pol_types::{Listed, OutOfMemory, Text};
+use std::alloc::Global;
+
+/// Tells how a client is to speak to a catalogue.
+#[tactic(auto, using(crate::proofs::ChangesLemmas::no_changes))]
+pub(crate) fn get_config(
+    alloc: Global,
+    state: &State,
+    command: &Command,
+    name: &Plain,
+) -> Result<Acted, Stop>
+    requires { IsSound state.now.rows }
+    ensures { let acting = get_config state.now.rows command.now name.now in Acts state.now.rows command.now acting.rules acting.after acting.answer result }
+{
+    signed_in(state, command)?;
+    catalog_there(alloc, state, name)?;
+    let catalog = name.clone()?;
+    Ok(unchanged(alloc, Answer::ConfigTold { catalog }))
+}
+
+/// Lists all catalogues.
+#[tactic(auto, using(crate::proofs::ChangesLemmas::no_changes))]
+pub(crate) fn list_catalogs(alloc: Global, state: &State, command: &Command) -> Result<Acted, Stop>
+    requires { IsSound state.now.rows }
+    ensures { let acting = list_catalogs state.now.rows command.now in Acts state.now.rows command.now acting.rules acting.after acting.answer result }
+{
+    signed_in(state, command)?;
+    let rows = all_catalogs(alloc, state)?;
+    Ok(unchanged(alloc, Answer::CatalogsListed(rows)))
+}
+
+/// All catalogues, in byte order of their names.
+fn all_catalogs(alloc: Global, state: &State) -> Result<Listed<CatalogRow>, OutOfMemory>
+    ensures { IfOk result (λ rows. rows ≡ by_name state.now.rows.content.catalogs) }
+{
+    let rows = state.content().catalogs_by_name(alloc)?;
+    copies(alloc, rows.as_slice())
+}
+
+fn copies(alloc: Global, rows: &[&CatalogRow]) -> Result<Listed<CatalogRow>, OutOfMemory>
+    ensures { IfOk result (λ copies. copies ≡ map (λ row. row.now) rows.now) }
+{
+    let mut copies = Vec::new(alloc);
+    for row in rows {
+        copies.push((*row).clone()?)?;
+    }
+    Ok(Listed::from(copies))
+}
+
+/// Creates a catalogue.
+pub(crate) fn create_catalog(
+    alloc: Global,
+    state: &State,
+    command: &Command,
+    name: &Plain,
+    base: &Text,
+    allowed: &Listed<Text>,
+    properties: &Properties,
+    external: bool,
+) -> Result<Acted, Stop>
+    requires { IsSound state.now.rows }
+    ensures { let acting = create_catalog state.now.rows command.now name.now base.now allowed.now properties.now external in Acts state.now.rows command.now acting.rules acting.after acting.answer result }
+{
+    signed_in(state, command)?;
+    catalog_free(alloc, state, name)?;
+    let base = located(alloc, base)?;
+    let allowed = all_located(alloc, allowed.as_slice())?;
+    kept_here(external)?;
+    let row = CatalogRow {
+        id: state.next_id(),
+        name: name.clone()?,
+        base,
+        allowed,
+        properties: properties.clone()?,
+    };
+    catalog_within(state, &row)?;
+    Ok(created(alloc, state, command, row)?)
+}
+
+/// The catalogue is put, and two ids are taken.
+fn created(
+    alloc: Global,
+    state: &State,
+    command: &Command,
+    row: CatalogRow,
+) -> Result<Acted, OutOfMemory>
+    requires sound { IsSound state.now.rows }
+    requires id { row.id ≡ state.now.rows.next_id }
+    requires within { row.id + 1 < 2 ^ 62 }
+    ensures answer { IfOk result (λ acted. acted.answer ≡ CatalogCreated row) }
+    ensures changes { IfOk result (λ acted. acted.changes ≡ changes_between state.now.rows (stamped state.now.rows command.now (with_catalog state.now.rows row))) }
+{
+    let shown = row.clone()?;
+    Ok(Acted {
+        answer: Answer::CatalogCreated(shown),
+        changes: Listed::from(vec![in alloc;
+            Change::Time(time_of(state, command)),
+            Change::NextId(row.id + 2),
+            Change::PutCatalog(row),
+        ]?),
+    })
+}
+
+/// Shows a catalogue.
+#[tactic(auto, using(crate::proofs::ChangesLemmas::no_changes))]
+pub(crate) fn get_catalog(
+    alloc: Global,
+    state: &State,
+    command: &Command,
+    name: &Plain,
+) -> Result<Acted, Stop>
+    requires { IsSound state.now.rows }
+    ensures { let acting = get_catalog state.now.rows command.now name.now in Acts state.now.rows command.now acting.rules acting.after acting.answer result }
+{
+    signed_in(state, command)?;
+    let row = catalog_there(alloc, state, name)?.clone()?;
+    Ok(unchanged(alloc, Answer::CatalogLoaded(row)))
+}
+
+/// Drops a catalogue.
+pub(crate) fn drop_catalog(
+    alloc: Global,
+    state: &State,
+    command: &Command,
+    name: &Plain,
+) -> Result<Acted, Stop>
+    requires { IsSound state.now.rows }
+    ensures { let acting = drop_catalog state.now.rows command.now name.now in Acts state.now.rows command.now acting.rules acting.after acting.answer result }
+{
+    signed_in(state, command)?;
+    let row = catalog_there(alloc, state, name)?;
+    catalog_empty(alloc, state, row)?;
+    Ok(dropped(alloc, state, command, row)?)
+}
+
+/// The catalogue is taken away.
+fn dropped(
+    alloc: Global,
+    state: &State,
+    command: &Command,
+    row: &CatalogRow,
+) -> Result<Acted, OutOfMemory>
+    requires sound { IsSound state.now.rows }
+    requires there { row_of catalog_id row.now.id state.now.rows.content.catalogs ≡ Some row.now }
+    ensures answer { IfOk result (λ acted. acted.answer ≡ CatalogDropped) }
+    ensures changes { IfOk result (λ acted. acted.changes ≡ changes_between state.now.rows (stamped state.now.rows command.now (without_catalog state.now.rows row.now))) }
+{
+    Ok(Acted {
+        answer: Answer::CatalogDropped,
+        changes: Listed::from(vec![in alloc;
+            Change::Time(time_of(state, command)),
+            Change::DropCatalog(row.id),
+        ]?),
+    })
+}
