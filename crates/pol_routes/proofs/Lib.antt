@@ -1,8 +1,11 @@
+pub mod BodyLemmas
 pub mod FieldLemmas
 pub mod HeadLemmas
+pub mod JsonLemmas
 pub mod PlanLemmas
 pub mod QueryLemmas
 pub mod RefusedLemmas
+pub mod RequestLemmas
 pub mod RouteLemmas
 pub mod ScopeLemmas
 pub mod SegmentLemmas

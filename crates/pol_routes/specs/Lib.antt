@@ -1,9 +1,14 @@
 pub mod Bearer
+pub mod Bodies
+pub mod BodyGrammars
 pub mod Form
+pub mod Json
 pub mod Laws
 pub mod Plan
 pub mod Query
+pub mod Refusals
 pub mod Refused
+pub mod Requests
 pub mod Route
 pub mod Segment
 pub mod Table

@@ -2,18 +2,23 @@
 use Rattle.std.specs.Prelude.{ℕ, ◌+◌, List, length, if◌then◌else◌, Option, Some, None, Result, Ok, Err, codes}
 use Rattle.std.specs.Str.{bytes_eq}
 use Rattle.form_urlencoded.specs.Form.{parse}
+use Rattle.pol_http.specs.Head.{fields_of}
 use Rattle.pol_http.specs.Message.{Message, print_message}
 use Rattle.pol_machine.specs.declared.command.Action.TheVariants.{OpenSession}
+use Rattle.pol_machine.specs.declared.command.Caller.{Caller}
 use Rattle.pol_machine.specs.declared.command.Caller.TheVariants.{Nobody}
 use Rattle.pol_machine.specs.declared.command.Command.{Command}
 use Rattle.pol_machine.specs.declared.command.Words4.{Words4}
 use Rattle.pol_routes.specs.declared.plans.Planned.{Planned}
 use Rattle.pol_routes.specs.declared.plans.RouteRefused.{RouteRefused}
-use Rattle.pol_routes.specs.declared.plans.RouteRefused.TheVariants.{NotBuilt, InvalidRequest, GrantType}
+use Rattle.pol_routes.specs.declared.plans.RouteRefused.TheVariants.{InvalidRequest, GrantType}
 use Rattle.pol_routes.specs.declared.plans.TheConstants.{REQUEST_CHARGE}
 use Rattle.pol_routes.specs.declared.table.Endpoint.{Endpoint}
 use Rattle.pol_routes.specs.declared.table.Endpoint.TheVariants.{OpenSession as OpensSession}
 use Rattle.pol_routes.specs.declared.token_form.TokenForm.{TokenForm}
+use Rattle.pol_routes.specs.Bearer.{caller_of}
+use Rattle.pol_routes.specs.Refused.{read_on}
+use Rattle.pol_routes.specs.Requests.{action_of}
 use Rattle.pol_routes.specs.Route.{endpoint_of}
 use Rattle.pol_routes.specs.Target.{path_of}
 use Rattle.pol_routes.specs.TokenForm.{token_form}
@@ -39,15 +44,21 @@ plan_of_form charge (Some form) = session_plan charge form
 unfoldable pub token_plan : ℕ → List ℕ → Result Planned RouteRefused
 token_plan charge body = plan_of_form charge (token_form (parse body))
 
--- the plan of a request with that charge and body, by what it asks for; what has no line of its own isn't built yet
-abbrev pub endpoint_plan : ℕ → List ℕ → Endpoint → Result Planned RouteRefused
-endpoint_plan charge body OpensSession = token_plan charge body
-endpoint_plan charge body _ = Err NotBuilt
+-- the plan of a request that needs no random words
+unfoldable pub action_plan : ℕ → Caller → List ℕ → List ℕ → Endpoint → Result Planned RouteRefused
+action_plan charge caller target body endpoint =
+    read_on (λ action. Ok (record { caller = caller; action = action; words = 0; charge = charge })) (action_of target body endpoint)
+
+-- the plan of a request with that charge, caller, target and body, by what it asks for; a token request is nobody's
+abbrev pub endpoint_plan : ℕ → Caller → List ℕ → List ℕ → Endpoint → Result Planned RouteRefused
+endpoint_plan charge caller target body OpensSession = token_plan charge body
+endpoint_plan charge caller target body endpoint = action_plan charge caller target body endpoint
 
 -- the plan of a message whose route is known, or was refused
 abbrev pub plan_by : Message → Result Endpoint RouteRefused → Result Planned RouteRefused
 plan_by message (Err why) = Err why
-plan_by message (Ok endpoint) = endpoint_plan (length (print_message message) + REQUEST_CHARGE) message.body endpoint
+plan_by message (Ok endpoint) =
+    endpoint_plan (length (print_message message) + REQUEST_CHARGE) (caller_of (fields_of message.head)) message.head.target message.body endpoint
 
 -- the plan of a message, or why it has none
 unfoldable pub plan_of : Message → Result Planned RouteRefused

@@ -39,24 +39,25 @@ unfoldable pub segment_text : List ℕ → Result (List ℕ) RouteRefused
 segment_text segment =
     if has_whole_escapes segment && is_utf8 (percent_decode segment) then Ok (percent_decode segment) else Err unreadable_path
 
--- the plain name that a text is
-unfoldable pub plain_of : List ℕ → Result (List ℕ) RouteRefused
-plain_of text = if is_none (plain_refusal text) then Ok text else Err unreadable_path
+-- the plain name that the text of a field is
+unfoldable pub plain_of : List ℕ → List ℕ → Result (List ℕ) RouteRefused
+plain_of field text = if is_none (plain_refusal text) then Ok text else Err (Unreadable field)
 
 -- the name that a text is
 unfoldable pub name_of : List ℕ → Result (List ℕ) RouteRefused
 name_of text = if is_none (name_refusal text) then Ok text else Err unreadable_path
 
--- the namespace whose levels a text has
-unfoldable pub namespace_of : List ℕ → Result (List (List ℕ)) RouteRefused
-namespace_of text = if is_none (namespace_refusal (levels_of text)) then Ok (levels_of text) else Err unreadable_path
+-- the namespace whose levels the text of a field has
+unfoldable pub namespace_of : List ℕ → List ℕ → Result (List (List ℕ)) RouteRefused
+namespace_of field text =
+    if is_none (namespace_refusal (levels_of text)) then Ok (levels_of text) else Err (Unreadable field)
 
 -- the names that a segment stands for
 abbrev pub plain_segment : List ℕ → Result (List ℕ) RouteRefused
-plain_segment segment = read_on plain_of (segment_text segment)
+plain_segment segment = read_on (plain_of (codes "path")) (segment_text segment)
 
 abbrev pub name_segment : List ℕ → Result (List ℕ) RouteRefused
 name_segment segment = read_on name_of (segment_text segment)
 
 abbrev pub namespace_segment : List ℕ → Result (List (List ℕ)) RouteRefused
-namespace_segment segment = read_on namespace_of (segment_text segment)
+namespace_segment segment = read_on (namespace_of (codes "path")) (segment_text segment)

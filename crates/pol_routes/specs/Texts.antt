@@ -1,5 +1,5 @@
 -- The answers to replies and refusals: statuses and JSON texts.
-use Rattle.std.specs.Prelude.{ℕ, ◌/◌, List, ◌++◌, false, decimal, codes}
+use Rattle.std.specs.Prelude.{ℕ, ◌/◌, List, ◌++◌, Option, Some, None, false, codes}
 use Rattle.serde_json.specs.Data.{Data, number, unsigned, string, object, member, no_members}
 use Rattle.serde_json.specs.Written.{compact_text}
 use Rattle.pol_http.specs.declared.answer.Answer.{Answer}
@@ -7,12 +7,13 @@ use Rattle.pol_http.specs.declared.answer.Body.{Body}
 use Rattle.pol_http.specs.declared.answer.Body.TheVariants.{Nothing, Json, Token}
 use Rattle.pol_http.specs.declared.head.HeadRefused.{HeadRefused}
 use Rattle.pol_http.specs.declared.head.HeadRefused.TheVariants.{BadHead, LengthNeeded, BodyTooLong}
-use Rattle.pol_machine.specs.declared.reply.Answer.TheVariants.{SessionOpened}
+use Rattle.pol_machine.specs.declared.reply.Answer.{Answer as Done}
+use Rattle.pol_machine.specs.declared.reply.Answer.TheVariants.{SessionOpened, ConfigTold, CatalogsListed, CatalogCreated, CatalogLoaded, CatalogDropped, NamespacesListed, NamespaceCreated, NamespaceLoaded, NamespaceThere, NamespaceDropped, PropertiesUpdated}
 use Rattle.pol_machine.specs.declared.reply.Refusal.{Refusal}
-use Rattle.pol_machine.specs.declared.reply.Refusal.TheVariants.{RunFull, InvalidClient, InvalidScope, Limit}
 use Rattle.pol_machine.specs.declared.reply.Reply.{Reply}
 use Rattle.pol_machine.specs.declared.reply.Reply.TheVariants.{Answered, Refused}
-use Rattle.pol_machine.specs.Reply.{quantity_text}
+use Rattle.pol_routes.specs.Json.{catalog_json, catalogs_json, config_json, namespace_json, namespaces_json, updated_json}
+use Rattle.pol_routes.specs.Refusals.{kind_of, message_of, status_of}
 use Rattle.pol_routes.specs.declared.plans.RouteRefused.{RouteRefused}
 use Rattle.pol_routes.specs.declared.plans.RouteRefused.TheVariants.{NoRoute, WrongMethod, NotBuilt, Unreadable, InvalidRequest, GrantType, OutOfMemory}
 use Rattle.pol_tokens.specs.declared.session.TheConstants.{SESSION_LIFE}
@@ -52,18 +53,37 @@ error_json code message kind =
 unfoldable pub error_answer : ℕ → List ℕ → List ℕ → Answer
 error_answer code message kind = answer_with code (Json (compact_text (error_json code message kind)))
 
+-- the answer to what is refused with that status and message: a refused token request has no type of error
+abbrev pub told_answer : ℕ → List ℕ → Option (List ℕ) → Answer
+told_answer code message None = token_error code message
+told_answer code message (Some kind) = error_answer code message kind
+
 -- the answer to a command that is refused
 abbrev pub refused_answer : Refusal → Answer
-refused_answer (RunFull charged charge) =
-    error_answer 503 (codes "RunFull: " ++ (decimal charged ++ (codes " and " ++ decimal charge))) (codes "ServiceUnavailableException")
-refused_answer InvalidClient = token_error 401 (codes "invalid_client")
-refused_answer InvalidScope = token_error 400 (codes "invalid_scope")
-refused_answer (Limit quantity bound) =
-    error_answer 400 (codes "Limit: " ++ (quantity_text quantity ++ (codes " " ++ decimal bound))) (codes "BadRequestException")
+refused_answer why = told_answer (status_of why) (message_of why) (kind_of why)
+
+-- an answer of JSON
+unfoldable pub json_answer : ℕ → Data → Answer
+json_answer code json = answer_with code (Json (compact_text json))
+
+-- the answer to a command that is done
+abbrev pub done_answer : Done → Answer
+done_answer (SessionOpened serial word_a word_b) = session_answer (text_of_token serial word_a word_b)
+done_answer (ConfigTold catalog) = json_answer 200 (config_json catalog)
+done_answer (CatalogsListed rows) = json_answer 200 (catalogs_json rows)
+done_answer (CatalogCreated row) = json_answer 201 (catalog_json row)
+done_answer (CatalogLoaded row) = json_answer 200 (catalog_json row)
+done_answer CatalogDropped = answer_with 204 Nothing
+done_answer (NamespacesListed namespaces) = json_answer 200 (namespaces_json namespaces)
+done_answer (NamespaceCreated namespace properties) = json_answer 200 (namespace_json namespace properties)
+done_answer (NamespaceLoaded namespace properties) = json_answer 200 (namespace_json namespace properties)
+done_answer NamespaceThere = answer_with 204 Nothing
+done_answer NamespaceDropped = answer_with 204 Nothing
+done_answer (PropertiesUpdated missing removed updated) = json_answer 200 (updated_json missing removed updated)
 
 -- the answer to a reply
 unfoldable pub answer_of : Reply → Answer
-answer_of (Answered (SessionOpened serial word_a word_b)) = session_answer (text_of_token serial word_a word_b)
+answer_of (Answered done) = done_answer done
 answer_of (Refused refusal) = refused_answer refusal
 
 -- the answer to a request with a field that can't be read

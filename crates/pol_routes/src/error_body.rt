@@ -23,6 +23,15 @@ pub(crate) fn error_answer(
     Ok(answer_with(code, Body::Json(text_of(alloc, &json)?)))
 }
 
+/// An answer of that JSON, which has no floats.
+#[tactic(auto, unfolding(crate::specs::Texts::json_answer))]
+pub(crate) fn json_answer(alloc: Global, code: u16, json: Value) -> Result<Answer, OutOfMemory>
+    requires { has_float (view json) ≡ false }
+    ensures { IfOk result (λ answer. answer ≡ spec.json_answer code (view json)) }
+{
+    Ok(answer_with(code, Body::Json(text_of(alloc, &json)?)))
+}
+
 /// The JSON of an error.
 fn error_json(alloc: Global, code: u16, message: &str, kind: &str) -> Result<Value, AllocError>
     ensures { IfOk result (λ json. view json ≡ spec.error_json code message.now kind.now) }

@@ -2,11 +2,15 @@
 #![tactic(auto)]
 
 mod bearer;
+mod bodies;
 mod error_body;
 mod form;
+mod json;
 pub mod laws;
 mod plans;
 mod query;
+mod refusals;
+mod requests;
 mod routes;
 mod segment;
 mod table;

@@ -7,6 +7,8 @@ ghost use Rattle.pol_routes.specs.Refused.{Gives};
 ghost use Rattle.pol_routes.specs.Route as route;
 ghost use Rattle.pol_routes.specs.Target.{path_of};
 
+use crate::bearer::caller_of;
+use crate::requests::action_of;
 use crate::routes::Routes;
 use crate::table::Endpoint;
 use crate::target;
@@ -75,9 +77,11 @@ pub fn plan(
     ensures { (message : Message) → IsMessageAt bytes.now head.now body body.end message
         → Gives (spec.plan_of message) result }
 {
-    let endpoint = endpoint_of(routes, head.method.of(bytes), head.target.of(bytes))?;
+    let target = head.target.of(bytes);
+    let endpoint = endpoint_of(routes, head.method.of(bytes), target)?;
+    let caller = caller_of(alloc, bytes, head)?;
     let charge = body.end as u64 + REQUEST_CHARGE;
-    endpoint_plan(alloc, endpoint, charge, body.of(bytes))
+    endpoint_plan(alloc, endpoint, charge, caller, target, body.of(bytes))
 }
 
 /// What a request of this method and target asks for.
@@ -90,19 +94,42 @@ fn endpoint_of(routes: &Routes, method: &[u8], target: &[u8]) -> Result<Endpoint
     }
 }
 
-/// The plan of a request by what it asks for. What has no arm of its own isn't built yet.
+/// The plan of a request by what it asks for.
 fn endpoint_plan(
     alloc: Global,
     endpoint: Endpoint,
     charge: u64,
+    caller: Caller,
+    target: &[u8],
     body: &[u8],
 ) -> Result<Planned, RouteRefused>
-    ensures { Gives (spec.endpoint_plan charge body.now endpoint) result }
+    ensures { Gives (spec.endpoint_plan charge caller target.now body.now endpoint) result }
 {
     match endpoint {
         Endpoint::OpenSession => token_plan(alloc, charge, body),
-        _ => Err(RouteRefused::NotBuilt),
+        _ => action_plan(alloc, endpoint, charge, caller, target, body),
     }
+}
+
+/// The plan of a request that needs no random words.
+#[tactic(auto, using(crate::proofs::RefusedLemmas::read_on_refused, crate::proofs::RefusedLemmas::read_on_read), unfolding(crate::specs::Plan::action_plan))]
+fn action_plan(
+    alloc: Global,
+    endpoint: Endpoint,
+    charge: u64,
+    caller: Caller,
+    target: &[u8],
+    body: &[u8],
+) -> Result<Planned, RouteRefused>
+    ensures { Gives (spec.action_plan charge caller target.now body.now endpoint) result }
+{
+    let action = action_of(alloc, endpoint, target, body)?;
+    Ok(Planned {
+        caller,
+        action,
+        words: 0,
+        charge,
+    })
 }
 
 /// The plan of a token request (RFC 6749, section 4.4.2).

@@ -66,7 +66,7 @@ impl Routes {
 
 /// The table's rows.
 #[tactic(auto, unfolding(crate::specs::Table::table))]
-fn table_rows() -> &'static [Row]
+pub(crate) fn table_rows() -> &'static [Row]
     ensures { map entry_of result.now ≡ table }
 {
     &TABLE

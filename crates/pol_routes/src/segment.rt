@@ -45,7 +45,7 @@ pub fn plain_segment(alloc: Global, segment: &[u8]) -> Result<Plain, RouteRefuse
     ensures { Gives (spec.plain_segment segment.now) result }
 {
     let text = segment_text(alloc, segment)?;
-    plain_of(alloc, text.as_str())
+    plain_of(alloc, text.as_str(), PATH_FIELD)
 }
 
 /// The name that a segment is, which is unreadable where it is none.
@@ -64,7 +64,7 @@ pub fn namespace_segment(alloc: Global, segment: &[u8]) -> Result<Namespace, Rou
     ensures { Gives (spec.namespace_segment segment.now) result }
 {
     let text = segment_text(alloc, segment)?;
-    namespace_of(alloc, text.as_str())
+    namespace_of(alloc, text.as_str(), PATH_FIELD)
 }
 
 /// A refusal that names a field, or want of memory for its name.
@@ -113,15 +113,15 @@ fn decoded_text(alloc: Global, written: &[u8]) -> Result<Option<Text>, OutOfMemo
     Ok(text_of(bytes))
 }
 
-/// The plain name that a text is.
+/// The plain name that the text of a field is.
 #[tactic(auto, unfolding(crate::specs::Segment::plain_of))]
-fn plain_of(alloc: Global, text: &str) -> Result<Plain, RouteRefused>
-    ensures { Gives (spec.plain_of text.now) result }
+pub(crate) fn plain_of(alloc: Global, text: &str, field: &str) -> Result<Plain, RouteRefused>
+    ensures { Gives (spec.plain_of field.now text.now) result }
 {
     match Plain::new(alloc, text) {
         Ok(name) => Ok(name),
         Err(NameRefused::OutOfMemory) => Err(RouteRefused::OutOfMemory),
-        Err(_) => Err(unreadable(alloc, PATH_FIELD)),
+        Err(_) => Err(unreadable(alloc, field)),
     }
 }
 
@@ -137,14 +137,18 @@ fn name_of(alloc: Global, text: &str) -> Result<Name, RouteRefused>
     }
 }
 
-/// The namespace whose levels a text has.
+/// The namespace whose levels the text of a field has.
 #[tactic(auto, unfolding(crate::specs::Segment::namespace_of))]
-fn namespace_of(alloc: Global, text: &str) -> Result<Namespace, RouteRefused>
-    ensures { Gives (spec.namespace_of text.now) result }
+pub(crate) fn namespace_of(
+    alloc: Global,
+    text: &str,
+    field: &str,
+) -> Result<Namespace, RouteRefused>
+    ensures { Gives (spec.namespace_of field.now text.now) result }
 {
     match Namespace::from_segment(alloc, text) {
         Ok(namespace) => Ok(namespace),
         Err(NamespaceRefused::OutOfMemory) => Err(RouteRefused::OutOfMemory),
-        Err(_) => Err(unreadable(alloc, PATH_FIELD)),
+        Err(_) => Err(unreadable(alloc, field)),
     }
 }

@@ -1,11 +1,13 @@
 ghost use Rattle.std.specs.Prelude.{◌≤◌, length, vec_len, IfOk};
 
+mod answers;
+mod planned;
 mod readers;
 mod routing;
 
 use super::*;
 use pol_http::{Answer, HeadRefused, Next, next_message, write_answer};
-use pol_machine::{Action, Caller, Quantity, Refusal, Reply, Words4};
+use pol_machine::{Action, Caller, Command, Reply, Words4};
 use pol_types::Text;
 use std::alloc::{AllocError, Global};
 use std::test::Fail;
@@ -44,10 +46,15 @@ fn plan_of_request(
 fn told(alloc: Global, routes: &Routes, line: &str, body: &[u8]) -> Result<String, Fail> {
     let bytes = request(alloc, line, body)?;
     match plan_of_request(alloc, routes, bytes.as_slice()) {
-        Some(Ok(planned)) => Ok(shown(alloc, &planned.action)?),
+        Some(Ok(planned)) => Ok(planned_text(alloc, planned)?),
         Some(Err(why)) => Ok(format!(in alloc; "{why:?}")?),
         None => Ok(String::from_str(alloc, "no request")?),
     }
+}
+
+/// What a plan does.
+fn planned_text(alloc: Global, planned: Planned) -> Result<String, AllocError> {
+    shown(alloc, &planned.action)
 }
 
 fn shown(alloc: Global, action: &Action) -> Result<String, AllocError> {
@@ -64,6 +71,7 @@ fn shown(alloc: Global, action: &Action) -> Result<String, AllocError> {
             }
             Ok(text)
         }
+        action => format!(in alloc; "{action:?}"),
     }
 }
 
@@ -198,18 +206,21 @@ fn token_requests_are_known_by_their_path_alone(rt: HostRuntime) -> Result<(), F
     Ok(())
 }
 
-#[test]
-fn a_plan_becomes_a_command(rt: HostRuntime) -> Result<(), Fail> {
-    let bytes = request(rt.alloc(), TOKEN_LINE, PLAIN.as_bytes())?;
-    let routes = Routes::new(rt.alloc())?;
-    let Some(Ok(planned)) = plan_of_request(rt.alloc(), &routes, bytes.as_slice()) else {
-        assert!(rt; false, "no plan");
-        return Ok(());
+/// The parts of a command but its action.
+fn command_text(alloc: Global, command: &Command) -> Result<String, AllocError> {
+    let caller = match &command.caller {
+        Caller::Nobody => "nobody",
+        Caller::Bearer(_) => "bearer",
+        Caller::Setup => "setup",
     };
-    assert_eq!(rt;
-        (planned.words, planned.charge),
-        (2, bytes.len() as u64 + 512)
-    );
+    let Words4 { a, b, c, d } = command.words;
+    let (moment, charge) = (command.moment, command.charge);
+    format!(in alloc; "{caller} {moment} {a} {b} {c} {d} {charge}")
+}
+
+/// How many words a plan needs, and the parts of its command at a moment.
+fn commanded(alloc: Global, planned: Planned) -> Result<String, AllocError> {
+    let count = planned.words;
     let words = Words4 {
         a: 1,
         b: 2,
@@ -217,10 +228,27 @@ fn a_plan_becomes_a_command(rt: HostRuntime) -> Result<(), Fail> {
         d: 4,
     };
     let command = command_of(planned, 1_700_000_000_000, words);
-    assert!(rt; matches!(command.caller, Caller::Nobody));
-    assert_eq!(rt; (command.moment, command.words), (1_700_000_000_000, words));
-    assert_eq!(rt; command.charge, bytes.len() as u64 + 512);
-    assert_eq!(rt; shown(rt.alloc(), &command.action)?.as_str(), "root s3cret");
+    let text = command_text(alloc, &command)?;
+    format!(in alloc; "{count}: {text}")
+}
+
+/// The same of a request.
+fn commanded_by(alloc: Global, line: &str, body: &[u8]) -> Result<String, Fail> {
+    let routes = Routes::new(alloc)?;
+    let bytes = request(alloc, line, body)?;
+    match plan_of_request(alloc, &routes, bytes.as_slice()) {
+        Some(Ok(planned)) => Ok(commanded(alloc, planned)?),
+        Some(Err(_)) | None => Ok(String::from_str(alloc, "no plan")?),
+    }
+}
+
+#[test]
+fn a_plan_becomes_a_command(rt: HostRuntime) -> Result<(), Fail> {
+    let text = commanded_by(rt.alloc(), TOKEN_LINE, PLAIN.as_bytes())?;
+    assert_eq!(rt; text.as_str(), "2: nobody 1700000000000 1 2 3 4 652");
+    let line = "GET /api/management/v1/catalogs HTTP/1.1\r\nauthorization: Bearer t";
+    let text = commanded_by(rt.alloc(), line, b"")?;
+    assert_eq!(rt; text.as_str(), "0: bearer 1700000000000 1 2 3 4 609");
     Ok(())
 }
 
@@ -251,43 +279,6 @@ fn expected(alloc: Global, status: &str, json: &str) -> Result<String, AllocErro
     format!(in alloc;
         "HTTP/1.1 {status}\r\ncontent-type: application/json\r\ncontent-length: {length}\r\n\r\n{json}"
     )
-}
-
-#[test]
-fn refused_commands_are_told(rt: HostRuntime) -> Result<(), Fail> {
-    let cases = [
-        (
-            Refusal::InvalidClient,
-            "401 Unauthorized",
-            "{\"error\":\"invalid_client\"}",
-        ),
-        (
-            Refusal::InvalidScope,
-            "400 Bad Request",
-            "{\"error\":\"invalid_scope\"}",
-        ),
-        (
-            Refusal::RunFull {
-                charged: 1_073_741_824,
-                charge: 512,
-            },
-            "503 Service Unavailable",
-            "{\"error\":{\"code\":503,\"message\":\"RunFull: 1073741824 and 512\",\"type\":\"ServiceUnavailableException\"}}",
-        ),
-        (
-            Refusal::Limit {
-                quantity: Quantity::NextSerial,
-                bound: 4_611_686_018_427_387_904,
-            },
-            "400 Bad Request",
-            "{\"error\":{\"code\":400,\"message\":\"Limit: next_serial 4611686018427387904\",\"type\":\"BadRequestException\"}}",
-        ),
-    ];
-    for (refusal, status, json) in cases {
-        let text = answered(rt.alloc(), answer_of(rt.alloc(), &Reply::Refused(refusal)))?;
-        assert_eq!(rt; text.as_str(), expected(rt.alloc(), status, json)?.as_str());
-    }
-    Ok(())
 }
 
 #[test]

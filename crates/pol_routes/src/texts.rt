@@ -4,22 +4,21 @@ ghost use Rattle.serde_json.specs.View.{view};
 ghost use Rattle.pol_tokens.specs.Text.{text_of_token};
 ghost use Rattle.pol_routes.specs.Texts as spec;
 
-use crate::error_body::{answer_with, error_answer, text_of, token_error};
+use crate::error_body::{answer_with, error_answer, json_answer, text_of, token_error};
+use crate::json::{
+    Shown, catalogs_json, config_json, namespace_json, namespaces_json, updated_json,
+};
 use crate::plans::RouteRefused;
+use crate::refusals::{
+    BAD_REQUEST, NOT_FOUND, SERVICE_UNAVAILABLE, UNSUPPORTED_OPERATION, kind_of, message_of,
+    status_of,
+};
 use pol_http::{Answer, Body, HeadRefused};
-use pol_machine::{Refusal, Reply};
+use pol_machine::{Answer as Done, Refusal, Reply};
 use pol_tokens::{SESSION_LIFE, token_text};
 use pol_types::OutOfMemory;
 use serde_json::{Value, json};
 use std::alloc::{AllocError, Global};
-
-const BAD_REQUEST: &str = "BadRequestException";
-
-const NOT_FOUND: &str = "NotFoundException";
-
-const SERVICE_UNAVAILABLE: &str = "ServiceUnavailableException";
-
-const UNSUPPORTED_OPERATION: &str = "UnsupportedOperationException";
 
 /// The answer to a reply.
 #[tactic(auto, unfolding(crate::specs::Texts::answer_of))]
@@ -27,14 +26,45 @@ pub fn answer_of(alloc: Global, reply: &Reply) -> Result<Answer, OutOfMemory>
     ensures { IfOk result (λ answer. answer ≡ spec.answer_of reply.now) }
 {
     match reply {
-        Reply::Answered(
-            pol_machine::Answer::SessionOpened {
-                serial,
-                word_a,
-                word_b,
-            },
-        ) => { session_answer(alloc, *serial, *word_a, *word_b) }
+        Reply::Answered(done) => done_answer(alloc, done),
         Reply::Refused(refusal) => refused_answer(alloc, refusal),
+    }
+}
+
+/// The answer to a command that is done.
+#[tactic(auto, using(crate::proofs::JsonLemmas::config_whole, crate::proofs::JsonLemmas::catalog_whole, crate::proofs::JsonLemmas::catalogs_whole, crate::proofs::JsonLemmas::namespace_whole, crate::proofs::JsonLemmas::namespaces_whole, crate::proofs::JsonLemmas::updated_whole))]
+fn done_answer(alloc: Global, done: &Done) -> Result<Answer, OutOfMemory>
+    ensures { IfOk result (λ answer. answer ≡ spec.done_answer done.now) }
+{
+    match done {
+        Done::SessionOpened {
+            serial,
+            word_a,
+            word_b,
+        } => session_answer(alloc, *serial, *word_a, *word_b),
+        Done::ConfigTold { catalog } => json_answer(alloc, 200, config_json(alloc, catalog)?),
+        Done::CatalogsListed(rows) => json_answer(alloc, 200, catalogs_json(alloc, rows)?),
+        Done::CatalogCreated(row) => json_answer(alloc, 201, row.shown(alloc)?),
+        Done::CatalogLoaded(row) => json_answer(alloc, 200, row.shown(alloc)?),
+        Done::NamespacesListed(namespaces) => {
+            json_answer(alloc, 200, namespaces_json(alloc, namespaces)?)
+        }
+        Done::NamespaceCreated {
+            namespace,
+            properties,
+        }
+        | Done::NamespaceLoaded {
+            namespace,
+            properties,
+        } => json_answer(alloc, 200, namespace_json(alloc, namespace, properties)?),
+        Done::PropertiesUpdated {
+            missing,
+            removed,
+            updated,
+        } => json_answer(alloc, 200, updated_json(alloc, missing, removed, updated)?),
+        Done::CatalogDropped | Done::NamespaceThere | Done::NamespaceDropped => {
+            Ok(answer_with(204, Body::Nothing))
+        }
     }
 }
 
@@ -72,21 +102,14 @@ fn token_json(alloc: Global, token: &str) -> Result<Value, AllocError>
     })
 }
 
-/// The answer to a command that is refused.
+/// The answer to a command that is refused. A refused token request has a body of its own kind.
 fn refused_answer(alloc: Global, refusal: &Refusal) -> Result<Answer, OutOfMemory>
     ensures { IfOk result (λ answer. answer ≡ spec.refused_answer refusal.now) }
 {
-    match refusal {
-        Refusal::RunFull { charged, charge } => {
-            let message = format!(in alloc; "RunFull: {charged} and {charge}")?;
-            error_answer(alloc, 503, message.as_str(), SERVICE_UNAVAILABLE)
-        }
-        Refusal::InvalidClient => token_error(alloc, 401, "invalid_client"),
-        Refusal::InvalidScope => token_error(alloc, 400, "invalid_scope"),
-        Refusal::Limit { quantity, bound } => {
-            let message = format!(in alloc; "Limit: {quantity} {bound}")?;
-            error_answer(alloc, 400, message.as_str(), BAD_REQUEST)
-        }
+    let message = message_of(alloc, refusal)?;
+    match kind_of(refusal) {
+        Some(kind) => error_answer(alloc, status_of(refusal), message.as_str(), kind),
+        None => token_error(alloc, status_of(refusal), message.as_str()),
     }
 }
 

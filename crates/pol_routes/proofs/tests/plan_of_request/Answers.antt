@@ -1,4 +1,4 @@
-use Rattle.std.proofs.Common.{ℕ, sym, subst}
+use Rattle.std.proofs.Common.{sym, subst}
 use Rattle.pol_http.specs.Next.{LiesWithin}
 use Rattle.pol_routes.proofs.tests.plan_of_request.Goals as goal
 

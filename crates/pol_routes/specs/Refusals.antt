@@ -1,0 +1,52 @@
+-- The status, the message and the type of each refusal of a command.
+use Rattle.std.specs.Prelude.{ℕ, List, ◌++◌, Option, Some, None, decimal, codes}
+use Rattle.pol_locations.specs.LocationRefused.{word_of}
+use Rattle.pol_machine.specs.declared.reply.Refusal.{Refusal}
+use Rattle.pol_machine.specs.declared.reply.Refusal.TheVariants.{RunFull, InvalidClient, InvalidScope, Unauthenticated, NoCatalogue, NoNamespace, NameTaken, NotEmpty, KeyTwice, BadLocation, Unsupported, Limit}
+use Rattle.pol_machine.specs.Reply.{option_text, quantity_text}
+use Rattle.pol_names.specs.Namespace.{dotted}
+
+-- the status of the answer to a refusal
+abbrev pub status_of : Refusal → ℕ
+status_of (RunFull charged charge) = 503
+status_of InvalidClient = 401
+status_of InvalidScope = 400
+status_of Unauthenticated = 401
+status_of (NoCatalogue name) = 404
+status_of (NoNamespace namespace) = 404
+status_of (NameTaken name) = 409
+status_of (NotEmpty name) = 409
+status_of (KeyTwice key) = 422
+status_of (BadLocation place why) = 400
+status_of (Unsupported name) = 406
+status_of (Limit quantity bound) = 400
+
+-- the type of the error (Iceberg REST OpenAPI, ErrorModel), unless a token request is refused
+abbrev pub kind_of : Refusal → Option (List ℕ)
+kind_of (RunFull charged charge) = Some (codes "ServiceUnavailableException")
+kind_of InvalidClient = None
+kind_of InvalidScope = None
+kind_of Unauthenticated = Some (codes "NotAuthorizedException")
+kind_of (NoCatalogue name) = Some (codes "NotFoundException")
+kind_of (NoNamespace namespace) = Some (codes "NoSuchNamespaceException")
+kind_of (NameTaken name) = Some (codes "AlreadyExistsException")
+kind_of (NotEmpty name) = Some (codes "NamespaceNotEmptyException")
+kind_of (KeyTwice key) = Some (codes "UnprocessableEntityException")
+kind_of (BadLocation place why) = Some (codes "BadRequestException")
+kind_of (Unsupported name) = Some (codes "UnsupportedOperationException")
+kind_of (Limit quantity bound) = Some (codes "BadRequestException")
+
+-- the message that tells a refusal
+abbrev pub message_of : Refusal → List ℕ
+message_of (RunFull charged charge) = codes "RunFull: " ++ (decimal charged ++ (codes " and " ++ decimal charge))
+message_of InvalidClient = codes "invalid_client"
+message_of InvalidScope = codes "invalid_scope"
+message_of Unauthenticated = codes "Unauthenticated"
+message_of (NoCatalogue name) = codes "NoCatalogue: " ++ name
+message_of (NoNamespace namespace) = codes "NoNamespace: " ++ dotted namespace
+message_of (NameTaken name) = codes "NameTaken: " ++ name
+message_of (NotEmpty name) = codes "NotEmpty: " ++ name
+message_of (KeyTwice key) = codes "KeyTwice: " ++ key
+message_of (BadLocation place why) = codes "BadLocation of table " ++ (decimal place ++ (codes ": " ++ word_of why))
+message_of (Unsupported name) = codes "Unsupported: " ++ option_text name
+message_of (Limit quantity bound) = codes "Limit: " ++ (quantity_text quantity ++ (codes " " ++ decimal bound))

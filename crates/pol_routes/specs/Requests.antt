@@ -1,0 +1,106 @@
+-- What requests ask for, by their paths, queries and bodies.
+use Rattle.std.specs.Prelude.{◌≡◌, ◌⊎◌, ℕ, List, if◌then◌else◌, Option, Some, None, Result, Ok, Err, codes}
+use Rattle.form_urlencoded.specs.Form.{is_nonempty}
+use Rattle.pol_machine.specs.declared.command.Action.{Action}
+use Rattle.pol_machine.specs.declared.command.Action.TheVariants as action
+use Rattle.pol_readers.specs.declared.error.ReadError.{ReadError}
+use Rattle.pol_readers.specs.declared.error.ReadError.TheVariants as read
+use Rattle.pol_readers.specs.Forms.{body}
+use Rattle.pol_readers.specs.Path.{path_text}
+use Rattle.pol_readers.specs.Reading.{Reading}
+use Rattle.pol_routes.specs.declared.bodies.NewCatalog.{NewCatalog}
+use Rattle.pol_routes.specs.declared.plans.RouteRefused.{RouteRefused}
+use Rattle.pol_routes.specs.declared.plans.RouteRefused.TheVariants.{NotBuilt, Unreadable, OutOfMemory}
+use Rattle.pol_routes.specs.declared.table.Endpoint.{Endpoint}
+use Rattle.pol_routes.specs.declared.table.Endpoint.TheVariants.{GetConfig, ListNamespaces, CreateNamespace, LoadNamespace, HeadNamespace, DropNamespace, UpdateProperties, ListCatalogs, CreateCatalog, GetCatalog, DropCatalog}
+use Rattle.pol_routes.specs.Bodies.{catalog_body, new_namespace, property_updates}
+use Rattle.pol_routes.specs.Query.{query_value}
+use Rattle.pol_routes.specs.Refused.{read_on}
+use Rattle.pol_routes.specs.Segment.{segment_at, plain_of, namespace_of, plain_segment, namespace_segment}
+use Rattle.pol_routes.specs.Target.{path_of, query_of}
+
+-- what a body is read as; its first bad field is told by the text of its path
+unfoldable pub body_of : {A : Type 0} → Reading A → Result A RouteRefused
+body_of (Ok read) = Ok read
+body_of (Err path) = Err (Unreadable (path_text path))
+
+-- why a body isn't read, or memory was wanting
+abbrev pub IsUnread : ReadError → RouteRefused → Type 0
+IsUnread (read.Field path) why = (why ≡ Unreadable (path_text path)) ⊎ (why ≡ OutOfMemory)
+IsUnread read.OutOfMemory why = why ≡ OutOfMemory
+
+-- the catalogue and the namespace that a path of the catalogue API names, each behind so many slashes, and the
+-- catalogue of a path of the management API
+abbrev pub prefix_of : List ℕ → Result (List ℕ) RouteRefused
+prefix_of path = plain_segment (segment_at path 4)
+
+unfoldable pub namespace_path : List ℕ → Result (List ℕ × List (List ℕ)) RouteRefused
+namespace_path path =
+    read_on (λ catalog. read_on (λ namespace. Ok (catalog, namespace)) (namespace_segment (segment_at path 6))) (prefix_of path)
+
+abbrev pub catalog_path : List ℕ → Result (List ℕ) RouteRefused
+catalog_path path = plain_segment (segment_at path 5)
+
+-- the catalogue of a warehouse, which must be there
+unfoldable pub warehouse_of : Option (List ℕ) → Result (List ℕ) RouteRefused
+warehouse_of None = Err (Unreadable (codes "warehouse"))
+warehouse_of (Some name) = plain_of (codes "warehouse") name
+
+-- the parent, where one is named; an empty one is an absent one
+unfoldable pub parent_of : Option (List ℕ) → Result (Option (List (List ℕ))) RouteRefused
+parent_of None = Ok None
+parent_of (Some levels) =
+    if is_nonempty levels then read_on (λ parent. Ok (Some parent)) (namespace_of (codes "parent") levels) else Ok None
+
+-- what each request asks for: its path is read first, then its query, then its body
+unfoldable pub get_config : List ℕ → Result Action RouteRefused
+get_config query =
+    read_on (λ value. read_on (λ catalog. Ok (action.GetConfig catalog)) (warehouse_of value)) (query_value (codes "warehouse") query)
+
+unfoldable pub list_namespaces : List ℕ → List ℕ → Result Action RouteRefused
+list_namespaces path query =
+    read_on (λ catalog. read_on (λ value. read_on (λ parent. Ok (action.ListNamespaces catalog parent)) (parent_of value)) (query_value (codes "parent") query)) (prefix_of path)
+
+unfoldable pub create_namespace : List ℕ → List ℕ → Result Action RouteRefused
+create_namespace path bytes =
+    read_on (λ catalog. read_on (λ new. Ok (action.CreateNamespace catalog new.namespace new.properties)) (body_of (body new_namespace bytes))) (prefix_of path)
+
+unfoldable pub load_namespace : List ℕ → Result Action RouteRefused
+load_namespace path = read_on (λ named. Ok (action.LoadNamespace named.0 named.1)) (namespace_path path)
+
+unfoldable pub head_namespace : List ℕ → Result Action RouteRefused
+head_namespace path = read_on (λ named. Ok (action.HeadNamespace named.0 named.1)) (namespace_path path)
+
+unfoldable pub drop_namespace : List ℕ → Result Action RouteRefused
+drop_namespace path = read_on (λ named. Ok (action.DropNamespace named.0 named.1)) (namespace_path path)
+
+unfoldable pub update_properties : List ℕ → List ℕ → Result Action RouteRefused
+update_properties path bytes =
+    read_on (λ named. read_on (λ new. Ok (action.UpdateProperties named.0 named.1 new.removals new.updates)) (body_of (body property_updates bytes))) (namespace_path path)
+
+abbrev pub creation_of : NewCatalog → Action
+creation_of new = action.CreateCatalog new.name new.base new.allowed new.properties new.external
+
+unfoldable pub create_catalog : List ℕ → Result Action RouteRefused
+create_catalog bytes = read_on (λ read. Ok (creation_of read.catalog)) (body_of (body catalog_body bytes))
+
+unfoldable pub get_catalog : List ℕ → Result Action RouteRefused
+get_catalog path = read_on (λ catalog. Ok (action.GetCatalog catalog)) (catalog_path path)
+
+unfoldable pub drop_catalog : List ℕ → Result Action RouteRefused
+drop_catalog path = read_on (λ catalog. Ok (action.DropCatalog catalog)) (catalog_path path)
+
+-- the action that a request with that target and body asks for; what has no line of its own isn't built yet
+abbrev pub action_of : List ℕ → List ℕ → Endpoint → Result Action RouteRefused
+action_of target bytes GetConfig = get_config (query_of target)
+action_of target bytes ListNamespaces = list_namespaces (path_of target) (query_of target)
+action_of target bytes CreateNamespace = create_namespace (path_of target) bytes
+action_of target bytes LoadNamespace = load_namespace (path_of target)
+action_of target bytes HeadNamespace = head_namespace (path_of target)
+action_of target bytes DropNamespace = drop_namespace (path_of target)
+action_of target bytes UpdateProperties = update_properties (path_of target) bytes
+action_of target bytes ListCatalogs = Ok action.ListCatalogs
+action_of target bytes CreateCatalog = create_catalog bytes
+action_of target bytes GetCatalog = get_catalog (path_of target)
+action_of target bytes DropCatalog = drop_catalog (path_of target)
+action_of target bytes _ = Err NotBuilt
