@@ -24,7 +24,10 @@ pub(crate) fn answer<R: Render>(
     ensures rendered { IfOk result (λ answer. R.renders render.now (reply_of state.now.rows command.now) answer.1) }
 {
     let decision = decide(alloc, state, command)?;
-    let out = render.render(alloc, &decision.reply)?;
+    let Ok(out) = render.render(alloc, &decision.reply) else {
+        drop(decision);
+        return Err(OutOfMemory);
+    };
     Ok((decision, out))
 }
 

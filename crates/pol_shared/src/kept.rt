@@ -6,7 +6,7 @@ ghost use Rattle.pol_shared.specs.Stepped.{Steps};
 
 use crate::doing::{answer, enter, full_run, reserve};
 use crate::{Closed, Entry, Render, Stepped};
-use pol_machine::{Command, State};
+use pol_machine::{Command, Decision, State};
 use pol_types::OutOfMemory;
 use std::alloc::Global;
 use std::marker::Model;
@@ -37,9 +37,13 @@ impl Kept {
     pub fn fresh(alloc: Global, root_secret: &str) -> Result<Kept, OutOfMemory>
         ensures { IfOk result (λ kept. kept ≡ record { base = fresh_state root_secret.now; history = [] }) }
     {
-        let state = State::fresh(alloc, root_secret)?;
+        let base = State::fresh(alloc, root_secret)?;
+        let Ok(state) = base.clone() else {
+            drop(base);
+            return Err(OutOfMemory);
+        };
         Ok(Kept {
-            base: state.clone()?,
+            base,
             history: Vec::new(alloc),
             state,
         })
@@ -58,17 +62,25 @@ impl Kept {
         ensures { Steps (R.renders render.now) self.old self.new number command result }
     {
         let Ok((decision, out)) = answer(alloc, &self.state, &command, render) else {
+            drop(command);
             return Stepped::OutOfMemory;
         };
-        if let Some((charged, charge)) = full_run(&decision.reply) {
+        let Decision { reply, changes } = decision;
+        let full = full_run(&reply);
+        drop(reply);
+        if let Some((charged, charge)) = full {
+            drop(changes);
+            drop(command);
             return Stepped::RunFull {
                 charged,
                 charge,
                 out,
             };
         }
-        let changes = Vec::from(decision.changes);
+        let changes = Vec::from(changes);
         if reserve(&mut self.state, &mut self.history, changes.as_slice()).is_err() {
+            drop(changes);
+            drop(command);
             return Stepped::OutOfMemory;
         }
         let entry = Entry { number, command };

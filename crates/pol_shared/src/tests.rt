@@ -17,7 +17,7 @@ impl Render for Serial {
     fn render(&self, _alloc: Global, reply: &Reply) -> Result<Option<u64>, OutOfMemory> {
         Ok(match reply {
             Reply::Answered(Answer::SessionOpened { serial, .. }) => Some(*serial),
-            Reply::Refused(_) => None,
+            _ => None,
         })
     }
 }
@@ -94,7 +94,9 @@ fn left_by(alloc: Global, closed: &Closed) -> Result<Left, AllocError> {
 
 fn close(alloc: Global, kept: Kept) -> Result<Left, AllocError> {
     let closed = kept.close();
-    left_by(alloc, &closed)
+    let left = left_by(alloc, &closed);
+    drop(closed);
+    left
 }
 
 #[test]

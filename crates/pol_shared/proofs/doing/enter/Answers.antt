@@ -1,5 +1,5 @@
 use Rattle.std.proofs.Common.{◌≡◌, arith, subst, sym, ◌∙◌}
-use Rattle.pol_machine.specs.Sessions.{time_of}
+use Rattle.pol_machine.specs.Rules.{time_of}
 use Rattle.pol_machine.specs.Sound.{IsSound}
 use Rattle.pol_machine.proofs.DecisionLemmas.{next-sound}
 use Rattle.pol_shared.proofs.EntryLemmas.{changes-enter}

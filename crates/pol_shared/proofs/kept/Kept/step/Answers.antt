@@ -15,7 +15,7 @@ returns-in-Some g c =
 pub enter-place-requires-clause-open : goal.enter-place-requires-clause-open
 enter-place-requires-clause-open g c =
     subst (λ (rows : Rows). rows.charged + c.args.command.charge ≤ 2 ^ 30) (sym c.reserve.ensures.rows)
-    (open-room c.self.inside.state.rows c.args.command c.in-Ok.decision.reply c.in-Ok.ensures.reply c.in_default-full_run.ensures)
+    (open-room c.self.inside.state.rows c.args.command c.in-Ok.decision.reply c.in-Ok.ensures.reply c.in_default-full.ensures)
 
 pub invariant_of-self-2 : goal.invariant_of-self-2
 invariant_of-self-2 g c =
@@ -33,6 +33,6 @@ returns g c =
     let items : c.enter-place.new.history.items ≡ c.self.inside.history.items ++ entry ∷ [] = c.enter-place.ensures.items ∙ ap (λ (items : List Entry). items ++ entry ∷ []) c.reserve.ensures.items in
     let place : c.enter-place.result ≡ length c.self.inside.history.items = c.enter-place.ensures.place ∙ ap (λ (items : List Entry). length items) c.reserve.ensures.items in
     entry-told (g.R.Render.renders c.args.render.now) c.args.self.now c.self.inside.state.rows c.args.command c.in-Ok.decision.reply c.in-Ok.out
-    (c.self.invariant.0 ∙ ap state_of c.self.view_is) c.in-Ok.ensures.reply c.in-Ok.ensures.rendered _ c.args.number c.enter-place.result c.in_default-full_run.ensures
+    (c.self.invariant.0 ∙ ap state_of c.self.view_is) c.in-Ok.ensures.reply c.in-Ok.ensures.rendered _ c.args.number c.enter-place.result c.in_default-full.ensures
     (place ∙ ap (λ (log : Log). length log.history) c.self.view_is)
     ((λ i. record { base = c.self.inside.base.rows; history = items i }) ∙ ap (λ (log : Log). entered log entry) c.self.view_is)
