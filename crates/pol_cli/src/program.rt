@@ -61,7 +61,11 @@ fn exec_fresh<S: Source, K: Sink, C: Clock, W: Draw>(
         (ends_of S.left S.faults K.given K.faults C.moments W.words W.faults link.new) result }
 {
     match Kept::fresh(alloc, root_secret) {
-        Ok(mut catalogue) => exec(alloc, &mut catalogue, link),
+        Ok(mut catalogue) => {
+            let report = exec(alloc, &mut catalogue, link);
+            drop(catalogue);
+            report
+        }
         Err(OutOfMemory) => Report::of(Reason::NoMemory, Vec::new(alloc)),
     }
 }

@@ -133,5 +133,7 @@ fn check_links(alloc: Global, catalogue: &mut Kept) -> Result<(), Fail> {
 #[test]
 fn links_share_one_history(rt: HostRuntime) -> Result<(), Fail> {
     let mut catalogue = Kept::fresh(rt.alloc(), "s3cret")?;
-    check_links(rt.alloc(), &mut catalogue)
+    let checked = check_links(rt.alloc(), &mut catalogue);
+    drop(catalogue);
+    checked
 }

@@ -6,7 +6,7 @@ use Rattle.pol_cli.proofs.RunLemmas.{runs-fresh, runs-nothing}
 use Rattle.pol_cli.proofs.program.exec_fresh.Goals as goal
 
 pub returns-in-Ok : goal.returns-in-Ok
-returns-in-Ok g c = runs-fresh c.args.root_secret.now c.in-Ok.catalogue _ _ _ c.exec.result c.in-Ok.ensures c.exec.ensures
+returns-in-Ok g c = runs-fresh c.args.root_secret.now c.in-Ok.catalogue _ _ _ c.exec-report.result c.in-Ok.ensures c.exec-report.ensures
 
 pub returns-in-Err : goal.returns-in-Err
 returns-in-Err g c = runs-nothing c.args.root_secret.now _ c.of.result (c.of.ensures ∙ ap (report_of NoMemory) c.new.ensures.items)
