@@ -1,3 +1,5 @@
+mod catalogs;
+
 use crate::program::{Devices, run};
 use crate::words::Words;
 use pol_types::{Listed, Text};
