@@ -19,9 +19,17 @@ const LAKE: Case<'static> = (
     r#"{"name":"lake","properties":{"default-base-location":"lake://b"},"storageConfigInfo":{"allowedLocations":[]},"type":"INTERNAL"}"#,
 );
 
-/// Namespaces that are created, listed, loaded and dropped, or not, and properties that are updated.
-const NAMESPACES: [Case<'static>; 20] = [
+/// A catalogue that is created and dropped, or not, namespaces that are created, listed, loaded and dropped, or not, and
+/// properties that are updated.
+const NAMESPACES: [Case<'static>; 22] = [
     LAKE,
+    (
+        "POST",
+        "/api/management/v1/catalogs",
+        r#"{"catalog":{"name":"lake","properties":{"default-base-location":"lake://b"}}}"#,
+        "409 Conflict",
+        r#"{"error":{"code":409,"message":"NameTaken: lake","type":"AlreadyExistsException"}}"#,
+    ),
     (
         "POST",
         "/api/catalog/v1/lake/namespaces",
@@ -154,6 +162,13 @@ const NAMESPACES: [Case<'static>; 20] = [
         "",
         "204 No Content",
         "",
+    ),
+    (
+        "DELETE",
+        "/api/management/v1/catalogs/lake",
+        "",
+        "404 Not Found",
+        r#"{"error":{"code":404,"message":"NoCatalogue: lake","type":"NotFoundException"}}"#,
     ),
 ];
 
