@@ -1,2 +1,2 @@
 mod SessionLemmas
-mod TextLemmas
+pub mod TextLemmas
