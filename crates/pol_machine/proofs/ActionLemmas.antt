@@ -110,7 +110,7 @@ module _ (s : Rows) (command : Command) where
     catalog-own name row found =
         found-holds (λ one. row_of catalog_id (catalog_id one) s.content.catalogs ≡ Some one) (is_catalog_named name) s.content.catalogs row (each-own catalog_id s.content.catalogs catalogs-differ) found
 
-    own-at : (levels : List (List ℕ)) (row : NamespaceRow) (found : Option CatalogRow) → in_catalog found levels s ≡ Some row → row_of namespace_id row.id s.content.namespaces ≡ Some row
+    own-at : (levels : List (List ℕ)) (row : NamespaceRow) (found : Option CatalogRow) → in_catalog s levels found ≡ Some row → row_of namespace_id row.id s.content.namespaces ≡ Some row
     own-at levels row None found = let contrary : None ≡ Some row = found in cc
     own-at levels row (Some catalog) found =
         found-holds (λ one. row_of namespace_id (namespace_id one) s.content.namespaces ≡ Some one) (is_namespace_named catalog.id levels) s.content.namespaces row (each-own namespace_id s.content.namespaces namespaces-differ) found

@@ -57,7 +57,7 @@ namespaces-kept : (s : Rows) → namespace_changes s s ≡ []
 namespaces-kept s =
     table_changes-itself namespace.the_row.coded namespace_id PutNamespace DropNamespace s.content.namespaces
 
-sessions-kept : (s : Rows) → session_changes s s ≡ []
+pub sessions-kept : (s : Rows) → session_changes s s ≡ []
 sessions-kept s = ap (map PutSession) (new_rows-itself the_row.coded s.tokens.sessions)
 
 counter-kept : (counter : ℕ) (change : Change) → cond (counter == counter) [] (change ∷ []) ≡ []

@@ -1,4 +1,5 @@
 pub mod ActionLemmas
+pub mod AgreeLemmas
 pub mod AppliedLemmas
 pub mod ChangesLemmas
 pub mod ContentLemmas
@@ -6,6 +7,7 @@ pub mod DecisionLemmas
 pub mod FreshLemmas
 pub mod JudgedLemmas
 pub mod LimitsLemmas
+pub mod LiveLemmas
 pub mod RulesLemmas
 pub mod ScopesLemmas
 pub mod SessionsLemmas

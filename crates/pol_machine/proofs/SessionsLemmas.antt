@@ -35,7 +35,7 @@ module _ (s : Rows) (command : Command) (scopes : List (List ℕ)) where
   changes-made principal serial scope time serial_is scope_is time_is =
       λ i. Time (time_is i) ∷ NextSerial (serial_is i + 1) ∷ PutSession (opened-is principal serial scope time serial_is scope_is time_is i) ∷ []
 
-  opened-below : (principal : PrincipalRow) → IsSound s → KeysBelow serial_of (opened s command scopes principal).serial s.tokens.sessions
+  pub opened-below : (principal : PrincipalRow) → IsSound s → KeysBelow serial_of (opened s command scopes principal).serial s.tokens.sessions
   opened-below principal sound =
       subst (λ serial. KeysBelow serial_of serial s.tokens.sessions) (sym (opened-serial principal)) (serials-below s sound)
 

@@ -1,5 +1,6 @@
 -- Laws of the machine.
 use Rattle.std.specs.Prelude.{◌≡◌, ◌↔◌, ◌≤◌, ◌^◌, true, None, is_some}
+use Rattle.pol_machine.specs.Agree.{live_part, Agree, DoesAlike}
 use Rattle.pol_machine.specs.Applied.{applied}
 use Rattle.pol_machine.specs.Changes.{changes_between}
 use Rattle.pol_machine.specs.Machine.{acting, next_state, reply_of, rules_of}
@@ -32,3 +33,11 @@ FullRunIsTold = (s : Rows) (command : Command) → is_run_full (reply_of s comma
 -- a command that is told so leaves the state as it is
 abbrev pub FullRunChangesNothing : Type 0
 FullRunChangesNothing = (s : Rows) (command : Command) → is_run_full (reply_of s command) ≡ true → next_state s command ≡ s
+
+-- in states that agree a command does the same
+abbrev pub AgreeingStatesDoAlike : Type 0
+AgreeingStatesDoAlike = (s t : Rows) (command : Command) → IsSound s → IsSound t → Agree s t → DoesAlike command s t
+
+-- the live part of a sound state is sound, and agrees with it
+abbrev pub LivePartAgrees : Type 0
+LivePartAgrees = (s : Rows) → IsSound s → IsSound (live_part s) × Agree (live_part s) s

@@ -1,4 +1,5 @@
 pub mod Acting
+pub mod Agree
 pub mod Applied
 pub mod Catalogs
 pub mod Changes

@@ -15,12 +15,12 @@ use Rattle.pol_machine.specs.declared.reply.Answer.TheVariants.{NamespacesListed
 use Rattle.pol_machine.specs.declared.reply.Refusal.{Refusal}
 
 -- the namespace of these levels in the catalogue of a name
-abbrev pub in_catalog : Option CatalogRow → List (List ℕ) → Rows → Option NamespaceRow
-in_catalog None levels s = None
-in_catalog (Some catalog) levels s = namespace_named catalog.id levels s.content
+abbrev pub in_catalog : Rows → List (List ℕ) → Option CatalogRow → Option NamespaceRow
+in_catalog s levels None = None
+in_catalog s levels (Some catalog) = namespace_named catalog.id levels s.content
 
 unfoldable pub namespace_at : Rows → List ℕ → List (List ℕ) → Option NamespaceRow
-namespace_at s name levels = in_catalog (catalog_named name s.content) levels s
+namespace_at s name levels = in_catalog s levels (catalog_named name s.content)
 
 -- the rules of an action on a namespace that must be there, before its own
 abbrev pub on_namespace : Rows → Command → List ℕ → List (List ℕ) → List (Option Refusal) → List (Option Refusal)

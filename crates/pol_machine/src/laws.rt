@@ -1,5 +1,5 @@
 //! Laws of the machine: each is a function without a body, whose clause is the law.
-ghost use Rattle.pol_machine.specs.Laws.{AnsweredWhereEachRulePasses, ChangesLeadToNextState, FullRunChangesNothing, FullRunIsTold, NextStateIsSound};
+ghost use Rattle.pol_machine.specs.Laws.{AgreeingStatesDoAlike, AnsweredWhereEachRulePasses, ChangesLeadToNextState, FullRunChangesNothing, FullRunIsTold, LivePartAgrees, NextStateIsSound};
 
 /// The state after a command is sound.
 pub fn next_state_is_sound()
@@ -24,4 +24,15 @@ pub fn full_run_is_told()
 /// A command that is told so leaves the state as it is, its time and charges too.
 pub fn full_run_changes_nothing()
     ensures { FullRunChangesNothing }
+{}
+
+/// In sound states that agree a command is answered alike, makes the same changes, and leads to states that agree. They
+/// differ at most in sessions that have expired or whose principals are gone.
+pub fn agreeing_states_do_alike()
+    ensures { AgreeingStatesDoAlike }
+{}
+
+/// A sound state without these sessions is sound, and agrees with it: to purge a state of them is harmless.
+pub fn live_part_agrees()
+    ensures { LivePartAgrees }
 {}
