@@ -5,7 +5,6 @@ use Rattle.std.proofs.lemmas.Bool.{and_parts}
 use Rattle.std.proofs.lemmas.List.Elements.{filter-append}
 use Rattle.pol_access.specs.Access.{principal_id}
 use Rattle.pol_access.specs.declared.rows.PrincipalRow.{PrincipalRow}
-use Rattle.pol_content.specs.Content.{catalog_named}
 use Rattle.pol_names.specs.Namespace.{parent_of}
 use Rattle.pol_tables.specs.Rising.{KeysBelow}
 use Rattle.pol_tables.specs.Table.{knows}
@@ -118,6 +117,15 @@ module _ (s : Rows) (sound : IsSound s) (command : Command) where
       → IsAlike (record { rules = unauthenticated s command ∷ rules; after = s; answer = answer }) (record { rules = unauthenticated live command ∷ rules; after = live; answer = answer })
   alike-reading rules answer = alike-by rules answer s live (leaves-tokens s none-returns)
 
+  -- and one whose last rule judges the rows that it leaves, on what it found
+  alike-limited : {A : Type 0} (rules : Option Refusal → List (Option Refusal)) (answer : Answer) (found : Option A) (after other : A → Rows) → ((one : A) → over_limit (after one) ≡ over_limit (other one)) → ((one : A) → Leaves (after one) (other one))
+      → IsAlike (record { rules = unauthenticated s command ∷ rules (over_limit (done s found after)); after = done s found after; answer = answer }) (record { rules = unauthenticated live command ∷ rules (over_limit (done live found other)); after = done live found other; answer = answer })
+  alike-limited rules answer found after other limit leaves = record {
+    rules = λ i. caller-alike i ∷ rules (limit-done found after other limit i);
+    answer = refl;
+    leaves = leaves-done found after other leaves;
+  }
+
   -- a session that is opened is the same one
   opened-alike : (scopes : List (List ℕ)) (principal : PrincipalRow) → opened s command scopes principal ≡ opened live command scopes principal
   unfolding opened scope_of
@@ -162,22 +170,16 @@ module _ (s : Rows) (sound : IsSound s) (command : Command) where
       alike-by _ _ _ _ (leaves-tokens (with_catalog s (new_catalog s name base allowed properties)) none-returns)
   acts (GetCatalog name) = alike-reading _ _
   acts (DropCatalog name) =
-      alike-by _ _ _ _ (leaves-done (catalog_named name s.content) (without_catalog s) (without_catalog live) (λ row. leaves-tokens (without_catalog s row) none-returns))
+      alike-by _ _ _ _ (leaves-done _ _ _ (λ row. leaves-tokens (without_catalog s row) none-returns))
   acts (ListNamespaces name parent) = alike-reading _ _
-  acts (CreateNamespace name levels properties) = record {
-    rules = λ i. caller-alike i ∷ no_catalogue s name ∷ inside s name (λ catalog. no_parent s catalog.id (parent_of levels)) ∷ inside s name (namespace_taken s levels) ∷ limit-done (catalog_named name s.content) (with_namespace s levels properties) (with_namespace live levels properties) (λ catalog. refl) i ∷ [];
-    answer = refl;
-    leaves = leaves-done (catalog_named name s.content) (with_namespace s levels properties) (with_namespace live levels properties) (λ catalog. leaves-tokens (with_namespace s levels properties catalog) none-returns);
-  }
+  acts (CreateNamespace name levels properties) =
+      alike-limited (λ limit. no_catalogue s name ∷ inside s name (λ catalog. no_parent s catalog.id (parent_of levels)) ∷ inside s name (namespace_taken s levels) ∷ limit ∷ []) _ _ _ _ (λ catalog. refl) (λ catalog. leaves-tokens (with_namespace s levels properties catalog) none-returns)
   acts (LoadNamespace name levels) = alike-reading _ _
   acts (HeadNamespace name levels) = alike-reading _ _
   acts (DropNamespace name levels) =
-      alike-by _ _ _ _ (leaves-done (namespace_at s name levels) (without_namespace s) (without_namespace live) (λ row. leaves-tokens (without_namespace s row) none-returns))
-  acts (UpdateProperties name levels removals updates) = record {
-    rules = λ i. caller-alike i ∷ no_catalogue s name ∷ inside s name (λ catalog. no_namespace s catalog.id levels) ∷ key_twice removals updates ∷ limit-done (namespace_at s name levels) (with_properties s removals updates) (with_properties live removals updates) (λ row. refl) i ∷ [];
-    answer = refl;
-    leaves = leaves-done (namespace_at s name levels) (with_properties s removals updates) (with_properties live removals updates) (λ row. leaves-tokens (with_properties s removals updates row) none-returns);
-  }
+      alike-by _ _ _ _ (leaves-done _ _ _ (λ row. leaves-tokens (without_namespace s row) none-returns))
+  acts (UpdateProperties name levels removals updates) =
+      alike-limited (λ limit. no_catalogue s name ∷ inside s name (λ catalog. no_namespace s catalog.id levels) ∷ key_twice removals updates ∷ limit ∷ []) _ _ _ _ (λ row. refl) (λ row. leaves-tokens (with_properties s removals updates row) none-returns)
 
   -- what is left by the first rule that fails
   left-by : (full first : Option Refusal) (after other : Rows) → Leaves after other → Ends (next_by full s (stamped s command (rows_by first s after))) (next_by full live (stamped live command (rows_by first live other)))
@@ -188,10 +190,6 @@ module _ (s : Rows) (sound : IsSound s) (command : Command) where
   left-by None (Some why) after other leaves = leaves-tokens s none-returns
   left-by None None after other leaves = leaves
 
-  full-alike : run_full s command.charge ≡ run_full live command.charge
-  unfolding run_full
-  full-alike = refl
-
   abbrev action : Acting
   action = acting s command command.action
 
@@ -199,17 +197,16 @@ module _ (s : Rows) (sound : IsSound s) (command : Command) where
   other = acting live command command.action
 
   ends : Ends (next_state s command) (next_state live command)
-  unfolding next_state
+  unfolding next_state run_full
   ends =
-      subst (λ full. Ends (next_by (run_full s command.charge) s (stamped s command (rows_by (first_refusal action.rules) s action.after))) (next_by full live (stamped live command (rows_by (first_refusal other.rules) live other.after)))) full-alike
-      (subst (λ rules. Ends (next_by (run_full s command.charge) s (stamped s command (rows_by (first_refusal action.rules) s action.after))) (next_by (run_full s command.charge) live (stamped live command (rows_by (first_refusal rules) live other.after)))) (acts command.action).rules
-      (left-by (run_full s command.charge) (first_refusal action.rules) action.after other.after (acts command.action).leaves))
+      subst (λ rules. Ends (next_state s command) (next_by (run_full s command.charge) live (stamped live command (rows_by (first_refusal rules) live other.after)))) (acts command.action).rules
+      (left-by (run_full s command.charge) (first_refusal action.rules) action.after other.after (acts command.action).leaves)
 
   -- a command does the same in a state and in its live part
   live-alike : DoesAlike command s live
-  unfolding reply_of
+  unfolding reply_of run_full
   live-alike = record {
-    reply = λ i. reply_by (first_refusal (full-alike i ∷ (acts command.action).rules i)) ((acts command.action).answer i);
+    reply = λ i. reply_by (first_refusal (run_full s command.charge ∷ (acts command.action).rules i)) ((acts command.action).answer i);
     changes = ends.changes;
     next = ends.agree;
   }
