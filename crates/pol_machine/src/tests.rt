@@ -3,6 +3,8 @@ ghost use Rattle.pol_machine.specs.Sound.{IsSound};
 
 use super::*;
 use crate::scopes::are_scopes;
+use pol_names::{Namespace, Plain};
+use pol_properties::{Properties, Property};
 use pol_types::{Listed, Text};
 use std::alloc::Global;
 use std::test::Fail;
@@ -347,9 +349,178 @@ fn role_of_another_principal_is_no_scope(rt: HostRuntime) -> Result<(), Fail> {
     checked
 }
 
+/// A command of whoever sets the catalogue up, at moment 0.
+fn setting_up(action: Action) -> Command
+    ensures { result.moment ≡ 0 }
+{
+    Command {
+        caller: Caller::Setup,
+        moment: 0,
+        words: Words4 {
+            a: WORD_A,
+            b: WORD_B,
+            c: 3,
+            d: 4,
+        },
+        charge: 0,
+        action,
+    }
+}
+
+/// A command that creates catalogue `lake`, with so many allowed locations.
+fn creating_catalog(alloc: Global, count: u64) -> Result<Command, Fail>
+    ensures { IfOk result (λ command. command.moment ≡ 0) }
+{
+    let mut allowed = Vec::new(alloc);
+    for number in 0..count {
+        allowed.push(Text::from(format!(in alloc; "lake://other/{number}")?))?;
+    }
+    Ok(setting_up(Action::CreateCatalog {
+        name: Plain::new(alloc, "lake")?,
+        base: Text::from(String::from_str(alloc, "lake://base")?),
+        allowed: Listed::from(allowed),
+        properties: Properties::new(alloc),
+        external: false,
+    }))
+}
+
+/// So many properties, whose keys are the numbers from 0 on.
+fn properties(alloc: Global, count: u64) -> Result<Properties, Fail> {
+    let mut properties = Properties::new(alloc);
+    for number in 0..count {
+        set(alloc, &mut properties, number)?;
+    }
+    Ok(properties)
+}
+
+/// Sets the property whose key is the number.
+fn set(alloc: Global, properties: &mut Properties, number: u64) -> Result<(), Fail> {
+    let key = Text::from(format!(in alloc; "{number}")?);
+    let value = Text::from(String::from_str(alloc, "value")?);
+    properties.set(Property { key, value })?;
+    Ok(())
+}
+
+/// A command that creates namespace `sales` of `lake`, with so many properties.
+fn creating_namespace(alloc: Global, count: u64) -> Result<Command, Fail>
+    ensures { IfOk result (λ command. command.moment ≡ 0) }
+{
+    Ok(setting_up(Action::CreateNamespace {
+        catalog: Plain::new(alloc, "lake")?,
+        namespace: Namespace::from_segment(alloc, "sales")?,
+        properties: properties(alloc, count)?,
+    }))
+}
+
+/// A command that removes the properties of these keys from the namespace, and sets the one whose key is the number.
+fn updating(alloc: Global, removed: &[&str], number: u64) -> Result<Command, Fail>
+    ensures { IfOk result (λ command. command.moment ≡ 0) }
+{
+    let mut removals = Vec::new(alloc);
+    for key in removed {
+        removals.push(Text::from(String::from_str(alloc, key)?))?;
+    }
+    let mut updates = Properties::new(alloc);
+    set(alloc, &mut updates, number)?;
+    Ok(setting_up(Action::UpdateProperties {
+        catalog: Plain::new(alloc, "lake")?,
+        namespace: Namespace::from_segment(alloc, "sales")?,
+        removals: Listed::from(removals),
+        updates,
+    }))
+}
+
+/// Checks that the command is refused, since a quantity would pass its bound.
+fn check_limit(
+    alloc: Global,
+    state: &State,
+    command: Command,
+    quantity: Quantity,
+    bound: u64,
+) -> Result<(), Fail>
+    requires sound { IsSound state.now.rows }
+    requires moment { command.moment ≤ 2 ^ 62 }
+{
+    let limit = Reply::Refused(Refusal::Limit { quantity, bound });
+    let none = Vec::new(alloc);
+    let checked = check(alloc, state, &command, &limit, none.as_slice());
+    drop(limit);
+    drop(command);
+    checked
+}
+
+/// Does the command, and checks that it isn't refused.
+fn check_done(alloc: Global, state: &mut State, command: Command) -> Result<(), Fail>
+    requires sound { IsSound state.old.rows }
+    requires moment { command.moment ≤ 2 ^ 62 }
+    ensures { OnOk result (IsSound state.new.rows) }
+{
+    let done = step(alloc, state, &command);
+    drop(command);
+    let reply = done?;
+    let answered = matches!(&reply, Reply::Answered(_));
+    drop(reply);
+    if !answered {
+        return Err(Fail::new("the command is refused"));
+    }
+    Ok(())
+}
+
+fn check_allowed_locations(alloc: Global, state: &mut State) -> Result<(), Fail>
+    requires { IsSound state.old.rows }
+    ensures { OnOk result (IsSound state.new.rows) }
+{
+    let many = creating_catalog(alloc, 101)?;
+    check_limit(alloc, state, many, Quantity::AllowedLocations, 100)?;
+    let most = creating_catalog(alloc, 100)?;
+    check_done(alloc, state, most)
+}
+
+fn check_properties(alloc: Global, state: &mut State) -> Result<(), Fail>
+    requires { IsSound state.old.rows }
+    ensures { OnOk result (IsSound state.new.rows) }
+{
+    let many = creating_namespace(alloc, 1_001)?;
+    check_limit(alloc, state, many, Quantity::Properties, 1_000)?;
+    let most = creating_namespace(alloc, 1_000)?;
+    check_done(alloc, state, most)
+}
+
+fn check_updates(alloc: Global, state: &mut State) -> Result<(), Fail>
+    requires { IsSound state.old.rows }
+    ensures { OnOk result (IsSound state.new.rows) }
+{
+    let more = updating(alloc, &[], 1_000)?;
+    check_limit(alloc, state, more, Quantity::Properties, 1_000)?;
+    let exchange = updating(alloc, &["0"], 1_000)?;
+    check_done(alloc, state, exchange)
+}
+
+fn check_bounds(alloc: Global, state: &mut State) -> Result<(), Fail>
+    requires { IsSound state.old.rows }
+{
+    check_allowed_locations(alloc, state)?;
+    check_properties(alloc, state)?;
+    check_updates(alloc, state)
+}
+
 #[test]
-fn quantity_prints_its_name(rt: HostRuntime) -> Result<(), Fail> {
-    let text = format!(in rt.alloc(); "{}", Quantity::NextSerial)?;
-    assert_eq!(rt; text.as_str(), "next_serial");
+fn quantities_may_reach_their_bounds_and_not_pass_them(rt: HostRuntime) -> Result<(), Fail> {
+    let mut state = fresh(rt.alloc())?;
+    let checked = check_bounds(rt.alloc(), &mut state);
+    drop(state);
+    checked
+}
+
+#[test]
+fn quantities_print_their_names(rt: HostRuntime) -> Result<(), Fail> {
+    for (quantity, name) in [
+        (Quantity::AllowedLocations, "allowed locations"),
+        (Quantity::Properties, "properties"),
+        (Quantity::NextSerial, "next_serial"),
+    ] {
+        let text = format!(in rt.alloc(); "{quantity}")?;
+        assert_eq!(rt; text.as_str(), name);
+    }
     Ok(())
 }
