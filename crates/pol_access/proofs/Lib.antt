@@ -1,4 +1,6 @@
 pub mod MayLemmas
 pub mod NamesLemmas
+pub mod OrderLemmas
 pub mod PrivilegeLemmas
+pub mod ReferentLemmas
 pub mod SecurableLemmas

@@ -1,5 +1,7 @@
 -- Principals, roles, members, joins and grants, as contracts see them, and the rows after each call.
-use Rattle.std.specs.Prelude.{◌≤◌, ℕ, Bool, false, not, ◌==◌, List, Option, None, Some, filter}
+use Rattle.std.specs.Prelude.{◌≤◌, ℕ, Bool, false, not, ◌==◌, ◌&&◌, List, Option, None, Some, filter}
+use Rattle.std.specs.List.{list_any}
+use Rattle.std.specs.Str.{bytes_eq}
 use Rattle.pol_access.specs.contracts.rows.JoinRow as join
 use Rattle.pol_access.specs.contracts.rows.MemberRow as member
 use Rattle.pol_access.specs.contracts.securable.Securable as securable
@@ -57,6 +59,9 @@ principal_role_name row = row.name
 abbrev pub catalog_role_id : CatalogRoleRow → ℕ
 catalog_role_id row = row.id
 
+abbrev pub catalog_role_name : CatalogRoleRow → List ℕ
+catalog_role_name row = row.name
+
 -- whether the principal is a member of the role
 abbrev pub is_member : ℕ → ℕ → AccessRows → Bool
 is_member principal role access = holds member.the_row.coded (record { principal = principal; role = role }) access.members
@@ -88,6 +93,10 @@ is_of_catalog catalog (Some row) = row.catalog == catalog
 
 abbrev pub is_role_of : List CatalogRoleRow → ℕ → ℕ → Bool
 is_role_of roles catalog role = is_of_catalog catalog (row_of catalog_role_id role roles)
+
+-- whether a catalogue has a role beside the one of this name
+abbrev pub has_other_role : ℕ → List ℕ → AccessRows → Bool
+has_other_role catalog name access = list_any (λ row. row.catalog == catalog && not (bytes_eq name row.name)) access.catalog_roles
 
 -- the rows once a row is dropped, and with it what names it
 abbrev pub principal_dropped : ℕ → AccessRows → AccessRows

@@ -3,6 +3,8 @@ pub mod Implication
 pub mod Laws
 pub mod May
 pub mod Names
+pub mod Order
 pub mod Privilege
+pub mod Referent
 pub mod Search
 pub mod Securable

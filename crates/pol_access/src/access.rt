@@ -2,24 +2,18 @@ ghost use Rattle.std.specs.Prelude.{◌≡◌, ◌==◌, ◌<◌, ◌≤◌, ◌
 ghost use Rattle.std.specs.List.{IsDistinct};
 ghost use Rattle.std.specs.Slice.Iter.{iter_rest};
 ghost use Rattle.std.specs.Str.{bytes_eq};
-ghost use Rattle.pol_access.specs.Access.{IsWithin, catalog_role_dropped, catalog_role_id, catalog_roles_dropped, client_id_of, grants_on_dropped, is_joined, is_member, principal_dropped, principal_id, principal_name, principal_role_dropped, principal_role_id, principal_role_name};
+ghost use Rattle.pol_access.specs.Access.{IsWithin, catalog_role_id, client_id_of, is_joined, is_member, principal_id, principal_name, principal_role_id, principal_role_name};
 ghost use Rattle.pol_access.specs.Names.{catalog_role_named, has_catalog_role_name, has_client_id, has_name, has_role_name, principal_named, principal_of_client, principal_role_named, same_role_name};
 ghost use Rattle.pol_access.specs.contracts.rows.GrantRow as grant;
 ghost use Rattle.pol_access.specs.contracts.rows.JoinRow as join;
 ghost use Rattle.pol_access.specs.contracts.rows.MemberRow as member;
 ghost use Rattle.pol_tables.specs.Facts.{facts_with, facts_without, holds};
 ghost use Rattle.pol_tables.specs.Named.{Finds};
-ghost use Rattle.pol_tables.specs.Table.{row_of, rows_with};
+ghost use Rattle.pol_tables.specs.Table.{row_of, rows_with, rows_without};
 
-use crate::dropped::{
-    drop_roles_of, keep_grants_of_others, keep_grants_on_others, keep_joins_of_others,
-    keep_joins_to_others, keep_members_of_others, keep_other_members,
-};
 use crate::names::{CatalogRoleName, PrincipalRoleName};
 use crate::principals::Principals;
-use crate::{
-    CatalogRoleRow, GrantRow, JoinRow, MemberRow, PrincipalRoleRow, PrincipalRow, Securable,
-};
+use crate::{CatalogRoleRow, GrantRow, JoinRow, MemberRow, PrincipalRoleRow, PrincipalRow};
 use pol_tables::{Facts, NamedTable};
 use pol_types::OutOfMemory;
 use std::alloc::{AllocError, Global};
@@ -39,8 +33,8 @@ pub struct AccessRoom {
 
 /// Principals, principal roles, catalogue roles, and who is a member, joined and granted what. Contracts see the
 /// rows, and the room: how many more of each can be put without taking memory. What has a name or a client id is
-/// found by it without a scan, and is the only such row where names stand once. A drop takes along what names the
-/// dropped row; it takes no memory, as a put takes none.
+/// found by it without a scan, and is the only such row where names stand once. A put and a drop change one row and
+/// take no memory: what names a dropped row stays.
 #[derive(Debug, Drop)]
 pub struct Access {
     principals: Principals,
@@ -269,54 +263,28 @@ impl Access {
         self.grants.put(row);
     }
 
-    /// Drops the principal of this id, and its memberships.
+    /// Drops the principal of this id, and nothing else.
     pub fn drop_principal(&mut self, id: u64)
-        ensures rows { self.new.rows ≡ principal_dropped id self.old.rows }
+        ensures rows { self.new.rows ≡ record self.old.rows { principals = rows_without principal_id id self.old.rows.principals } }
         ensures room { IsWithin self.old.room self.new.room }
     {
         self.principals.take(id);
-        keep_members_of_others(&mut self.members, id);
     }
 
-    /// Drops the principal role of this id, its members and its joins.
+    /// Drops the principal role of this id, and nothing else.
     pub fn drop_principal_role(&mut self, id: u64)
-        ensures rows { self.new.rows ≡ principal_role_dropped id self.old.rows }
+        ensures rows { self.new.rows ≡ record self.old.rows { principal_roles = rows_without principal_role_id id self.old.rows.principal_roles } }
         ensures room { IsWithin self.old.room self.new.room }
     {
         self.principal_roles.take(id);
-        keep_other_members(&mut self.members, id);
-        keep_joins_of_others(&mut self.joins, id);
     }
 
-    /// Drops the catalogue role of this id, its joins and its grants.
+    /// Drops the catalogue role of this id, and nothing else.
     pub fn drop_catalog_role(&mut self, id: u64)
-        ensures rows { self.new.rows ≡ catalog_role_dropped id self.old.rows }
+        ensures rows { self.new.rows ≡ record self.old.rows { catalog_roles = rows_without catalog_role_id id self.old.rows.catalog_roles } }
         ensures room { IsWithin self.old.room self.new.room }
     {
         self.catalog_roles.take(id);
-        keep_joins_to_others(&mut self.joins, id);
-        keep_grants_of_others(&mut self.grants, id);
-    }
-
-    /// Drops the roles of a catalogue, named by its id, their joins and their grants.
-    pub fn drop_catalog_roles_of(&mut self, catalog: u64)
-        ensures rows { self.new.rows ≡ catalog_roles_dropped catalog self.old.rows }
-        ensures room { IsWithin self.old.room self.new.room }
-    {
-        drop_roles_of(
-            &mut self.catalog_roles,
-            &mut self.joins,
-            &mut self.grants,
-            catalog,
-        );
-    }
-
-    /// Drops the grants on a securable.
-    pub fn drop_grants_on(&mut self, securable: Securable)
-        ensures rows { self.new.rows ≡ grants_on_dropped securable self.old.rows }
-        ensures room { IsWithin self.old.room self.new.room }
-    {
-        keep_grants_on_others(&mut self.grants, securable);
     }
 
     /// Drops a member, and answers whether it was there.

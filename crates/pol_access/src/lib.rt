@@ -2,13 +2,14 @@
 #![tactic(auto)]
 
 mod access;
-mod dropped;
 mod implication;
 pub mod laws;
 mod listing;
 mod names;
+mod order;
 mod principals;
 mod privilege;
+mod referent;
 mod rows;
 mod search;
 mod securable;
@@ -17,6 +18,7 @@ pub use access::{Access, AccessRoom};
 pub use implication::implies;
 pub use pol_names::{RoleIds, Scope};
 pub use privilege::{Privilege, grantable};
+pub use referent::Referent;
 pub use rows::{CatalogRoleRow, GrantRow, JoinRow, MemberRow, PrincipalRoleRow, PrincipalRow};
 pub use securable::{Securable, SecurableKind};
 

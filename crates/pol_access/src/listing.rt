@@ -1,41 +1,96 @@
-ghost use Rattle.std.specs.Prelude.{◌≡◌, ◌==◌, filter, map, IfOk};
+ghost use Rattle.std.specs.Prelude.{◌≡◌, ◌==◌, ◌&&◌, filter, map, IfOk};
+ghost use Rattle.pol_access.specs.Access.{catalog_role_id, catalog_role_name, has_other_role, is_joined, is_member, principal_name, principal_role_name};
+ghost use Rattle.pol_access.specs.Order.{by_name, grants_in_order, joins_in_order, members_in_order};
+ghost use Rattle.pol_access.specs.Referent.{grant_names, join_names, member_names};
 
-use crate::{Access, Privilege, Securable};
+use crate::order::sorted_by_name;
+use crate::{
+    Access, CatalogRoleRow, GrantRow, JoinRow, MemberRow, PrincipalRoleRow, PrincipalRow, Referent,
+};
+use pol_tables::sorted_facts;
 use pol_types::OutOfMemory;
-use std::alloc::Global;
+use std::alloc::{AllocError, Global};
 
 impl Access {
-    /// The ids of the roles of which a principal is a member, in the order in which it became one.
-    pub fn roles_of_principal(&self, alloc: Global, principal: u64) -> Result<Vec<u64>, OutOfMemory>
-        ensures { IfOk result (λ ids. ids.items ≡ map (λ row. row.role) (filter (λ row. row.principal == principal) self.now.rows.members)) }
+    /// The members that name it, in rising order.
+    pub fn members_of(
+        &self,
+        alloc: Global,
+        referent: Referent,
+    ) -> Result<Vec<MemberRow>, OutOfMemory>
+        ensures { IfOk result (λ rows. rows.items ≡ members_in_order (filter (member_names referent) self.now.rows.members)) }
     {
-        Ok(
-            self.members()
-                .filter(|row| row.principal == principal)
-                .map(|row| row.role)
-                .collect(alloc)?,
-        )
+        sorted_facts(self.members_that_name(alloc, referent)?)
     }
 
-    /// The ids of the catalogue roles to which a principal role is joined, in the order in which it was.
-    pub fn roles_joined_to(
+    /// The joins that name it, in rising order.
+    pub fn joins_of(&self, alloc: Global, referent: Referent) -> Result<Vec<JoinRow>, OutOfMemory>
+        ensures { IfOk result (λ rows. rows.items ≡ joins_in_order (filter (join_names self.now.rows.catalog_roles referent) self.now.rows.joins)) }
+    {
+        sorted_facts(self.joins_that_name(alloc, referent)?)
+    }
+
+    /// The grants that name it, in rising order.
+    pub fn grants_of(&self, alloc: Global, referent: Referent) -> Result<Vec<GrantRow>, OutOfMemory>
+        ensures { IfOk result (λ rows. rows.items ≡ grants_in_order (filter (grant_names self.now.rows.catalog_roles referent) self.now.rows.grants)) }
+    {
+        sorted_facts(self.grants_that_name(alloc, referent)?)
+    }
+
+    /// The principals, in byte order of their names.
+    pub fn principals_by_name(&self, alloc: Global) -> Result<Vec<&PrincipalRow>, OutOfMemory>
+        ensures { IfOk result (λ listed. map (λ row. row.now) listed.items ≡ by_name principal_name self.now.rows.principals) }
+    {
+        sorted_by_name(lent(alloc, self.principals().as_slice())?)
+    }
+
+    /// The principal roles, in byte order of their names.
+    pub fn principal_roles_by_name(
+        &self,
+        alloc: Global,
+    ) -> Result<Vec<&PrincipalRoleRow>, OutOfMemory>
+        ensures { IfOk result (λ listed. map (λ row. row.now) listed.items ≡ by_name principal_role_name self.now.rows.principal_roles) }
+    {
+        sorted_by_name(lent(alloc, self.principal_roles().as_slice())?)
+    }
+
+    /// The principal roles of which a principal is a member, in byte order of their names.
+    pub fn roles_of_principal(
+        &self,
+        alloc: Global,
+        principal: u64,
+    ) -> Result<Vec<&PrincipalRoleRow>, OutOfMemory>
+        ensures { IfOk result (λ listed. map (λ row. row.now) listed.items ≡ by_name principal_role_name (filter (λ row. is_member principal row.id self.now.rows) self.now.rows.principal_roles)) }
+    {
+        sorted_by_name(self.held_roles(alloc, principal)?)
+    }
+
+    /// The roles of a catalogue, named by its id, in byte order of their names.
+    pub fn roles_of_catalog(
+        &self,
+        alloc: Global,
+        catalog: u64,
+    ) -> Result<Vec<&CatalogRoleRow>, OutOfMemory>
+        ensures { IfOk result (λ listed. map (λ row. row.now) listed.items ≡ by_name catalog_role_name (filter (λ row. row.catalog == catalog) self.now.rows.catalog_roles)) }
+    {
+        sorted_by_name(self.own_roles(alloc, catalog)?)
+    }
+
+    /// The roles of a catalogue to which a principal role is joined, in byte order of their names.
+    pub fn joined_roles(
         &self,
         alloc: Global,
         principal_role: u64,
-    ) -> Result<Vec<u64>, OutOfMemory>
-        ensures { IfOk result (λ ids. ids.items ≡ map (λ row. row.catalog_role) (filter (λ row. row.principal_role == principal_role) self.now.rows.joins)) }
+        catalog: u64,
+    ) -> Result<Vec<&CatalogRoleRow>, OutOfMemory>
+        ensures { IfOk result (λ listed. map (λ row. row.now) listed.items ≡ by_name catalog_role_name (filter (λ row. row.catalog == catalog && is_joined principal_role row.id self.now.rows) self.now.rows.catalog_roles)) }
     {
-        Ok(
-            self.joins()
-                .filter(|row| row.principal_role == principal_role)
-                .map(|row| row.catalog_role)
-                .collect(alloc)?,
-        )
+        sorted_by_name(self.own_joined_roles(alloc, principal_role, catalog)?)
     }
 
-    /// The ids of the roles of a catalogue, in their order.
-    pub fn roles_of_catalog(&self, alloc: Global, catalog: u64) -> Result<Vec<u64>, OutOfMemory>
-        ensures { IfOk result (λ ids. ids.items ≡ map (λ row. row.id) (filter (λ row. row.catalog == catalog) self.now.rows.catalog_roles)) }
+    /// The ids of the roles of a catalogue, named by its id, in the order of the rows.
+    pub fn role_ids_of_catalog(&self, alloc: Global, catalog: u64) -> Result<Vec<u64>, OutOfMemory>
+        ensures { IfOk result (λ ids. ids.items ≡ map catalog_role_id (filter (λ row. row.catalog == catalog) self.now.rows.catalog_roles)) }
     {
         Ok(
             self.catalog_roles()
@@ -45,19 +100,86 @@ impl Access {
         )
     }
 
-    /// The privileges that a catalogue role was granted, and on what, in the order in which it was.
-    pub fn grants_of(
+    /// Whether a catalogue, named by its id, has a role beside the one of this name.
+    pub fn has_other_role(&self, catalog: u64, name: &str) -> bool
+        ensures { result ≡ has_other_role catalog name.now self.now.rows }
+    {
+        self.catalog_roles()
+            .any(|row| row.catalog == catalog && name != row.name.as_str())
+    }
+
+    fn members_that_name(
         &self,
         alloc: Global,
-        catalog_role: u64,
-    ) -> Result<Vec<(Privilege, Securable)>, OutOfMemory>
-        ensures { IfOk result (λ grants. grants.items ≡ map (λ row. (row.privilege, row.securable)) (filter (λ row. row.catalog_role == catalog_role) self.now.rows.grants)) }
+        referent: Referent,
+    ) -> Result<Vec<MemberRow>, AllocError>
+        ensures { IfOk result (λ rows. rows.items ≡ filter (member_names referent) self.now.rows.members) }
     {
-        Ok(
-            self.grants()
-                .filter(|row| row.catalog_role == catalog_role)
-                .map(|row| (row.privilege, row.securable))
-                .collect(alloc)?,
-        )
+        self.members()
+            .filter(|row| referent.is_named_by_member(row))
+            .copied()
+            .collect(alloc)
     }
+
+    fn joins_that_name(&self, alloc: Global, referent: Referent) -> Result<Vec<JoinRow>, AllocError>
+        ensures { IfOk result (λ rows. rows.items ≡ filter (join_names self.now.rows.catalog_roles referent) self.now.rows.joins) }
+    {
+        self.joins()
+            .filter(|row| referent.is_named_by_join(self, row))
+            .copied()
+            .collect(alloc)
+    }
+
+    fn grants_that_name(
+        &self,
+        alloc: Global,
+        referent: Referent,
+    ) -> Result<Vec<GrantRow>, AllocError>
+        ensures { IfOk result (λ rows. rows.items ≡ filter (grant_names self.now.rows.catalog_roles referent) self.now.rows.grants) }
+    {
+        self.grants()
+            .filter(|row| referent.is_named_by_grant(self, row))
+            .copied()
+            .collect(alloc)
+    }
+
+    fn held_roles(
+        &self,
+        alloc: Global,
+        principal: u64,
+    ) -> Result<Vec<&PrincipalRoleRow>, AllocError>
+        ensures { IfOk result (λ lent. map (λ row. row.now) lent.items ≡ filter (λ row. is_member principal row.id self.now.rows) self.now.rows.principal_roles) }
+    {
+        self.principal_roles()
+            .filter(|row| self.is_member(principal, row.id))
+            .collect(alloc)
+    }
+
+    fn own_roles(&self, alloc: Global, catalog: u64) -> Result<Vec<&CatalogRoleRow>, AllocError>
+        ensures { IfOk result (λ lent. map (λ row. row.now) lent.items ≡ filter (λ row. row.catalog == catalog) self.now.rows.catalog_roles) }
+    {
+        self.catalog_roles()
+            .filter(|row| row.catalog == catalog)
+            .collect(alloc)
+    }
+
+    fn own_joined_roles(
+        &self,
+        alloc: Global,
+        principal_role: u64,
+        catalog: u64,
+    ) -> Result<Vec<&CatalogRoleRow>, AllocError>
+        ensures { IfOk result (λ lent. map (λ row. row.now) lent.items ≡ filter (λ row. row.catalog == catalog && is_joined principal_role row.id self.now.rows) self.now.rows.catalog_roles) }
+    {
+        self.catalog_roles()
+            .filter(|row| row.catalog == catalog && self.is_joined(principal_role, row.id))
+            .collect(alloc)
+    }
+}
+
+/// The rows, in their order.
+fn lent<R>(alloc: Global, rows: &[R]) -> Result<Vec<&R>, AllocError>
+    ensures { IfOk result (λ lent. map (λ row. row.now) lent.items ≡ rows.now) }
+{
+    rows.iter().collect(alloc)
 }

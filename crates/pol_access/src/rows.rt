@@ -78,7 +78,7 @@ impl Keyed for CatalogRoleRow {
 }
 
 /// That a principal is a member of a principal role, each named by its id.
-#[derive(Clone, Debug, Drop, PartialEq, Eq, PartialOrd, Ord, Hash)]
+#[derive(Clone, Copy, Debug, PartialEq, Eq, PartialOrd, Ord, Hash)]
 pub struct MemberRow {
     pub principal: u64,
     pub role: u64,
@@ -98,7 +98,7 @@ impl Fact for MemberRow {
 
 /// That a principal role is joined to a catalogue role, each named by its id: its members have the catalogue role's
 /// grants.
-#[derive(Clone, Debug, Drop, PartialEq, Eq, PartialOrd, Ord, Hash)]
+#[derive(Clone, Copy, Debug, PartialEq, Eq, PartialOrd, Ord, Hash)]
 pub struct JoinRow {
     pub principal_role: u64,
     pub catalog_role: u64,
@@ -117,7 +117,7 @@ impl Fact for JoinRow {
 }
 
 /// That a catalogue role, named by its id, has a privilege on a securable and on all that it contains.
-#[derive(Clone, Debug, Drop, PartialEq, Eq, PartialOrd, Ord, Hash)]
+#[derive(Clone, Copy, Debug, PartialEq, Eq, PartialOrd, Ord, Hash)]
 pub struct GrantRow {
     pub catalog_role: u64,
     pub privilege: Privilege,

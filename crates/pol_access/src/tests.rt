@@ -187,60 +187,88 @@ fn add_catalog_role(
     Ok(())
 }
 
-/// The principal becomes a member of the principal role, which is joined to the catalogue role, which is granted the
-/// privilege.
-fn add_chain(
+/// A member, a join and a grant, which are put.
+fn add_facts(
     access: &mut Access,
-    principal: u64,
-    role: u64,
-    catalog_role: u64,
-    privilege: Privilege,
-    securable: Securable,
+    member: MemberRow,
+    join: JoinRow,
+    grant: GrantRow,
 ) -> Result<(), Fail>
     ensures { access.new.rows.principals ≡ access.old.rows.principals }
 {
     access.reserve(&ONE)?;
-    access.put_member(MemberRow { principal, role });
-    access.put_join(JoinRow {
-        principal_role: role,
-        catalog_role,
-    });
-    access.put_grant(GrantRow {
-        catalog_role,
-        privilege,
-        securable,
-    });
+    access.put_member(member);
+    access.put_join(join);
+    access.put_grant(grant);
     Ok(())
 }
 
-/// Principal `ann` (1), who is a member of `audit` (2) and `load` (3). `audit` is joined to `reader` (20) of
-/// catalogue 10, which may write the properties of namespace 30; `load` to `writer` (21) of catalogue 10, which may
-/// write the data of all its tables. `service_admin` is 4; `reader` of catalogue 11 is 22.
+/// The members, the joins and the grants, in rising order.
+const MEMBERS: [MemberRow; 3] = [
+    MemberRow {
+        principal: 1,
+        role: 2,
+    },
+    MemberRow {
+        principal: 1,
+        role: 3,
+    },
+    MemberRow {
+        principal: 5,
+        role: 2,
+    },
+];
+
+const JOINS: [JoinRow; 3] = [
+    JoinRow {
+        principal_role: 2,
+        catalog_role: 20,
+    },
+    JoinRow {
+        principal_role: 3,
+        catalog_role: 21,
+    },
+    JoinRow {
+        principal_role: 3,
+        catalog_role: 22,
+    },
+];
+
+const GRANTS: [GrantRow; 3] = [
+    GrantRow {
+        catalog_role: 20,
+        privilege: Privilege::NamespaceWriteProperties,
+        securable: Securable::Namespace(30),
+    },
+    GrantRow {
+        catalog_role: 21,
+        privilege: Privilege::NamespaceDrop,
+        securable: Securable::Namespace(30),
+    },
+    GrantRow {
+        catalog_role: 21,
+        privilege: Privilege::TableWriteData,
+        securable: Securable::Catalog(10),
+    },
+];
+
+/// Principals `ann` (1) and `Zoe` (5), who are members of `audit` (2); `ann` also of `load` (3). `audit` is joined to
+/// `reader` (20) of catalogue 10, which may write the properties of namespace 30; `load` to `writer` (21) of catalogue
+/// 10, which may drop namespace 30 and write the data of all tables, and to `reader` (22) of catalogue 11.
+/// `service_admin` is 4. Rows are put out of order.
 fn fill(alloc: Global, access: &mut Access) -> Result<(), Fail> {
-    add_principal(alloc, access, 1, "ann")?;
-    for (id, name) in [(2, "audit"), (3, "load"), (4, "service_admin")] {
+    for (id, name) in [(1, "ann"), (5, "Zoe")] {
+        add_principal(alloc, access, id, name)?;
+    }
+    for (id, name) in [(4, "service_admin"), (3, "load"), (2, "audit")] {
         add_principal_role(alloc, access, id, name)?;
     }
-    for (id, catalog, name) in [(20, 10, "reader"), (21, 10, "writer"), (22, 11, "reader")] {
+    for (id, catalog, name) in [(22, 11, "reader"), (21, 10, "writer"), (20, 10, "reader")] {
         add_catalog_role(alloc, access, id, catalog, name)?;
     }
-    let namespace = Securable::Namespace(30);
-    add_chain(
-        access,
-        1,
-        2,
-        20,
-        Privilege::NamespaceWriteProperties,
-        namespace,
-    )?;
-    add_chain(
-        access,
-        1,
-        3,
-        21,
-        Privilege::TableWriteData,
-        Securable::Catalog(10),
-    )
+    add_facts(access, MEMBERS[2], JOINS[1], GRANTS[2])?;
+    add_facts(access, MEMBERS[0], JOINS[2], GRANTS[0])?;
+    add_facts(access, MEMBERS[1], JOINS[0], GRANTS[1])
 }
 
 /// A table in namespace 31, which stands in namespace 30; and namespace 32 beside that.
@@ -253,76 +281,65 @@ const TABLE: [Securable; 4] = [
 
 const SIBLING: [Securable; 2] = [Securable::Namespace(32), Securable::Catalog(10)];
 
-/// Whether `ann` may, with all roles, with `audit` alone and with `load` alone.
-fn marks(
+/// Whether `ann` may so, with all roles, with `audit` alone and with `load` alone.
+fn is_marked(
     alloc: Global,
     access: &Access,
     wanted: Privilege,
     chain: &[Securable],
-) -> Result<[bool; 3], Fail> {
+    marks: &str,
+) -> Result<bool, Fail> {
     let audit = Scope::Roles(RoleIds::from(vec![in alloc; 2u64]?));
     let load = Scope::Roles(RoleIds::from(vec![in alloc; 3u64]?));
-    Ok([
+    let found = [
         access.may(1, &Scope::All, wanted, chain),
         access.may(1, &audit, wanted, chain),
         access.may(1, &load, wanted, chain),
-    ])
+    ];
+    Ok(marks.bytes().map(|mark| mark == b'x').eq(found.into_iter()))
 }
 
-fn check_what_it_may(alloc: Global, access: &mut Access) -> Result<(), Fail> {
-    fill(alloc, access)?;
+fn check_on_tables(alloc: Global, access: &Access) -> Result<(), Fail> {
     let table: &[Securable] = &TABLE;
-    let cases = [
-        (Privilege::TableWriteData, table, [true, false, true]),
-        (Privilege::TableReadProperties, table, [true, false, true]),
-        (Privilege::TableDrop, table, [false, false, false]),
-        (
-            Privilege::NamespaceWriteProperties,
-            &table[2..],
-            [true, true, false],
-        ),
-        (Privilege::NamespaceList, &table[1..], [true, true, false]),
-        (
-            Privilege::NamespaceCreate,
-            &table[1..],
-            [false, false, false],
-        ),
-        (Privilege::NamespaceList, &table[3..], [false, false, false]),
-        (Privilege::NamespaceList, &SIBLING, [false, false, false]),
-        (Privilege::TableReadData, &SIBLING, [true, false, true]),
-        (
-            Privilege::TableReadData,
-            &[Securable::Catalog(11)],
-            [false, false, false],
-        ),
-        (
-            Privilege::ServiceManageAccess,
-            &[Securable::Realm],
-            [false, false, false],
-        ),
-    ];
-    for (wanted, chain, expected) in cases {
-        let found = marks(alloc, access, wanted, chain)?;
-        check(found == expected, "a privilege is told otherwise")?;
+    for (wanted, chain, marks) in [
+        (Privilege::TableWriteData, table, "x.x"),
+        (Privilege::TableReadProperties, table, "x.x"),
+        (Privilege::TableDrop, table, "..."),
+        (Privilege::NamespaceWriteProperties, &table[2..], "xx."),
+        (Privilege::NamespaceList, &table[1..], "xx."),
+        (Privilege::NamespaceCreate, &table[1..], "..."),
+        (Privilege::NamespaceList, &table[3..], "..."),
+        (Privilege::NamespaceList, &SIBLING, "..."),
+        (Privilege::TableReadData, &SIBLING, "x.x"),
+        (Privilege::TableReadData, &[Securable::Catalog(11)], "..."),
+        (Privilege::ServiceManageAccess, &[Securable::Realm], "..."),
+    ] {
+        let holds = is_marked(alloc, access, wanted, chain, marks)?;
+        check(holds, "a privilege is told otherwise")?;
     }
+    Ok(())
+}
+
+fn check_on_the_realm(alloc: Global, access: &mut Access) -> Result<(), Fail> {
     access.reserve(&ONE)?;
     access.put_member(MemberRow {
         principal: 1,
         role: 4,
     });
-    let realm = [Securable::Realm];
-    let cases = [
-        (Privilege::ServiceManageAccess, [true, false, false]),
-        (Privilege::CatalogReadProperties, [false, false, false]),
-    ];
-    for (wanted, expected) in cases {
-        let found = marks(alloc, access, wanted, &realm)?;
-        check(
-            found == expected,
-            "a privilege on the realm is told otherwise",
-        )?;
+    for (wanted, marks) in [
+        (Privilege::ServiceManageAccess, "x.."),
+        (Privilege::CatalogReadProperties, "..."),
+    ] {
+        let holds = is_marked(alloc, access, wanted, &[Securable::Realm], marks)?;
+        check(holds, "a privilege on the realm is told otherwise")?;
     }
     Ok(())
+}
+
+fn check_what_it_may(alloc: Global, access: &mut Access) -> Result<(), Fail> {
+    fill(alloc, access)?;
+    check_on_tables(alloc, access)?;
+    check_on_the_realm(alloc, access)
 }
 
 #[test]
@@ -331,6 +348,38 @@ fn a_caller_may_what_its_active_roles_are_granted(rt: HostRuntime) -> Result<(),
     let checked = check_what_it_may(rt.alloc(), &mut access);
     drop(access);
     checked
+}
+
+/// How many rows of each kind there are.
+fn counts(access: &Access) -> [usize; 6] {
+    [
+        access.principals().len(),
+        access.principal_roles().len(),
+        access.catalog_roles().len(),
+        access.members().len(),
+        access.joins().len(),
+        access.grants().len(),
+    ]
+}
+
+/// Drops one row of the kind that is numbered.
+fn drop_one(access: &mut Access, kind: usize)
+    ensures { IsWithin access.old.room access.new.room }
+{
+    match kind {
+        0 => access.drop_principal(5),
+        1 => access.drop_principal_role(2),
+        2 => access.drop_catalog_role(21),
+        3 => {
+            access.drop_member(&MEMBERS[1]);
+        }
+        4 => {
+            access.drop_join(&JOINS[0]);
+        }
+        _ => {
+            access.drop_grant(&GRANTS[2]);
+        }
+    }
 }
 
 /// Whether `ann` may read the data of the table, and list namespace 30.
@@ -342,47 +391,11 @@ fn reads_and_lists(access: &Access) -> (bool, bool) {
     )
 }
 
-/// Takes the numbered step away.
-fn end(access: &mut Access, step: usize)
-    ensures { IsWithin access.old.room access.new.room }
-{
-    let member = MemberRow {
-        principal: 1,
-        role: 3,
-    };
-    let join = JoinRow {
-        principal_role: 2,
-        catalog_role: 20,
-    };
-    let grant = GrantRow {
-        catalog_role: 21,
-        privilege: Privilege::TableWriteData,
-        securable: Securable::Catalog(10),
-    };
-    match step {
-        0 => access.drop_principal(1),
-        1 => access.drop_principal_role(2),
-        2 => access.drop_catalog_role(21),
-        3 => access.drop_catalog_roles_of(10),
-        4 => access.drop_catalog_roles_of(11),
-        5 => access.drop_grants_on(Securable::Namespace(30)),
-        6 => {
-            access.drop_member(&member);
-        }
-        7 => {
-            access.drop_join(&join);
-        }
-        _ => {
-            access.drop_grant(&grant);
-        }
-    }
-}
-
-/// What is left of that once the numbered step is taken away from a copy.
-fn left_after(access: &Access, step: usize) -> Result<(bool, bool), Fail> {
+/// What is left once one row is dropped from a copy.
+fn left_after(access: &Access, kind: usize) -> Result<([usize; 6], (bool, bool)), Fail> {
     let mut copy = access.clone()?;
-    end(&mut copy, step);
-    let left = reads_and_lists(&copy);
+    drop_one(&mut copy, kind);
+    let left = (counts(&copy), reads_and_lists(&copy));
     drop(copy);
     Ok(left)
 }
@@ -390,29 +403,25 @@ fn left_after(access: &Access, step: usize) -> Result<(bool, bool), Fail> {
 fn check_what_is_left(alloc: Global, access: &mut Access) -> Result<(), Fail> {
     fill(alloc, access)?;
     let left = [
-        (false, false),
-        (true, false),
-        (false, true),
-        (false, false),
-        (true, true),
-        (true, false),
-        (false, true),
-        (true, false),
-        (false, true),
+        ([1, 3, 3, 3, 3, 3], (true, true)),
+        ([2, 2, 3, 3, 3, 3], (true, true)),
+        ([2, 3, 2, 3, 3, 3], (true, true)),
+        ([2, 3, 3, 2, 3, 3], (false, true)),
+        ([2, 3, 3, 3, 2, 3], (true, false)),
+        ([2, 3, 3, 3, 3, 2], (false, true)),
     ];
-    for (step, expected) in left.into_iter().enumerate() {
-        let found = left_after(access, step)?;
-        check(found == expected, "a step leaves something else")?;
+    for (kind, expected) in left.into_iter().enumerate() {
+        let found = left_after(access, kind)?;
+        check(found == expected, "a drop leaves something else")?;
     }
     check(
-        reads_and_lists(access) == (true, true),
+        counts(access) == [2, 3, 3, 3, 3, 3],
         "the copied rows changed",
-    )?;
-    Ok(())
+    )
 }
 
 #[test]
-fn what_was_ended_or_dropped_allows_nothing(rt: HostRuntime) -> Result<(), Fail> {
+fn a_drop_takes_one_row(rt: HostRuntime) -> Result<(), Fail> {
     let mut access = Access::new(rt.alloc());
     let checked = check_what_is_left(rt.alloc(), &mut access);
     drop(access);
@@ -439,27 +448,29 @@ fn check_what_is_found(alloc: Global, access: &mut Access) -> Result<(), Fail> {
     }
     for (name, client_id, found) in [("ann", "client-1", true), ("client-1", "ann", false)] {
         check(
-            access.principal_named(name).is_some() == found,
-            "another principal by its name",
-        )?;
-        check(
-            access.principal_of_client(client_id).is_some() == found,
-            "another principal by its client id",
+            access.principal_named(name).is_some() == found
+                && access.principal_of_client(client_id).is_some() == found,
+            "another principal by its name or its client id",
         )?;
     }
     check(
-        access.principal(1).is_some() && access.principal_role(20).is_none(),
+        access.principal(1).is_some()
+            && access.principal_role(20).is_none()
+            && access.catalog_role(20).is_some(),
         "another row by its id",
     )?;
     check(
-        access.catalog_role(20).is_some() && access.is_member(1, 2),
-        "another row by its id",
+        access.is_member(1, 2) && access.is_joined(2, 20) && !access.is_joined(20, 2),
+        "another member or join",
     )?;
     check(
-        access.is_joined(2, 20) && !access.is_joined(20, 2),
-        "another join",
+        access.has_grant(&GRANTS[0]) && access.has_other_role(10, "reader"),
+        "another grant or role",
     )?;
-    Ok(())
+    check(
+        !access.has_other_role(11, "reader"),
+        "a role of another catalogue",
+    )
 }
 
 #[test]
@@ -470,30 +481,98 @@ fn rows_are_found_by_their_names(rt: HostRuntime) -> Result<(), Fail> {
     checked
 }
 
-fn check_lists(alloc: Global, access: &mut Access) -> Result<(), Fail> {
-    fill(alloc, access)?;
-    let roles = access.roles_of_principal(alloc, 1)?;
-    check(
-        roles.as_slice() == [2, 3].as_slice(),
-        "other roles of a principal",
+fn check_naming(
+    alloc: Global,
+    access: &Access,
+    referent: Referent,
+    members: &[MemberRow],
+    joins: &[JoinRow],
+    grants: &[GrantRow],
+) -> Result<(), Fail> {
+    let found = access.members_of(alloc, referent)?;
+    check(found.as_slice() == members, "other members")?;
+    let found = access.joins_of(alloc, referent)?;
+    check(found.as_slice() == joins, "other joins")?;
+    let found = access.grants_of(alloc, referent)?;
+    check(found.as_slice() == grants, "other grants")
+}
+
+fn check_what_names(alloc: Global, access: &Access) -> Result<(), Fail> {
+    let principal = Referent::Principal(1);
+    check_naming(alloc, access, principal, &MEMBERS[..2], &[], &[])?;
+    let role = Referent::PrincipalRole(2);
+    check_naming(
+        alloc,
+        access,
+        role,
+        &[MEMBERS[0], MEMBERS[2]],
+        &JOINS[..1],
+        &[],
     )?;
-    let joined = access.roles_joined_to(alloc, 2)?;
-    check(joined.as_slice() == [20].as_slice(), "other joined roles")?;
-    let of_catalog = access.roles_of_catalog(alloc, 10)?;
+    let writer = Referent::CatalogRole(21);
+    check_naming(alloc, access, writer, &[], &JOINS[1..2], &GRANTS[1..])?;
+    let catalog = Referent::RoleOfCatalog(10);
+    check_naming(alloc, access, catalog, &[], &JOINS[..2], &GRANTS)?;
+    let namespace = Referent::Securable(Securable::Namespace(30));
+    check_naming(alloc, access, namespace, &[], &[], &GRANTS[..2])
+}
+
+fn check_principals_and_roles(alloc: Global, access: &Access) -> Result<(), Fail> {
+    let found: Vec<u64> = access
+        .principals_by_name(alloc)?
+        .iter()
+        .map(|row| row.id)
+        .collect(alloc)?;
+    check(found.as_slice() == [5, 1].as_slice(), "other principals")?;
+    let found: Vec<u64> = access
+        .principal_roles_by_name(alloc)?
+        .iter()
+        .map(|row| row.id)
+        .collect(alloc)?;
+    check(found.as_slice() == [2, 3, 4].as_slice(), "other roles")?;
+    let found: Vec<u64> = access
+        .roles_of_principal(alloc, 1)?
+        .iter()
+        .map(|row| row.id)
+        .collect(alloc)?;
     check(
-        of_catalog.as_slice() == [20, 21].as_slice(),
+        found.as_slice() == [2, 3].as_slice(),
+        "other roles of a principal",
+    )
+}
+
+fn check_roles_of_catalogs(alloc: Global, access: &Access) -> Result<(), Fail> {
+    let found: Vec<u64> = access
+        .roles_of_catalog(alloc, 10)?
+        .iter()
+        .map(|row| row.id)
+        .collect(alloc)?;
+    check(
+        found.as_slice() == [20, 21].as_slice(),
         "other roles of a catalogue",
     )?;
-    let grants = access.grants_of(alloc, 21)?;
+    let found: Vec<u64> = access
+        .joined_roles(alloc, 3, 10)?
+        .iter()
+        .map(|row| row.id)
+        .collect(alloc)?;
+    check(found.as_slice() == [21].as_slice(), "other joined roles")?;
+    let found = access.role_ids_of_catalog(alloc, 10)?;
     check(
-        grants.as_slice() == [(Privilege::TableWriteData, Securable::Catalog(10))].as_slice(),
-        "other grants",
-    )?;
-    Ok(())
+        found.as_slice() == [21, 20].as_slice(),
+        "other ids of a catalogue's roles",
+    )
+}
+
+fn check_lists(alloc: Global, access: &mut Access) -> Result<(), Fail> {
+    fill(alloc, access)?;
+    check_what_names(alloc, access)?;
+    check_principals_and_roles(alloc, access)?;
+    check_roles_of_catalogs(alloc, access)
 }
 
 #[test]
-fn rows_are_listed_by_what_they_name(rt: HostRuntime) -> Result<(), Fail> {
+fn rows_are_listed_in_order(rt: HostRuntime) -> Result<(), Fail> {
     let mut access = Access::new(rt.alloc());
     let checked = check_lists(rt.alloc(), &mut access);
     drop(access);

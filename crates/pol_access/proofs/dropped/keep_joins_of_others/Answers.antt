@@ -1,5 +1,0 @@
-use Rattle.std.proofs.Common.{not, nat_eq, rules}
-use Rattle.pol_access.proofs.dropped.keep_joins_of_others.Goals as goal
-
-pub returns-clause-facts : goal.returns-clause-facts
-returns-clause-facts c = c.retain.ensures.facts (λ row. not (nat_eq row.principal_role c.args.role)) (λ item answer after call. search rules)
