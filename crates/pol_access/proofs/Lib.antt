@@ -1,6 +1,8 @@
+pub mod KeptLemmas
 pub mod MayLemmas
 pub mod NamesLemmas
 pub mod OrderLemmas
 pub mod PrivilegeLemmas
 pub mod ReferentLemmas
 pub mod SecurableLemmas
+pub mod SoundLemmas

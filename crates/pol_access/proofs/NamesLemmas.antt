@@ -11,20 +11,13 @@ use Rattle.pol_tables.specs.Named.{Finds}
 use Rattle.pol_tables.specs.Table.{has_id, row_of}
 use Rattle.pol_tables.proofs.ListLemmas.{each-weaken}
 use Rattle.pol_tables.proofs.TableLemmas.{some_is}
+use Rattle.pol_access.proofs.KeptLemmas.{found-holds}
 
 module _ {R : Type 0} (test : R → Bool) where
   -- no row past one that passes the test passes it
   abbrev pub PassOnce : List R → Type 0
   PassOnce [] = Unit {0}
   PassOnce (row ∷ rows) = (test row ≡ true → AllByRecursion (λ later. test later ≡ false) rows) × PassOnce rows
-
-  -- what holds of each row holds of the one that is found
-  found_holds : (P : R → Type 0) (sought : R → Bool) (rows : List R) (row : R) → AllByRecursion P rows → find sought rows ≡ Some row → P row
-  found_holds P sought [] row all found = let contrary : None ≡ Some row = found in cc
-  found_holds P sought (first ∷ rows) row all found = elim (cases_Bool (sought first)) [
-    | inl here ↦ subst P (some_is first row (sym (ap (λ b. cond b (Some first) (find sought rows)) here) ∙ found)) all.0
-    | inr other ↦ found_holds P sought rows row all.1 (sym (ap (λ b. cond b (Some first) (find sought rows)) other) ∙ found)
-  ]
 
   -- a row of the list that passes is the one that is found
   only_found : (key : R → ℕ) (rows : List R) (row : R) → PassOnce rows → row_of key (key row) rows ≡ Some row → test row ≡ true → Some row ≡ find test rows
@@ -38,7 +31,7 @@ module _ {R : Type 0} (test : R → Bool) where
         | inr apart ↦
             let later : row_of key (key row) rows ≡ Some row = sym (ap (λ b. cond b (Some first) (row_of key (key row) rows)) apart) ∙ there in
             elim (cases_Bool (test first)) [
-              | inl first_passes ↦ absurd (true≢false (sym passes ∙ found_holds (λ kept. test kept ≡ false) (has_id key (key row)) rows row (once.0 first_passes) later))
+              | inl first_passes ↦ absurd (true≢false (sym passes ∙ found-holds (has_id key (key row)) (λ kept. test kept ≡ false) rows row (once.0 first_passes) later))
               | inr first_fails ↦ rest later passes ∙ sym (ap (λ b. cond b (Some first) (find test rows)) first_fails)
             ]
       ]

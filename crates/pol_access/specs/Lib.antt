@@ -8,3 +8,4 @@ pub mod Privilege
 pub mod Referent
 pub mod Search
 pub mod Securable
+pub mod Sound

@@ -10,7 +10,7 @@ use Rattle.pol_access.specs.declared.rows.JoinRow.{JoinRow}
 use Rattle.pol_access.specs.declared.rows.MemberRow.{MemberRow}
 use Rattle.pol_tables.specs.Same.{same}
 
--- whether a member names it
+-- whether a member names the referent
 abbrev pub member_names : Referent → MemberRow → Bool
 member_names (Principal id) row = row.principal == id
 member_names (PrincipalRole id) row = row.role == id
@@ -18,7 +18,7 @@ member_names (CatalogRole id) row = false
 member_names (RoleOfCatalog id) row = false
 member_names (Securable one) row = false
 
--- whether a join names it, where the catalogue roles are these
+-- whether a join names the referent, where the catalogue roles are these
 abbrev pub join_names : List CatalogRoleRow → Referent → JoinRow → Bool
 join_names roles (Principal id) row = false
 join_names roles (PrincipalRole id) row = row.principal_role == id
@@ -26,7 +26,7 @@ join_names roles (CatalogRole id) row = row.catalog_role == id
 join_names roles (RoleOfCatalog id) row = is_role_of roles id row.catalog_role
 join_names roles (Securable one) row = false
 
--- whether a grant names it, where the catalogue roles are these
+-- whether a grant names the referent, where the catalogue roles are these
 abbrev pub grant_names : List CatalogRoleRow → Referent → GrantRow → Bool
 grant_names roles (Principal id) row = false
 grant_names roles (PrincipalRole id) row = false

@@ -12,7 +12,7 @@ use pol_types::OutOfMemory;
 use std::alloc::{AllocError, Global};
 
 impl Access {
-    /// The members that name it, in rising order.
+    /// The members that name a referent, in rising order.
     pub fn members_of(
         &self,
         alloc: Global,
@@ -23,14 +23,14 @@ impl Access {
         sorted_facts(self.members_that_name(alloc, referent)?)
     }
 
-    /// The joins that name it, in rising order.
+    /// The joins that name a referent, in rising order.
     pub fn joins_of(&self, alloc: Global, referent: Referent) -> Result<Vec<JoinRow>, OutOfMemory>
         ensures { IfOk result (λ rows. rows.items ≡ joins_in_order (filter (join_names self.now.rows.catalog_roles referent) self.now.rows.joins)) }
     {
         sorted_facts(self.joins_that_name(alloc, referent)?)
     }
 
-    /// The grants that name it, in rising order.
+    /// The grants that name a referent, in rising order.
     pub fn grants_of(&self, alloc: Global, referent: Referent) -> Result<Vec<GrantRow>, OutOfMemory>
         ensures { IfOk result (λ rows. rows.items ≡ grants_in_order (filter (grant_names self.now.rows.catalog_roles referent) self.now.rows.grants)) }
     {
@@ -54,7 +54,7 @@ impl Access {
         sorted_by_name(lent(alloc, self.principal_roles().as_slice())?)
     }
 
-    /// The principal roles of which a principal is a member, in byte order of their names.
+    /// The principal roles of which a principal, named by its id, is a member, in byte order of their names.
     pub fn roles_of_principal(
         &self,
         alloc: Global,
@@ -76,7 +76,7 @@ impl Access {
         sorted_by_name(self.own_roles(alloc, catalog)?)
     }
 
-    /// The roles of a catalogue to which a principal role is joined, in byte order of their names.
+    /// The roles of a catalogue to which a principal role is joined, each named by its id, in byte order of their names.
     pub fn joined_roles(
         &self,
         alloc: Global,
@@ -108,6 +108,7 @@ impl Access {
             .any(|row| row.catalog == catalog && name != row.name.as_str())
     }
 
+    /// The members that name a referent, in their order.
     fn members_that_name(
         &self,
         alloc: Global,
@@ -121,6 +122,7 @@ impl Access {
             .collect(alloc)
     }
 
+    /// The joins that name a referent, in their order.
     fn joins_that_name(&self, alloc: Global, referent: Referent) -> Result<Vec<JoinRow>, AllocError>
         ensures { IfOk result (λ rows. rows.items ≡ filter (join_names self.now.rows.catalog_roles referent) self.now.rows.joins) }
     {
@@ -130,6 +132,7 @@ impl Access {
             .collect(alloc)
     }
 
+    /// The grants that name a referent, in their order.
     fn grants_that_name(
         &self,
         alloc: Global,
@@ -143,6 +146,7 @@ impl Access {
             .collect(alloc)
     }
 
+    /// The principal roles of which a principal is a member, in their order.
     fn held_roles(
         &self,
         alloc: Global,
@@ -155,6 +159,7 @@ impl Access {
             .collect(alloc)
     }
 
+    /// The roles of a catalogue, in their order.
     fn own_roles(&self, alloc: Global, catalog: u64) -> Result<Vec<&CatalogRoleRow>, AllocError>
         ensures { IfOk result (λ lent. map (λ row. row.now) lent.items ≡ filter (λ row. row.catalog == catalog) self.now.rows.catalog_roles) }
     {
@@ -163,6 +168,7 @@ impl Access {
             .collect(alloc)
     }
 
+    /// The roles of a catalogue to which a principal role is joined, in their order.
     fn own_joined_roles(
         &self,
         alloc: Global,

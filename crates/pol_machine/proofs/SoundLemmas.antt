@@ -4,18 +4,17 @@ use Rattle.std.specs.List.{cons_option, find, filter_map, list_any, AllByRecursi
 use Rattle.std.specs.Str.{bytes_eq}
 use Rattle.std.proofs.lemmas.Bool.{cases_Bool, ltb-false}
 use Rattle.std.specs.Option.{option_map}
-use Rattle.pol_access.specs.Access.{AccessRows, catalog_role_id, principal_id, principal_role_id, is_member}
-use Rattle.pol_access.specs.declared.securable.Securable.{Securable}
-use Rattle.pol_access.specs.declared.securable.Securable.TheVariants as securable
+use Rattle.pol_access.specs.Access.{catalog_role_id, principal_id, principal_role_id, is_member}
 use Rattle.pol_access.specs.declared.rows.PrincipalRow.{PrincipalRow}
 use Rattle.pol_access.specs.declared.rows.PrincipalRoleRow.{PrincipalRoleRow}
+use Rattle.pol_access.proofs.SoundLemmas.{given-later, more_ids}
 use Rattle.pol_content.specs.Content.{ContentRows}
 use Rattle.pol_content.specs.Sound.{IsSoundContent}
 use Rattle.pol_names.specs.declared.scope.Scope.{Scope}
 use Rattle.pol_names.specs.declared.scope.Scope.TheVariants as scope
 use Rattle.pol_tables.specs.Rising.{KeysBelow}
 use Rattle.pol_tables.proofs.ListLemmas.{each-push, each-weaken}
-use Rattle.pol_tables.proofs.NumberedLemmas.{AreNumbered-more, below-next}
+use Rattle.pol_tables.proofs.NumberedLemmas.{below-next}
 use Rattle.pol_tables.proofs.RisingLemmas.{KeysRise-push, knows-below}
 use Rattle.pol_tables.proofs.TableLemmas.{some_is}
 use Rattle.pol_tokens.specs.Tokens.{TokenRows, serial_of}
@@ -24,7 +23,7 @@ use Rattle.pol_machine.specs.Machine.{stamped}
 use Rattle.pol_machine.specs.Rows.{Rows}
 use Rattle.pol_machine.specs.Rules.{all_roles, client_of, held_role, kept_if, role_of_scope, role_scope, run_full, time_of}
 use Rattle.pol_machine.specs.Sessions.{scope_of, with_session}
-use Rattle.pol_machine.specs.Sound.{is_access_id, IdsApart, IsCatalogRoleOf, IsGiven, IsGrantOf, IsSecurableGiven, IsSessionOf, IsSound, IsSoundAccess, IsSoundTokens, NamesGiven}
+use Rattle.pol_machine.specs.Sound.{is_access_id, IdsApart, IsGiven, IsSessionOf, IsSound, IsSoundTokens, NamesGiven}
 use Rattle.pol_machine.specs.declared.command.Command.{Command}
 use Rattle.pol_machine.specs.declared.reply.Refusal.TheVariants.{RunFull}
 use Rattle.pol_machine.proofs.ChangesLemmas.{serials-below}
@@ -129,45 +128,7 @@ opened-sound s command row sound within serial principal scope bound = record {
   charged_bound = within.charged;
 }
 
--- more ids keep principals, roles, members and sessions sound
-given-later : (low high id : ℕ) → low ≤ high → IsGiven low id → IsGiven high id
-given-later low high id more given = let under : id < high = omega (arith, more, given.1) in (given.0, under)
-
-securable-later : (low high : ℕ) (one : Securable) → low ≤ high → IsSecurableGiven low one → IsSecurableGiven high one
-securable-later low high securable.Realm more given = tt
-securable-later low high (securable.Catalog id) more given = given-later low high id more given
-securable-later low high (securable.Namespace id) more given = given-later low high id more given
-securable-later low high (securable.Table id) more given = given-later low high id more given
-securable-later low high (securable.View id) more given = given-later low high id more given
-
-later-access : (low high : ℕ) (access : AccessRows) → low ≤ high → IsSoundAccess low access → IsSoundAccess high access
-later-access low high access more sound = record {
-  principals = AreNumbered-more principal_id low high more access.principals sound.principals;
-  principal_roles = AreNumbered-more principal_role_id low high more access.principal_roles sound.principal_roles;
-  catalog_roles = AreNumbered-more catalog_role_id low high more access.catalog_roles sound.catalog_roles;
-  ids_differ = sound.ids_differ;
-  names_differ = sound.names_differ;
-  client_ids_differ = sound.client_ids_differ;
-  role_names_differ = sound.role_names_differ;
-  catalog_roles_known = each-weaken (IsCatalogRoleOf low access) (IsCatalogRoleOf high access) access.catalog_roles (λ row known. record { no_principal = known.no_principal; no_principal_role = known.no_principal_role; catalog = given-later low high row.catalog more known.catalog }) sound.catalog_roles_known;
-  catalog_role_names_differ = sound.catalog_role_names_differ;
-  members_differ = sound.members_differ;
-  member_principals = sound.member_principals;
-  member_roles = sound.member_roles;
-  joins_differ = sound.joins_differ;
-  join_principal_roles = sound.join_principal_roles;
-  join_catalog_roles = sound.join_catalog_roles;
-  grants_differ = sound.grants_differ;
-  grants_known = each-weaken (IsGrantOf low access) (IsGrantOf high access) access.grants (λ row known. record { role = known.role; securable = securable-later low high row.securable more known.securable; allowed = known.allowed }) sound.grants_known;
-  root_chain = sound.root_chain;
-  principals_bound = sound.principals_bound;
-  principal_roles_bound = sound.principal_roles_bound;
-  catalog_roles_bound = sound.catalog_roles_bound;
-  members_bound = sound.members_bound;
-  joins_bound = sound.joins_bound;
-  grants_bound = sound.grants_bound;
-}
-
+-- more ids keep sessions sound
 names-later : (low high : ℕ) (scope : Scope) → low ≤ high → NamesGiven low scope → NamesGiven high scope
 names-later low high scope.All more given = tt
 names-later low high (scope.Roles roles) more given =
@@ -183,7 +144,7 @@ later-tokens low high serial tokens more sound = record {
 pub content-sound : (s : Rows) (command : Command) (content : ContentRows) (next_id : ℕ) → IsSound s → IsWithin s command → s.next_id ≤ next_id → next_id ≤ 2 ^ 62 → IsSoundContent next_id content → IdsApart s.access content
     → IsSound (stamped s command (record s { content = content; next_id = next_id }))
 content-sound s command content next_id sound within more bound kept apart = record {
-  access = later-access s.next_id next_id s.access more sound.access;
+  access = more_ids s.next_id next_id s.access more sound.access;
   content = kept;
   ids_apart = apart;
   tokens = later-tokens s.next_id next_id s.next_serial s.tokens more sound.tokens;

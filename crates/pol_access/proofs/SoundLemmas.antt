@@ -1,0 +1,612 @@
+-- Sound rows stay sound once a row is put, replaced or dropped with what names it.
+use Rattle.std.proofs.Common.{◌≡◌, ℕ, ◌+◌, ◌<◌, ◌≤◌, Bool, true, false, not, cond, ◌&&◌, List, [], ◌∷◌, ◌++◌, map, filter, Some, is_some, nat_eq, refl, sym, ap, subst, ◌∙◌, arith, codes, ◌==◌, ◌||◌}
+use Rattle.std.specs.Cmp.{IsEquivalence, nat_eq_equiv}
+use Rattle.std.specs.Cmp.Lexicographic.{nat_list_eq_equiv, same_text}
+use Rattle.std.specs.List.{AllByRecursion, IsDistinct}
+use Rattle.std.specs.Str.{bytes_eq}
+use Rattle.std.proofs.lemmas.Bool.{and_from, and_parts, eq-eqb, eqb-true, ne_eqb}
+use Rattle.std.proofs.lemmas.Map.Keys.{IsDistinct-push}
+use Rattle.pol_tables.specs.Facts.{facts_with, facts_without, holds}
+use Rattle.pol_tables.specs.Numbered.{IsGiven}
+use Rattle.pol_tables.specs.Rising.{KeysBelow}
+use Rattle.pol_tables.specs.Same.{same}
+use Rattle.pol_tables.specs.Table.{has_id, knows, row_of, rows_without}
+use Rattle.pol_tables.proofs.ListLemmas.{each-all, each-filter, each-join, each-map, each-push, each-weaken}
+use Rattle.pol_tables.proofs.NamedLemmas.{each-own}
+use Rattle.pol_tables.proofs.NumberedLemmas.{AreNumbered-filter, AreNumbered-map, AreNumbered-more, AreNumbered-push, below-next}
+use Rattle.pol_tables.proofs.RisingLemmas.{IdsDiffer-rising, knows-below}
+use Rattle.pol_tables.proofs.SameLemmas.{same-differ}
+use Rattle.pol_tables.proofs.TableLemmas.{is_some-row_of, knows-map, rows_with-known, some_is}
+use Rattle.pol_access.specs.Access.{AccessRows, catalog_role_id, client_id_of, is_of_catalog, is_role_of, principal_id, principal_name, principal_role_id, principal_role_name}
+use Rattle.pol_access.specs.Laws.{DroppedCatalogRolesKeepSound, DroppedGrantsKeepSound, DroppedJoinKeepsSound, DroppedMemberKeepsSound, DroppedPrincipalKeepsSound, DroppedPrincipalRoleKeepsSound, MoreIdsKeepSound, NewRowsGoLast, PushedCatalogRoleKeepsSound, PushedPrincipalKeepsSound, PushedPrincipalRoleKeepsSound, PutGrantKeepsSound, PutJoinKeepsSound, PutMemberKeepsSound, ReplacedPrincipalKeepsSound}
+use Rattle.pol_access.specs.Names.{has_catalog_role_name, has_name, has_role_name, principal_named, principal_role_named, same_role_name}
+use Rattle.pol_access.specs.Sound.{IsCatalogRoleOf, IsGrantOf, IsSecurableGiven, IsSoundAccess}
+use Rattle.pol_access.specs.contracts.rows.GrantRow as grant
+use Rattle.pol_access.specs.contracts.rows.JoinRow as join
+use Rattle.pol_access.specs.contracts.rows.MemberRow as member
+use Rattle.pol_access.specs.contracts.securable.Securable as securable_code
+use Rattle.pol_access.specs.declared.rows.CatalogRoleRow.{CatalogRoleRow}
+use Rattle.pol_access.specs.declared.rows.GrantRow.{GrantRow}
+use Rattle.pol_access.specs.declared.rows.JoinRow.{JoinRow}
+use Rattle.pol_access.specs.declared.rows.MemberRow.{MemberRow}
+use Rattle.pol_access.specs.declared.rows.PrincipalRow.{PrincipalRow}
+use Rattle.pol_access.specs.declared.rows.PrincipalRoleRow.{PrincipalRoleRow}
+use Rattle.pol_access.specs.declared.securable.Securable.{Securable}
+use Rattle.pol_access.specs.declared.securable.Securable.TheVariants as securable
+use Rattle.pol_access.proofs.KeptLemmas.{any-fewer, any-push, distinct-kept, distinct-with, each-stays, each-with, find-altered, find-kept, find-push, found-holds, found-passes, goes-last, holds-kept, holds-with, images-kept, knows-kept, knows-others, knows-push, length-kept, length-map, length-push, map-each, names-altered, names-push, none-found}
+
+-- ids that were given out, where more are
+pub given-later : (low high id : ℕ) → low ≤ high → IsGiven low id → IsGiven high id
+given-later low high id more given = let under : id < high = omega (arith, more, given.1) in (given.0, under)
+
+securable-later : (low high : ℕ) (one : Securable) → low ≤ high → IsSecurableGiven low one → IsSecurableGiven high one
+securable-later low high securable.Realm more given = tt
+securable-later low high (securable.Catalog id) more given = given-later low high id more given
+securable-later low high (securable.Namespace id) more given = given-later low high id more given
+securable-later low high (securable.Table id) more given = given-later low high id more given
+securable-later low high (securable.View id) more given = given-later low high id more given
+
+-- catalogue roles whose ids are still no principal's and no principal role's
+roles_as : (next_id bound : ℕ) (a b : AccessRows) → ((id : ℕ) → id < bound → knows principal_id id a.principals ≡ false → knows principal_id id b.principals ≡ false)
+    → ((id : ℕ) → id < bound → knows principal_role_id id a.principal_roles ≡ false → knows principal_role_id id b.principal_roles ≡ false)
+    → (rows : List CatalogRoleRow) → KeysBelow catalog_role_id bound rows → AllByRecursion (IsCatalogRoleOf next_id a) rows → AllByRecursion (IsCatalogRoleOf next_id b) rows
+roles_as next_id bound a b principals roles rows below known =
+    each-join (λ row. catalog_role_id row < bound) (IsCatalogRoleOf next_id a) (IsCatalogRoleOf next_id b) rows (λ row under is. record { no_principal = principals row.id under is.no_principal; no_principal_role = roles row.id under is.no_principal_role; catalog = is.catalog }) below known
+
+-- grants whose catalogue roles are still there
+roles_there : (next_id : ℕ) (access : AccessRows) (rows : List GrantRow) → AllByRecursion (IsGrantOf next_id access) rows → AllByRecursion (λ row. knows catalog_role_id row.catalog_role access.catalog_roles ≡ true) rows
+roles_there next_id access rows known =
+    each-weaken (IsGrantOf next_id access) (λ row. knows catalog_role_id row.catalog_role access.catalog_roles ≡ true) rows (λ row is. is.role) known
+
+grants_as : (next_id : ℕ) (a b : AccessRows) (rows : List GrantRow) → AllByRecursion (λ row. knows catalog_role_id row.catalog_role b.catalog_roles ≡ true) rows → AllByRecursion (IsGrantOf next_id a) rows → AllByRecursion (IsGrantOf next_id b) rows
+grants_as next_id a b rows there known =
+    each-join (λ row. knows catalog_role_id row.catalog_role b.catalog_roles ≡ true) (IsGrantOf next_id a) (IsGrantOf next_id b) rows (λ row is was. record { role = is; securable = was.securable; allowed = was.allowed }) there known
+
+pub more_ids : MoreIdsKeepSound
+more_ids low high access more sound = record {
+  principals = AreNumbered-more principal_id low high more access.principals sound.principals;
+  principal_roles = AreNumbered-more principal_role_id low high more access.principal_roles sound.principal_roles;
+  catalog_roles = AreNumbered-more catalog_role_id low high more access.catalog_roles sound.catalog_roles;
+  ids_differ = sound.ids_differ;
+  names_differ = sound.names_differ;
+  client_ids_differ = sound.client_ids_differ;
+  role_names_differ = sound.role_names_differ;
+  catalog_roles_known = each-weaken (IsCatalogRoleOf low access) (IsCatalogRoleOf high access) access.catalog_roles (λ row known. record { no_principal = known.no_principal; no_principal_role = known.no_principal_role; catalog = given-later low high row.catalog more known.catalog }) sound.catalog_roles_known;
+  catalog_role_names_differ = sound.catalog_role_names_differ;
+  members_differ = sound.members_differ;
+  member_principals = sound.member_principals;
+  member_roles = sound.member_roles;
+  joins_differ = sound.joins_differ;
+  join_principal_roles = sound.join_principal_roles;
+  join_catalog_roles = sound.join_catalog_roles;
+  grants_differ = sound.grants_differ;
+  grants_known = each-weaken (IsGrantOf low access) (IsGrantOf high access) access.grants (λ row known. record { role = known.role; securable = securable-later low high row.securable more known.securable; allowed = known.allowed }) sound.grants_known;
+  root_chain = sound.root_chain;
+  principals_bound = sound.principals_bound;
+  principal_roles_bound = sound.principal_roles_bound;
+  catalog_roles_bound = sound.catalog_roles_bound;
+  members_bound = sound.members_bound;
+  joins_bound = sound.joins_bound;
+  grants_bound = sound.grants_bound;
+}
+
+pub new_rows_last : NewRowsGoLast
+new_rows_last next_id access sound = (
+  goes-last principal_id next_id access.principals sound.principals,
+  goes-last principal_role_id next_id access.principal_roles sound.principal_roles,
+  goes-last catalog_role_id next_id access.catalog_roles sound.catalog_roles,
+)
+
+one_more : (n : ℕ) → n ≤ n + 1
+one_more n = omega arith
+
+-- an id below the next one is no id of the row that has that one
+apart_from : {R : Type 0} (key : R → ℕ) (next_id id : ℕ) (row : R) → key row ≡ next_id → id < next_id → has_id key id row ≡ false
+apart_from key next_id id row is under = ne_eqb id (key row) (λ same. omega (arith, under, is, same))
+
+pub pushed_principal : PushedPrincipalKeepsSound
+pushed_principal next_id access row sound first is new_name new_client room =
+    let later = more_ids next_id (next_id + 1) access (one_more next_id) sound in
+    record {
+      principals = AreNumbered-push principal_id next_id row access.principals first is sound.principals;
+      principal_roles = later.principal_roles;
+      catalog_roles = later.catalog_roles;
+      ids_differ = each-push (λ kept. knows principal_role_id kept.id access.principal_roles ≡ false) access.principals row sound.ids_differ (ap (λ id. knows principal_role_id id access.principal_roles) is ∙ knows-below principal_role_id next_id access.principal_roles (below-next principal_role_id next_id access.principal_roles sound.principal_roles));
+      names_differ = names-push principal_name access.principals row sound.names_differ new_name;
+      client_ids_differ = names-push client_id_of access.principals row sound.client_ids_differ new_client;
+      role_names_differ = later.role_names_differ;
+      catalog_roles_known = roles_as (next_id + 1) next_id access (record access { principals = access.principals ++ row ∷ [] }) (λ id under unknown. knows-push principal_id id row access.principals ∙ (λ i. unknown i || apart_from principal_id next_id id row is under i)) (λ id under unknown. unknown) access.catalog_roles (below-next catalog_role_id next_id access.catalog_roles sound.catalog_roles) later.catalog_roles_known;
+      catalog_role_names_differ = later.catalog_role_names_differ;
+      members_differ = later.members_differ;
+      member_principals = each-weaken (λ kept. knows principal_id kept.principal access.principals ≡ true) (λ kept. knows principal_id kept.principal (access.principals ++ row ∷ []) ≡ true) access.members (λ kept there. any-push (has_id principal_id kept.principal) access.principals row there) sound.member_principals;
+      member_roles = later.member_roles;
+      joins_differ = later.joins_differ;
+      join_principal_roles = later.join_principal_roles;
+      join_catalog_roles = later.join_catalog_roles;
+      grants_differ = later.grants_differ;
+      grants_known = grants_as (next_id + 1) access (record access { principals = access.principals ++ row ∷ [] }) access.grants (roles_there (next_id + 1) access access.grants later.grants_known) later.grants_known;
+      root_chain = record { root = sound.root_chain.root; admin = sound.root_chain.admin; root_there = find-push (has_name (codes "root")) access.principals (row ∷ []) sound.root_chain.root sound.root_chain.root_there; admin_there = sound.root_chain.admin_there; member = sound.root_chain.member };
+      principals_bound = length-push row access.principals 10000 room;
+      principal_roles_bound = later.principal_roles_bound;
+      catalog_roles_bound = later.catalog_roles_bound;
+      members_bound = later.members_bound;
+      joins_bound = later.joins_bound;
+      grants_bound = later.grants_bound;
+    }
+
+pub pushed_principal_role : PushedPrincipalRoleKeepsSound
+pushed_principal_role next_id access row sound first is new_name room =
+    let later = more_ids next_id (next_id + 1) access (one_more next_id) sound in
+    record {
+      principals = later.principals;
+      principal_roles = AreNumbered-push principal_role_id next_id row access.principal_roles first is sound.principal_roles;
+      catalog_roles = later.catalog_roles;
+      ids_differ = each-join (λ kept. principal_id kept < next_id) (λ kept. knows principal_role_id kept.id access.principal_roles ≡ false) (λ kept. knows principal_role_id kept.id (access.principal_roles ++ row ∷ []) ≡ false) access.principals (λ kept under unknown. knows-push principal_role_id kept.id row access.principal_roles ∙ (λ i. unknown i || apart_from principal_role_id next_id kept.id row is under i)) (below-next principal_id next_id access.principals sound.principals) sound.ids_differ;
+      names_differ = later.names_differ;
+      client_ids_differ = later.client_ids_differ;
+      role_names_differ = names-push principal_role_name access.principal_roles row sound.role_names_differ new_name;
+      catalog_roles_known = roles_as (next_id + 1) next_id access (record access { principal_roles = access.principal_roles ++ row ∷ [] }) (λ id under unknown. unknown) (λ id under unknown. knows-push principal_role_id id row access.principal_roles ∙ (λ i. unknown i || apart_from principal_role_id next_id id row is under i)) access.catalog_roles (below-next catalog_role_id next_id access.catalog_roles sound.catalog_roles) later.catalog_roles_known;
+      catalog_role_names_differ = later.catalog_role_names_differ;
+      members_differ = later.members_differ;
+      member_principals = later.member_principals;
+      member_roles = each-weaken (λ kept. knows principal_role_id kept.role access.principal_roles ≡ true) (λ kept. knows principal_role_id kept.role (access.principal_roles ++ row ∷ []) ≡ true) access.members (λ kept there. any-push (has_id principal_role_id kept.role) access.principal_roles row there) sound.member_roles;
+      joins_differ = later.joins_differ;
+      join_principal_roles = each-weaken (λ kept. knows principal_role_id kept.principal_role access.principal_roles ≡ true) (λ kept. knows principal_role_id kept.principal_role (access.principal_roles ++ row ∷ []) ≡ true) access.joins (λ kept there. any-push (has_id principal_role_id kept.principal_role) access.principal_roles row there) sound.join_principal_roles;
+      join_catalog_roles = later.join_catalog_roles;
+      grants_differ = later.grants_differ;
+      grants_known = grants_as (next_id + 1) access (record access { principal_roles = access.principal_roles ++ row ∷ [] }) access.grants (roles_there (next_id + 1) access access.grants later.grants_known) later.grants_known;
+      root_chain = record { root = sound.root_chain.root; admin = sound.root_chain.admin; root_there = sound.root_chain.root_there; admin_there = find-push (has_role_name (codes "service_admin")) access.principal_roles (row ∷ []) sound.root_chain.admin sound.root_chain.admin_there; member = sound.root_chain.member };
+      principals_bound = later.principals_bound;
+      principal_roles_bound = length-push row access.principal_roles 10000 room;
+      catalog_roles_bound = later.catalog_roles_bound;
+      members_bound = later.members_bound;
+      joins_bound = later.joins_bound;
+      grants_bound = later.grants_bound;
+    }
+
+same_role_name-equiv : IsEquivalence same_role_name
+same_role_name-equiv = record {
+  refl = λ x. and_from (nat_eq x.catalog x.catalog) (bytes_eq x.name x.name) (eq-eqb x.catalog x.catalog refl) (nat_list_eq_equiv.refl x.name);
+  symm = λ x y i. nat_eq_equiv.symm y.catalog x.catalog i && nat_list_eq_equiv.symm x.name y.name i;
+  congr = λ x y z is. alike x y z (and_parts (nat_eq y.catalog x.catalog) (bytes_eq x.name y.name) is);
+}
+  where
+    alike : (x y z : CatalogRoleRow) → (nat_eq y.catalog x.catalog ≡ true) × (bytes_eq x.name y.name ≡ true) → same_role_name x z ≡ same_role_name y z
+    alike x y z both = λ i. nat_eq z.catalog (sym (eqb-true y.catalog x.catalog both.0) i) && nat_list_eq_equiv.congr x.name y.name z.name both.1 i
+
+pub pushed_catalog_role : PushedCatalogRoleKeepsSound
+pushed_catalog_role next_id access row sound first is given new_name room =
+    let later = more_ids next_id (next_id + 1) access (one_more next_id) sound in
+    record {
+      principals = later.principals;
+      principal_roles = later.principal_roles;
+      catalog_roles = AreNumbered-push catalog_role_id next_id row access.catalog_roles first is sound.catalog_roles;
+      ids_differ = later.ids_differ;
+      names_differ = later.names_differ;
+      client_ids_differ = later.client_ids_differ;
+      role_names_differ = later.role_names_differ;
+      catalog_roles_known = each-push (IsCatalogRoleOf (next_id + 1) (record access { catalog_roles = access.catalog_roles ++ row ∷ [] })) access.catalog_roles row (roles_as (next_id + 1) next_id access (record access { catalog_roles = access.catalog_roles ++ row ∷ [] }) (λ id under unknown. unknown) (λ id under unknown. unknown) access.catalog_roles (below-next catalog_role_id next_id access.catalog_roles sound.catalog_roles) later.catalog_roles_known) (record { no_principal = ap (λ id. knows principal_id id access.principals) is ∙ knows-below principal_id next_id access.principals (below-next principal_id next_id access.principals sound.principals); no_principal_role = ap (λ id. knows principal_role_id id access.principal_roles) is ∙ knows-below principal_role_id next_id access.principal_roles (below-next principal_role_id next_id access.principal_roles sound.principal_roles); catalog = given-later next_id (next_id + 1) row.catalog (one_more next_id) given });
+      catalog_role_names_differ = IsDistinct-push same_role_name-equiv access.catalog_roles row sound.catalog_role_names_differ (none-found (has_catalog_role_name row.catalog row.name) access.catalog_roles new_name);
+      members_differ = later.members_differ;
+      member_principals = later.member_principals;
+      member_roles = later.member_roles;
+      joins_differ = later.joins_differ;
+      join_principal_roles = later.join_principal_roles;
+      join_catalog_roles = each-weaken (λ kept. knows catalog_role_id kept.catalog_role access.catalog_roles ≡ true) (λ kept. knows catalog_role_id kept.catalog_role (access.catalog_roles ++ row ∷ []) ≡ true) access.joins (λ kept there. any-push (has_id catalog_role_id kept.catalog_role) access.catalog_roles row there) sound.join_catalog_roles;
+      grants_differ = later.grants_differ;
+      grants_known = grants_as (next_id + 1) access (record access { catalog_roles = access.catalog_roles ++ row ∷ [] }) access.grants (each-weaken (IsGrantOf (next_id + 1) access) (λ kept. knows catalog_role_id kept.catalog_role (access.catalog_roles ++ row ∷ []) ≡ true) access.grants (λ kept known. any-push (has_id catalog_role_id kept.catalog_role) access.catalog_roles row known.role) later.grants_known) later.grants_known;
+      root_chain = record { root = sound.root_chain.root; admin = sound.root_chain.admin; root_there = sound.root_chain.root_there; admin_there = sound.root_chain.admin_there; member = sound.root_chain.member };
+      principals_bound = later.principals_bound;
+      principal_roles_bound = later.principal_roles_bound;
+      catalog_roles_bound = length-push row access.catalog_roles 10000 room;
+      members_bound = later.members_bound;
+      joins_bound = later.joins_bound;
+      grants_bound = later.grants_bound;
+    }
+
+-- principals may be altered where they keep their ids, names and client ids
+altered_principals : (next_id : ℕ) (access : AccessRows) (alter : PrincipalRow → PrincipalRow) → ((row : PrincipalRow) → (alter row).id ≡ row.id) → ((row : PrincipalRow) → (alter row).name ≡ row.name) → ((row : PrincipalRow) → (alter row).client_id ≡ row.client_id)
+    → IsSoundAccess next_id access → IsSoundAccess next_id (record access { principals = map alter access.principals })
+altered_principals next_id access alter ids names clients sound = record {
+  principals = AreNumbered-map principal_id next_id alter ids access.principals sound.principals;
+  principal_roles = sound.principal_roles;
+  catalog_roles = sound.catalog_roles;
+  ids_differ = each-map (λ kept. knows principal_role_id kept.id access.principal_roles ≡ false) alter access.principals (each-weaken (λ kept. knows principal_role_id kept.id access.principal_roles ≡ false) (λ kept. knows principal_role_id (alter kept).id access.principal_roles ≡ false) access.principals (λ kept unknown. ap (λ id. knows principal_role_id id access.principal_roles) (ids kept) ∙ unknown) sound.ids_differ);
+  names_differ = subst (IsDistinct bytes_eq) (sym (names-altered principal_name alter names access.principals)) sound.names_differ;
+  client_ids_differ = subst (IsDistinct bytes_eq) (sym (names-altered client_id_of alter clients access.principals)) sound.client_ids_differ;
+  role_names_differ = sound.role_names_differ;
+  catalog_roles_known = roles_as next_id next_id access (record access { principals = map alter access.principals }) (λ id under unknown. knows-map principal_id alter ids id access.principals ∙ unknown) (λ id under unknown. unknown) access.catalog_roles (below-next catalog_role_id next_id access.catalog_roles sound.catalog_roles) sound.catalog_roles_known;
+  catalog_role_names_differ = sound.catalog_role_names_differ;
+  members_differ = sound.members_differ;
+  member_principals = each-weaken (λ kept. knows principal_id kept.principal access.principals ≡ true) (λ kept. knows principal_id kept.principal (map alter access.principals) ≡ true) access.members (λ kept there. knows-map principal_id alter ids kept.principal access.principals ∙ there) sound.member_principals;
+  member_roles = sound.member_roles;
+  joins_differ = sound.joins_differ;
+  join_principal_roles = sound.join_principal_roles;
+  join_catalog_roles = sound.join_catalog_roles;
+  grants_differ = sound.grants_differ;
+  grants_known = grants_as next_id access (record access { principals = map alter access.principals }) access.grants (roles_there next_id access access.grants sound.grants_known) sound.grants_known;
+  root_chain = record { root = alter sound.root_chain.root; admin = sound.root_chain.admin; root_there = find-altered (has_name (codes "root")) alter (λ kept. ap (bytes_eq (codes "root")) (names kept)) access.principals sound.root_chain.root sound.root_chain.root_there; admin_there = sound.root_chain.admin_there; member = ap (λ id. holds member.the_row.coded (record { principal = id; role = sound.root_chain.admin.id }) access.members) (ids sound.root_chain.root) ∙ sound.root_chain.member };
+  principals_bound = subst (λ n. n ≤ 10000) (sym (length-map alter access.principals)) sound.principals_bound;
+  principal_roles_bound = sound.principal_roles_bound;
+  catalog_roles_bound = sound.catalog_roles_bound;
+  members_bound = sound.members_bound;
+  joins_bound = sound.joins_bound;
+  grants_bound = sound.grants_bound;
+}
+
+-- a row of the id, name and client id of one that is there differs from it in its digest alone
+module _ (row : PrincipalRow) where
+  abbrev with_digest : Bool → PrincipalRow → PrincipalRow
+  with_digest has kept = record { id = kept.id; name = kept.name; client_id = kept.client_id; digest = cond has row.digest kept.digest }
+
+  abbrev alter_one : PrincipalRow → PrincipalRow
+  alter_one kept = with_digest (has_id principal_id row.id kept) kept
+
+  is_altered : (old : PrincipalRow) (rows : List PrincipalRow) → row_of principal_id row.id rows ≡ Some old → row.name ≡ old.name → row.client_id ≡ old.client_id
+      → (kept : PrincipalRow) → row_of principal_id kept.id rows ≡ Some kept → (has : Bool) → has_id principal_id row.id kept ≡ has → cond has row kept ≡ with_digest has kept
+  is_altered old rows found names clients kept own false apart = refl
+  is_altered old rows found names clients kept own true has =
+      let ids = eqb-true row.id kept.id has in
+      let is : old ≡ kept = some_is old kept (sym found ∙ ap (λ id. row_of principal_id id rows) ids ∙ own) in
+      λ i. record {
+        id = ids i;
+        name = (names ∙ ap (λ kept. kept.name) is) i;
+        client_id = (clients ∙ ap (λ kept. kept.client_id) is) i;
+        digest = row.digest;
+      }
+
+pub replaced_principal : ReplacedPrincipalKeepsSound
+replaced_principal next_id access old row sound found names clients =
+    let rows = access.principals in
+    let known : knows principal_id row.id rows ≡ true = sym (is_some-row_of principal_id row.id rows) ∙ ap is_some found in
+    let owns = each-own principal_id rows (IdsDiffer-rising principal_id rows sound.principals.rise) in
+    let alike = map-each (λ kept. cond (has_id principal_id row.id kept) row kept) (alter_one row) rows (each-weaken (λ kept. row_of principal_id kept.id rows ≡ Some kept) (λ kept. cond (has_id principal_id row.id kept) row kept ≡ alter_one row kept) rows (λ kept own. is_altered row old rows found names clients kept own (has_id principal_id row.id kept) refl) owns) in
+    subst (λ after. IsSoundAccess next_id (record access { principals = after })) (sym (rows_with-known principal_id row rows known ∙ alike)) (altered_principals next_id access (alter_one row) (λ kept. refl) (λ kept. refl) (λ kept. refl) sound)
+
+-- members may be dropped where root's membership stays, and any joins and grants
+members_kept : (next_id : ℕ) (access : AccessRows) (keep : MemberRow → Bool) (sound : IsSoundAccess next_id access) → keep (record { principal = sound.root_chain.root.id; role = sound.root_chain.admin.id }) ≡ true
+    → IsSoundAccess next_id (record access { members = filter keep access.members })
+members_kept next_id access keep sound stays = record {
+  principals = sound.principals;
+  principal_roles = sound.principal_roles;
+  catalog_roles = sound.catalog_roles;
+  ids_differ = sound.ids_differ;
+  names_differ = sound.names_differ;
+  client_ids_differ = sound.client_ids_differ;
+  role_names_differ = sound.role_names_differ;
+  catalog_roles_known = roles_as next_id next_id access (record access { members = filter keep access.members }) (λ id under unknown. unknown) (λ id under unknown. unknown) access.catalog_roles (below-next catalog_role_id next_id access.catalog_roles sound.catalog_roles) sound.catalog_roles_known;
+  catalog_role_names_differ = sound.catalog_role_names_differ;
+  members_differ = distinct-kept (same member.the_row.coded) keep access.members sound.members_differ;
+  member_principals = each-filter (λ row. knows principal_id row.principal access.principals ≡ true) keep access.members sound.member_principals;
+  member_roles = each-filter (λ row. knows principal_role_id row.role access.principal_roles ≡ true) keep access.members sound.member_roles;
+  joins_differ = sound.joins_differ;
+  join_principal_roles = sound.join_principal_roles;
+  join_catalog_roles = sound.join_catalog_roles;
+  grants_differ = sound.grants_differ;
+  grants_known = grants_as next_id access (record access { members = filter keep access.members }) access.grants (roles_there next_id access access.grants sound.grants_known) sound.grants_known;
+  root_chain = record { root = sound.root_chain.root; admin = sound.root_chain.admin; root_there = sound.root_chain.root_there; admin_there = sound.root_chain.admin_there; member = holds-kept member.the_row.coded (record { principal = sound.root_chain.root.id; role = sound.root_chain.admin.id }) keep access.members stays sound.root_chain.member };
+  principals_bound = sound.principals_bound;
+  principal_roles_bound = sound.principal_roles_bound;
+  catalog_roles_bound = sound.catalog_roles_bound;
+  members_bound = length-kept keep access.members 100000 sound.members_bound;
+  joins_bound = sound.joins_bound;
+  grants_bound = sound.grants_bound;
+}
+
+joins_kept : (next_id : ℕ) (access : AccessRows) (keep : JoinRow → Bool) → IsSoundAccess next_id access → IsSoundAccess next_id (record access { joins = filter keep access.joins })
+joins_kept next_id access keep sound = record {
+  principals = sound.principals;
+  principal_roles = sound.principal_roles;
+  catalog_roles = sound.catalog_roles;
+  ids_differ = sound.ids_differ;
+  names_differ = sound.names_differ;
+  client_ids_differ = sound.client_ids_differ;
+  role_names_differ = sound.role_names_differ;
+  catalog_roles_known = roles_as next_id next_id access (record access { joins = filter keep access.joins }) (λ id under unknown. unknown) (λ id under unknown. unknown) access.catalog_roles (below-next catalog_role_id next_id access.catalog_roles sound.catalog_roles) sound.catalog_roles_known;
+  catalog_role_names_differ = sound.catalog_role_names_differ;
+  members_differ = sound.members_differ;
+  member_principals = sound.member_principals;
+  member_roles = sound.member_roles;
+  joins_differ = distinct-kept (same join.the_row.coded) keep access.joins sound.joins_differ;
+  join_principal_roles = each-filter (λ row. knows principal_role_id row.principal_role access.principal_roles ≡ true) keep access.joins sound.join_principal_roles;
+  join_catalog_roles = each-filter (λ row. knows catalog_role_id row.catalog_role access.catalog_roles ≡ true) keep access.joins sound.join_catalog_roles;
+  grants_differ = sound.grants_differ;
+  grants_known = grants_as next_id access (record access { joins = filter keep access.joins }) access.grants (roles_there next_id access access.grants sound.grants_known) sound.grants_known;
+  root_chain = record { root = sound.root_chain.root; admin = sound.root_chain.admin; root_there = sound.root_chain.root_there; admin_there = sound.root_chain.admin_there; member = sound.root_chain.member };
+  principals_bound = sound.principals_bound;
+  principal_roles_bound = sound.principal_roles_bound;
+  catalog_roles_bound = sound.catalog_roles_bound;
+  members_bound = sound.members_bound;
+  joins_bound = length-kept keep access.joins 100000 sound.joins_bound;
+  grants_bound = sound.grants_bound;
+}
+
+grants_kept : (next_id : ℕ) (access : AccessRows) (keep : GrantRow → Bool) → IsSoundAccess next_id access → IsSoundAccess next_id (record access { grants = filter keep access.grants })
+grants_kept next_id access keep sound = record {
+  principals = sound.principals;
+  principal_roles = sound.principal_roles;
+  catalog_roles = sound.catalog_roles;
+  ids_differ = sound.ids_differ;
+  names_differ = sound.names_differ;
+  client_ids_differ = sound.client_ids_differ;
+  role_names_differ = sound.role_names_differ;
+  catalog_roles_known = roles_as next_id next_id access (record access { grants = filter keep access.grants }) (λ id under unknown. unknown) (λ id under unknown. unknown) access.catalog_roles (below-next catalog_role_id next_id access.catalog_roles sound.catalog_roles) sound.catalog_roles_known;
+  catalog_role_names_differ = sound.catalog_role_names_differ;
+  members_differ = sound.members_differ;
+  member_principals = sound.member_principals;
+  member_roles = sound.member_roles;
+  joins_differ = sound.joins_differ;
+  join_principal_roles = sound.join_principal_roles;
+  join_catalog_roles = sound.join_catalog_roles;
+  grants_differ = distinct-kept (same grant.the_row.coded) keep access.grants sound.grants_differ;
+  grants_known = each-filter (IsGrantOf next_id (record access { grants = filter keep access.grants })) keep access.grants (grants_as next_id access (record access { grants = filter keep access.grants }) access.grants (roles_there next_id access access.grants sound.grants_known) sound.grants_known);
+  root_chain = record { root = sound.root_chain.root; admin = sound.root_chain.admin; root_there = sound.root_chain.root_there; admin_there = sound.root_chain.admin_there; member = sound.root_chain.member };
+  principals_bound = sound.principals_bound;
+  principal_roles_bound = sound.principal_roles_bound;
+  catalog_roles_bound = sound.catalog_roles_bound;
+  members_bound = sound.members_bound;
+  joins_bound = sound.joins_bound;
+  grants_bound = length-kept keep access.grants 100000 sound.grants_bound;
+}
+
+-- principals may be dropped where root stays and no member names them, and roles alike
+principals_kept : (next_id : ℕ) (access : AccessRows) (keep : PrincipalRow → Bool) (sound : IsSoundAccess next_id access) → keep sound.root_chain.root ≡ true
+    → AllByRecursion (λ row. knows principal_id row.principal (filter keep access.principals) ≡ true) access.members
+    → IsSoundAccess next_id (record access { principals = filter keep access.principals })
+principals_kept next_id access keep sound stays there = record {
+  principals = AreNumbered-filter principal_id next_id keep access.principals sound.principals;
+  principal_roles = sound.principal_roles;
+  catalog_roles = sound.catalog_roles;
+  ids_differ = each-filter (λ row. knows principal_role_id row.id access.principal_roles ≡ false) keep access.principals sound.ids_differ;
+  names_differ = images-kept bytes_eq principal_name keep access.principals sound.names_differ;
+  client_ids_differ = images-kept bytes_eq client_id_of keep access.principals sound.client_ids_differ;
+  role_names_differ = sound.role_names_differ;
+  catalog_roles_known = roles_as next_id next_id access (record access { principals = filter keep access.principals }) (λ id under unknown. any-fewer (has_id principal_id id) keep access.principals unknown) (λ id under unknown. unknown) access.catalog_roles (below-next catalog_role_id next_id access.catalog_roles sound.catalog_roles) sound.catalog_roles_known;
+  catalog_role_names_differ = sound.catalog_role_names_differ;
+  members_differ = sound.members_differ;
+  member_principals = there;
+  member_roles = sound.member_roles;
+  joins_differ = sound.joins_differ;
+  join_principal_roles = sound.join_principal_roles;
+  join_catalog_roles = sound.join_catalog_roles;
+  grants_differ = sound.grants_differ;
+  grants_known = grants_as next_id access (record access { principals = filter keep access.principals }) access.grants (roles_there next_id access access.grants sound.grants_known) sound.grants_known;
+  root_chain = record { root = sound.root_chain.root; admin = sound.root_chain.admin; root_there = find-kept (has_name (codes "root")) keep access.principals sound.root_chain.root sound.root_chain.root_there stays; admin_there = sound.root_chain.admin_there; member = sound.root_chain.member };
+  principals_bound = length-kept keep access.principals 10000 sound.principals_bound;
+  principal_roles_bound = sound.principal_roles_bound;
+  catalog_roles_bound = sound.catalog_roles_bound;
+  members_bound = sound.members_bound;
+  joins_bound = sound.joins_bound;
+  grants_bound = sound.grants_bound;
+}
+
+principal_roles_kept : (next_id : ℕ) (access : AccessRows) (keep : PrincipalRoleRow → Bool) (sound : IsSoundAccess next_id access) → keep sound.root_chain.admin ≡ true
+    → AllByRecursion (λ row. knows principal_role_id row.role (filter keep access.principal_roles) ≡ true) access.members
+    → AllByRecursion (λ row. knows principal_role_id row.principal_role (filter keep access.principal_roles) ≡ true) access.joins
+    → IsSoundAccess next_id (record access { principal_roles = filter keep access.principal_roles })
+principal_roles_kept next_id access keep sound stays members joins = record {
+  principals = sound.principals;
+  principal_roles = AreNumbered-filter principal_role_id next_id keep access.principal_roles sound.principal_roles;
+  catalog_roles = sound.catalog_roles;
+  ids_differ = each-weaken (λ row. knows principal_role_id row.id access.principal_roles ≡ false) (λ row. knows principal_role_id row.id (filter keep access.principal_roles) ≡ false) access.principals (λ row unknown. any-fewer (has_id principal_role_id row.id) keep access.principal_roles unknown) sound.ids_differ;
+  names_differ = sound.names_differ;
+  client_ids_differ = sound.client_ids_differ;
+  role_names_differ = images-kept bytes_eq principal_role_name keep access.principal_roles sound.role_names_differ;
+  catalog_roles_known = roles_as next_id next_id access (record access { principal_roles = filter keep access.principal_roles }) (λ id under unknown. unknown) (λ id under unknown. any-fewer (has_id principal_role_id id) keep access.principal_roles unknown) access.catalog_roles (below-next catalog_role_id next_id access.catalog_roles sound.catalog_roles) sound.catalog_roles_known;
+  catalog_role_names_differ = sound.catalog_role_names_differ;
+  members_differ = sound.members_differ;
+  member_principals = sound.member_principals;
+  member_roles = members;
+  joins_differ = sound.joins_differ;
+  join_principal_roles = joins;
+  join_catalog_roles = sound.join_catalog_roles;
+  grants_differ = sound.grants_differ;
+  grants_known = grants_as next_id access (record access { principal_roles = filter keep access.principal_roles }) access.grants (roles_there next_id access access.grants sound.grants_known) sound.grants_known;
+  root_chain = record { root = sound.root_chain.root; admin = sound.root_chain.admin; root_there = sound.root_chain.root_there; admin_there = find-kept (has_role_name (codes "service_admin")) keep access.principal_roles sound.root_chain.admin sound.root_chain.admin_there stays; member = sound.root_chain.member };
+  principals_bound = sound.principals_bound;
+  principal_roles_bound = length-kept keep access.principal_roles 10000 sound.principal_roles_bound;
+  catalog_roles_bound = sound.catalog_roles_bound;
+  members_bound = sound.members_bound;
+  joins_bound = sound.joins_bound;
+  grants_bound = sound.grants_bound;
+}
+
+catalog_roles_kept : (next_id : ℕ) (access : AccessRows) (keep : CatalogRoleRow → Bool) → IsSoundAccess next_id access
+    → AllByRecursion (λ row. knows catalog_role_id row.catalog_role (filter keep access.catalog_roles) ≡ true) access.joins
+    → AllByRecursion (λ row. knows catalog_role_id row.catalog_role (filter keep access.catalog_roles) ≡ true) access.grants
+    → IsSoundAccess next_id (record access { catalog_roles = filter keep access.catalog_roles })
+catalog_roles_kept next_id access keep sound joins grants = record {
+  principals = sound.principals;
+  principal_roles = sound.principal_roles;
+  catalog_roles = AreNumbered-filter catalog_role_id next_id keep access.catalog_roles sound.catalog_roles;
+  ids_differ = sound.ids_differ;
+  names_differ = sound.names_differ;
+  client_ids_differ = sound.client_ids_differ;
+  role_names_differ = sound.role_names_differ;
+  catalog_roles_known = each-filter (IsCatalogRoleOf next_id (record access { catalog_roles = filter keep access.catalog_roles })) keep access.catalog_roles (roles_as next_id next_id access (record access { catalog_roles = filter keep access.catalog_roles }) (λ id under unknown. unknown) (λ id under unknown. unknown) access.catalog_roles (below-next catalog_role_id next_id access.catalog_roles sound.catalog_roles) sound.catalog_roles_known);
+  catalog_role_names_differ = distinct-kept same_role_name keep access.catalog_roles sound.catalog_role_names_differ;
+  members_differ = sound.members_differ;
+  member_principals = sound.member_principals;
+  member_roles = sound.member_roles;
+  joins_differ = sound.joins_differ;
+  join_principal_roles = sound.join_principal_roles;
+  join_catalog_roles = joins;
+  grants_differ = sound.grants_differ;
+  grants_known = grants_as next_id access (record access { catalog_roles = filter keep access.catalog_roles }) access.grants grants sound.grants_known;
+  root_chain = record { root = sound.root_chain.root; admin = sound.root_chain.admin; root_there = sound.root_chain.root_there; admin_there = sound.root_chain.admin_there; member = sound.root_chain.member };
+  principals_bound = sound.principals_bound;
+  principal_roles_bound = sound.principal_roles_bound;
+  catalog_roles_bound = length-kept keep access.catalog_roles 10000 sound.catalog_roles_bound;
+  members_bound = sound.members_bound;
+  joins_bound = sound.joins_bound;
+  grants_bound = sound.grants_bound;
+}
+
+-- root and `service_admin` are the rows of their ids and have their names
+module _ (next_id : ℕ) (access : AccessRows) (sound : IsSoundAccess next_id access) where
+  other_than_root : (row : PrincipalRow) → row_of principal_id row.id access.principals ≡ Some row → (row.name ≡ codes "root" → ⊥) → (root : PrincipalRow) → principal_named (codes "root") access ≡ Some root → row.id ≡ root.id → ⊥
+  other_than_root row found other root there same =
+      let own = found-holds (has_name (codes "root")) (λ kept. row_of principal_id kept.id access.principals ≡ Some kept) access.principals root (each-own principal_id access.principals (IdsDiffer-rising principal_id access.principals sound.principals.rise)) there in
+      let is : row ≡ root = some_is row root (sym found ∙ ap (λ id. row_of principal_id id access.principals) same ∙ own) in
+      other (ap principal_name is ∙ sym (same_text (codes "root") root.name (sym (found-passes (has_name (codes "root")) access.principals root there))))
+
+  other_than_admin : (row : PrincipalRoleRow) → row_of principal_role_id row.id access.principal_roles ≡ Some row → (row.name ≡ codes "service_admin" → ⊥) → (admin : PrincipalRoleRow) → principal_role_named (codes "service_admin") access ≡ Some admin → row.id ≡ admin.id → ⊥
+  other_than_admin row found other admin there same =
+      let own = found-holds (has_role_name (codes "service_admin")) (λ kept. row_of principal_role_id kept.id access.principal_roles ≡ Some kept) access.principal_roles admin (each-own principal_role_id access.principal_roles (IdsDiffer-rising principal_role_id access.principal_roles sound.principal_roles.rise)) there in
+      let is : row ≡ admin = some_is row admin (sym found ∙ ap (λ id. row_of principal_role_id id access.principal_roles) same ∙ own) in
+      other (ap principal_role_name is ∙ sym (same_text (codes "service_admin") admin.name (sym (found-passes (has_role_name (codes "service_admin")) access.principal_roles admin there))))
+
+-- numbers that differ, either way round
+differ-test : (left right : ℕ) → (left ≡ right → ⊥) → not (nat_eq left right) ≡ true
+differ-test left right apart = ap not (ne_eqb left right apart)
+
+pub dropped_principal : DroppedPrincipalKeepsSound
+unfolding rows_without
+dropped_principal next_id access row sound found other =
+    let apart = other_than_root next_id access sound row found other in
+    let without : List MemberRow = filter (λ kept. not (kept.principal == row.id)) access.members in
+    let cut = members_kept next_id access (λ kept. not (kept.principal == row.id)) sound (differ-test sound.root_chain.root.id row.id (λ same. apart sound.root_chain.root sound.root_chain.root_there (sym same))) in
+    principals_kept next_id (record access { members = without }) (λ kept. not (has_id principal_id row.id kept)) cut (differ-test row.id cut.root_chain.root.id (apart cut.root_chain.root cut.root_chain.root_there))
+    (each-stays (λ kept. knows principal_id kept.principal access.principals ≡ true) (λ kept. knows principal_id kept.principal (filter (λ one. not (has_id principal_id row.id one)) access.principals) ≡ true) (λ kept. not (kept.principal == row.id)) access.members (λ kept there stays. knows-others principal_id kept.principal row.id access.principals stays there) sound.member_principals)
+
+pub dropped_principal_role : DroppedPrincipalRoleKeepsSound
+unfolding rows_without
+dropped_principal_role next_id access row sound found other =
+    let apart = other_than_admin next_id access sound row found other in
+    let members : List MemberRow = filter (λ kept. not (kept.role == row.id)) access.members in
+    let joins : List JoinRow = filter (λ kept. not (kept.principal_role == row.id)) access.joins in
+    let first = members_kept next_id access (λ kept. not (kept.role == row.id)) sound (differ-test sound.root_chain.admin.id row.id (λ same. apart sound.root_chain.admin sound.root_chain.admin_there (sym same))) in
+    let cut = joins_kept next_id (record access { members = members }) (λ kept. not (kept.principal_role == row.id)) first in
+    principal_roles_kept next_id (record access { members = members; joins = joins }) (λ kept. not (has_id principal_role_id row.id kept)) cut (differ-test row.id cut.root_chain.admin.id (apart cut.root_chain.admin cut.root_chain.admin_there))
+    (each-stays (λ kept. knows principal_role_id kept.role access.principal_roles ≡ true) (λ kept. knows principal_role_id kept.role (filter (λ one. not (has_id principal_role_id row.id one)) access.principal_roles) ≡ true) (λ kept. not (kept.role == row.id)) access.members (λ kept there stays. knows-others principal_role_id kept.role row.id access.principal_roles stays there) sound.member_roles)
+    (each-stays (λ kept. knows principal_role_id kept.principal_role access.principal_roles ≡ true) (λ kept. knows principal_role_id kept.principal_role (filter (λ one. not (has_id principal_role_id row.id one)) access.principal_roles) ≡ true) (λ kept. not (kept.principal_role == row.id)) access.joins (λ kept there stays. knows-others principal_role_id kept.principal_role row.id access.principal_roles stays there) sound.join_principal_roles)
+
+not-true : (b : Bool) → not b ≡ true → b ≡ false
+not-true true is = sym is
+not-true false is = refl
+
+-- catalogue roles may be dropped with the joins and grants that name them
+roles_gone : (next_id : ℕ) (access : AccessRows) (gone : ℕ → Bool) (keep : CatalogRoleRow → Bool) → IsSoundAccess next_id access → AllByRecursion (λ row. gone row.id ≡ false → keep row ≡ true) access.catalog_roles
+    → IsSoundAccess next_id (record access { catalog_roles = filter keep access.catalog_roles; joins = filter (λ row. not (gone row.catalog_role)) access.joins; grants = filter (λ row. not (gone row.catalog_role)) access.grants })
+roles_gone next_id access gone keep sound agree =
+    let joins : List JoinRow = filter (λ row. not (gone row.catalog_role)) access.joins in
+    let grants : List GrantRow = filter (λ row. not (gone row.catalog_role)) access.grants in
+    let first = joins_kept next_id access (λ row. not (gone row.catalog_role)) sound in
+    let cut = grants_kept next_id (record access { joins = joins }) (λ row. not (gone row.catalog_role)) first in
+    catalog_roles_kept next_id (record access { joins = joins; grants = grants }) keep cut
+    (each-stays (λ row. knows catalog_role_id row.catalog_role access.catalog_roles ≡ true) (λ row. knows catalog_role_id row.catalog_role (filter keep access.catalog_roles) ≡ true) (λ row. not (gone row.catalog_role)) access.joins (λ row there stays. still row.catalog_role there stays) sound.join_catalog_roles)
+    (each-stays (λ row. knows catalog_role_id row.catalog_role access.catalog_roles ≡ true) (λ row. knows catalog_role_id row.catalog_role (filter keep access.catalog_roles) ≡ true) (λ row. not (gone row.catalog_role)) access.grants (λ row there stays. still row.catalog_role there stays) (roles_there next_id access access.grants sound.grants_known))
+  where
+    still : (id : ℕ) → knows catalog_role_id id access.catalog_roles ≡ true → not (gone id) ≡ true → knows catalog_role_id id (filter keep access.catalog_roles) ≡ true
+    still id there stays =
+        knows-kept catalog_role_id id keep access.catalog_roles (each-weaken (λ row. gone row.id ≡ false → keep row ≡ true) (λ row. catalog_role_id row ≡ id → keep row ≡ true) access.catalog_roles (λ row keeps is. keeps (ap gone is ∙ not-true (gone id) stays)) agree) there
+
+pub dropped_catalog_roles : DroppedCatalogRolesKeepSound
+unfolding rows_without
+dropped_catalog_roles next_id id access sound = (
+  roles_gone next_id access (λ role. role == id) (λ row. not (has_id catalog_role_id id row)) sound (each-all (λ row. nat_eq row.id id ≡ false → not (nat_eq id row.id) ≡ true) access.catalog_roles (λ row apart. ap not (nat_eq_equiv.symm id row.id ∙ apart))),
+  roles_gone next_id access (is_role_of access.catalog_roles id) (λ row. not (row.catalog == id)) sound (each-weaken (λ row. row_of catalog_role_id row.id access.catalog_roles ≡ Some row) (λ row. is_role_of access.catalog_roles id row.id ≡ false → not (row.catalog == id) ≡ true) access.catalog_roles (λ row own apart. ap not (sym (ap (is_of_catalog id) own) ∙ apart)) (each-own catalog_role_id access.catalog_roles (IdsDiffer-rising catalog_role_id access.catalog_roles sound.catalog_roles.rise))),
+)
+
+pub put_member : PutMemberKeepsSound
+put_member next_id access row sound principal role room = record {
+  principals = sound.principals;
+  principal_roles = sound.principal_roles;
+  catalog_roles = sound.catalog_roles;
+  ids_differ = sound.ids_differ;
+  names_differ = sound.names_differ;
+  client_ids_differ = sound.client_ids_differ;
+  role_names_differ = sound.role_names_differ;
+  catalog_roles_known = roles_as next_id next_id access (record access { members = facts_with member.the_row.coded row access.members }) (λ id under unknown. unknown) (λ id under unknown. unknown) access.catalog_roles (below-next catalog_role_id next_id access.catalog_roles sound.catalog_roles) sound.catalog_roles_known;
+  catalog_role_names_differ = sound.catalog_role_names_differ;
+  members_differ = distinct-with member.the_row.coded row access.members sound.members_differ;
+  member_principals = each-with member.the_row.coded (λ kept. knows principal_id kept.principal access.principals ≡ true) row access.members sound.member_principals principal;
+  member_roles = each-with member.the_row.coded (λ kept. knows principal_role_id kept.role access.principal_roles ≡ true) row access.members sound.member_roles role;
+  joins_differ = sound.joins_differ;
+  join_principal_roles = sound.join_principal_roles;
+  join_catalog_roles = sound.join_catalog_roles;
+  grants_differ = sound.grants_differ;
+  grants_known = grants_as next_id access (record access { members = facts_with member.the_row.coded row access.members }) access.grants (roles_there next_id access access.grants sound.grants_known) sound.grants_known;
+  root_chain = record { root = sound.root_chain.root; admin = sound.root_chain.admin; root_there = sound.root_chain.root_there; admin_there = sound.root_chain.admin_there; member = holds-with member.the_row.coded (record { principal = sound.root_chain.root.id; role = sound.root_chain.admin.id }) row access.members sound.root_chain.member };
+  principals_bound = sound.principals_bound;
+  principal_roles_bound = sound.principal_roles_bound;
+  catalog_roles_bound = sound.catalog_roles_bound;
+  members_bound = room;
+  joins_bound = sound.joins_bound;
+  grants_bound = sound.grants_bound;
+}
+
+pub dropped_member : DroppedMemberKeepsSound
+unfolding facts_without
+dropped_member next_id access principal role sound found there other =
+    let gone : MemberRow = record { principal = principal.id; role = role.id } in
+    let kept : MemberRow = record { principal = sound.root_chain.root.id; role = sound.root_chain.admin.id } in
+    members_kept next_id access (λ one. not (same member.the_row.coded gone one)) sound
+    (ap not (same-differ member.the_row.coded gone kept (λ is. other_than_root next_id access sound principal found (λ named. other_than_admin next_id access sound role there (other named) sound.root_chain.admin sound.root_chain.admin_there (ap (λ (one : MemberRow). one.role) is)) sound.root_chain.root sound.root_chain.root_there (ap (λ (one : MemberRow). one.principal) is))))
+
+pub put_join : PutJoinKeepsSound
+put_join next_id access row sound principal_role catalog_role room = record {
+  principals = sound.principals;
+  principal_roles = sound.principal_roles;
+  catalog_roles = sound.catalog_roles;
+  ids_differ = sound.ids_differ;
+  names_differ = sound.names_differ;
+  client_ids_differ = sound.client_ids_differ;
+  role_names_differ = sound.role_names_differ;
+  catalog_roles_known = roles_as next_id next_id access (record access { joins = facts_with join.the_row.coded row access.joins }) (λ id under unknown. unknown) (λ id under unknown. unknown) access.catalog_roles (below-next catalog_role_id next_id access.catalog_roles sound.catalog_roles) sound.catalog_roles_known;
+  catalog_role_names_differ = sound.catalog_role_names_differ;
+  members_differ = sound.members_differ;
+  member_principals = sound.member_principals;
+  member_roles = sound.member_roles;
+  joins_differ = distinct-with join.the_row.coded row access.joins sound.joins_differ;
+  join_principal_roles = each-with join.the_row.coded (λ kept. knows principal_role_id kept.principal_role access.principal_roles ≡ true) row access.joins sound.join_principal_roles principal_role;
+  join_catalog_roles = each-with join.the_row.coded (λ kept. knows catalog_role_id kept.catalog_role access.catalog_roles ≡ true) row access.joins sound.join_catalog_roles catalog_role;
+  grants_differ = sound.grants_differ;
+  grants_known = grants_as next_id access (record access { joins = facts_with join.the_row.coded row access.joins }) access.grants (roles_there next_id access access.grants sound.grants_known) sound.grants_known;
+  root_chain = record { root = sound.root_chain.root; admin = sound.root_chain.admin; root_there = sound.root_chain.root_there; admin_there = sound.root_chain.admin_there; member = sound.root_chain.member };
+  principals_bound = sound.principals_bound;
+  principal_roles_bound = sound.principal_roles_bound;
+  catalog_roles_bound = sound.catalog_roles_bound;
+  members_bound = sound.members_bound;
+  joins_bound = room;
+  grants_bound = sound.grants_bound;
+}
+
+pub dropped_join : DroppedJoinKeepsSound
+unfolding facts_without
+dropped_join next_id access row sound = joins_kept next_id access (λ kept. not (same join.the_row.coded row kept)) sound
+
+pub put_grant : PutGrantKeepsSound
+put_grant next_id access row sound known room = record {
+  principals = sound.principals;
+  principal_roles = sound.principal_roles;
+  catalog_roles = sound.catalog_roles;
+  ids_differ = sound.ids_differ;
+  names_differ = sound.names_differ;
+  client_ids_differ = sound.client_ids_differ;
+  role_names_differ = sound.role_names_differ;
+  catalog_roles_known = roles_as next_id next_id access (record access { grants = facts_with grant.the_row.coded row access.grants }) (λ id under unknown. unknown) (λ id under unknown. unknown) access.catalog_roles (below-next catalog_role_id next_id access.catalog_roles sound.catalog_roles) sound.catalog_roles_known;
+  catalog_role_names_differ = sound.catalog_role_names_differ;
+  members_differ = sound.members_differ;
+  member_principals = sound.member_principals;
+  member_roles = sound.member_roles;
+  joins_differ = sound.joins_differ;
+  join_principal_roles = sound.join_principal_roles;
+  join_catalog_roles = sound.join_catalog_roles;
+  grants_differ = distinct-with grant.the_row.coded row access.grants sound.grants_differ;
+  grants_known = each-with grant.the_row.coded (IsGrantOf next_id (record access { grants = facts_with grant.the_row.coded row access.grants })) row access.grants (grants_as next_id access (record access { grants = facts_with grant.the_row.coded row access.grants }) access.grants (roles_there next_id access access.grants sound.grants_known) sound.grants_known) (record { role = known.role; securable = known.securable; allowed = known.allowed });
+  root_chain = record { root = sound.root_chain.root; admin = sound.root_chain.admin; root_there = sound.root_chain.root_there; admin_there = sound.root_chain.admin_there; member = sound.root_chain.member };
+  principals_bound = sound.principals_bound;
+  principal_roles_bound = sound.principal_roles_bound;
+  catalog_roles_bound = sound.catalog_roles_bound;
+  members_bound = sound.members_bound;
+  joins_bound = sound.joins_bound;
+  grants_bound = room;
+}
+
+pub dropped_grants : DroppedGrantsKeepSound
+unfolding facts_without
+dropped_grants next_id access sound = (
+  λ row. grants_kept next_id access (λ kept. not (same grant.the_row.coded row kept)) sound,
+  λ gone. grants_kept next_id access (λ kept. not (same securable_code.the_row.coded kept.securable gone)) sound,
+)
