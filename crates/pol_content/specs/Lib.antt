@@ -4,3 +4,4 @@ pub mod Numbers
 pub mod Order
 pub mod Rows
 pub mod Sound
+pub mod Ties
