@@ -1,3 +1,4 @@
+pub mod ChainLemmas
 mod NamesLemmas
 pub mod OrderLemmas
 pub mod SoundLemmas

@@ -1,3 +1,4 @@
+pub mod Chain
 pub mod Content
 pub mod Laws
 pub mod Numbers

@@ -18,12 +18,12 @@ use Rattle.pol_tables.specs.Table.{knows, row_of, rows_with}
 use Rattle.pol_content.specs.Content.{ContentRows, catalog_id, namespace_id}
 
 -- the catalogue in which a securable that is there lies: a catalogue lies in itself, the realm in none
-abbrev pub catalog_of : ContentRows → Securable → Option ℕ
-catalog_of content securable.Realm = None
-catalog_of content (securable.Catalog id) = option_map (λ row. row.id) (row_of catalog_id id content.catalogs)
-catalog_of content (securable.Namespace id) = option_map (λ row. row.catalog) (row_of namespace_id id content.namespaces)
-catalog_of content (securable.Table id) = None
-catalog_of content (securable.View id) = None
+abbrev pub catalog_of : Securable → ContentRows → Option ℕ
+catalog_of securable.Realm content = None
+catalog_of (securable.Catalog id) content = option_map (λ row. row.id) (row_of catalog_id id content.catalogs)
+catalog_of (securable.Namespace id) content = option_map (λ row. row.catalog) (row_of namespace_id id content.namespaces)
+catalog_of (securable.Table id) content = None
+catalog_of (securable.View id) content = None
 
 -- whether a row of principals and roles has this id, and whether one of catalogues and namespaces has
 abbrev pub is_access_id : ℕ → AccessRows → Bool
@@ -37,7 +37,7 @@ is_content_id id content = knows catalog_id id content.catalogs || knows namespa
 pub record IsGrantWithin (access : AccessRows) (content : ContentRows) (row : GrantRow) : Type 0 where
   pub role : CatalogRoleRow
   pub there : row_of catalog_role_id row.catalog_role access.catalog_roles ≡ Some role
-  pub within : catalog_of content row.securable ≡ Some role.catalog
+  pub within : catalog_of row.securable content ≡ Some role.catalog
 
 -- whether the catalogue role has the privilege on the catalogue
 abbrev pub manages : Privilege → ℕ → ℕ → AccessRows → Bool

@@ -1,6 +1,7 @@
 //! Catalogues and namespaces, each found by its name without a scan, and the changes of a state.
 #![tactic(auto)]
 
+mod chain;
 mod change;
 mod content;
 pub mod laws;

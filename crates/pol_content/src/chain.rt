@@ -1,0 +1,101 @@
+ghost use Rattle.std.specs.Prelude.{◌≡◌, ◌++◌, IfOk, OnOk, option_to_list};
+ghost use Rattle.pol_content.specs.Chain.{chain_of, deepest, namespace_at, namespaces_out, uppers_of};
+ghost use Rattle.pol_content.specs.Content.{NamespaceNamesDiffer};
+
+use crate::{Content, NamespaceRow};
+use pol_access::Securable;
+use pol_names::Namespace;
+use pol_types::OutOfMemory;
+use std::alloc::Global;
+
+impl Content {
+    /// The securable and all that contain it, itself first and then outwards: after a namespace come those in which it
+    /// stands, from the nearest out, and its catalogue. Nothing contains a catalogue, the realm, or what isn't there.
+    /// It scans no rows.
+    pub fn chain(&self, alloc: Global, of: Securable) -> Result<Vec<Securable>, OutOfMemory>
+        ensures { NamespaceNamesDiffer self.now.rows.namespaces → IfOk result (λ chain. chain.items ≡ chain_of of self.now.rows) }
+    {
+        let mut chain = Vec::new(alloc);
+        chain.push(of)?;
+        if let Securable::Namespace(id) = of {
+            if let Some(row) = self.namespace_of(id) {
+                self.push_uppers(alloc, row, &mut chain)?;
+            }
+        }
+        Ok(chain)
+    }
+
+    /// The deepest part of a path that is there: the namespace of the most of the first levels that the catalogue has,
+    /// else the catalogue. It scans no rows.
+    pub fn deepest(
+        &self,
+        alloc: Global,
+        catalog: u64,
+        levels: &Namespace,
+    ) -> Result<Securable, OutOfMemory>
+        ensures { NamespaceNamesDiffer self.now.rows.namespaces → IfOk result (λ part. part ≡ deepest catalog levels.now self.now.rows) }
+    {
+        let depth = levels.levels().len();
+        for fewer in 0..depth {
+            let path = levels.ancestor(alloc, depth - fewer)?;
+            if let Some(namespace) = self.namespace_at(catalog, &path) {
+                return Ok(namespace);
+            }
+        }
+        Ok(Securable::Catalog(catalog))
+    }
+
+    /// Pushes what contains a namespace, from the nearest out.
+    fn push_uppers(
+        &self,
+        alloc: Global,
+        row: &NamespaceRow,
+        chain: &mut Vec<Securable>,
+    ) -> Result<(), OutOfMemory>
+        ensures { NamespaceNamesDiffer self.now.rows.namespaces → OnOk result (chain.new.items ≡ chain.old.items ++ uppers_of row.now self.now.rows) }
+    {
+        if let Some(parent) = row.levels.parent(alloc)? {
+            self.push_namespaces(alloc, row.catalog, &parent, chain)?;
+        }
+        chain.push(Securable::Catalog(row.catalog))?;
+        Ok(())
+    }
+
+    /// Pushes the namespace of these levels and those in which it stands, where they are there, from the deepest out.
+    fn push_namespaces(
+        &self,
+        alloc: Global,
+        catalog: u64,
+        levels: &Namespace,
+        chain: &mut Vec<Securable>,
+    ) -> Result<(), OutOfMemory>
+        ensures { NamespaceNamesDiffer self.now.rows.namespaces → OnOk result (chain.new.items ≡ chain.old.items ++ namespaces_out catalog levels.now self.now.rows) }
+    {
+        let depth = levels.levels().len();
+        for fewer in 0..depth {
+            let path = levels.ancestor(alloc, depth - fewer)?;
+            push_found(self.namespace_at(catalog, &path), chain)?;
+        }
+        Ok(())
+    }
+
+    /// The namespace of this catalogue with these levels, as a securable.
+    fn namespace_at(&self, catalog: u64, levels: &Namespace) -> Option<Securable>
+        ensures { NamespaceNamesDiffer self.now.rows.namespaces → result ≡ namespace_at catalog self.now.rows levels.now }
+    {
+        match self.namespace(catalog, levels) {
+            Some(row) => Some(Securable::Namespace(row.id)),
+            None => None,
+        }
+    }
+}
+
+/// Pushes what was found, where there is something.
+fn push_found(found: Option<Securable>, chain: &mut Vec<Securable>) -> Result<(), OutOfMemory>
+    ensures { OnOk result (chain.new.items ≡ chain.old.items ++ option_to_list found) }
+{
+    if let Some(securable) = found {
+        chain.push(securable)?;
+    }
+    Ok(())
+}
