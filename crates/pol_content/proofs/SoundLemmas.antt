@@ -88,7 +88,7 @@ same_namespace-equiv : IsEquivalence same_namespace
 same_namespace-equiv = and_equiv (on_equiv (λ row. row.catalog) nat_eq_equiv) (on_equiv (λ row. row.levels) (lists_equiv nat_list_eq_equiv))
 
 -- an id of a longer list
-knows-push : {R : Type 0} (key : R → ℕ) (id : ℕ) (row : R) (rows : List R) → knows key id (rows ++ row ∷ []) ≡ (knows key id rows || has_id key id row)
+pub knows-push : {R : Type 0} (key : R → ℕ) (id : ℕ) (row : R) (rows : List R) → knows key id (rows ++ row ∷ []) ≡ (knows key id rows || has_id key id row)
 knows-push key id row [] = or_last (has_id key id row)
   where
     or_last : (b : Bool) → (b || false) ≡ b
@@ -118,7 +118,7 @@ module _ {X : Type 0} (test : X → Bool) where
   any-alike alter alike [] = refl
   any-alike alter alike (x ∷ xs) = λ i. alike x i || any-alike alter alike xs i
 
-  any-fewer : (keep : X → Bool) (xs : List X) → list_any test xs ≡ false → list_any test (filter keep xs) ≡ false
+  pub any-fewer : (keep : X → Bool) (xs : List X) → list_any test xs ≡ false → list_any test (filter keep xs) ≡ false
   any-fewer keep [] none = refl
   any-fewer keep (x ∷ xs) none = elim (cases_Bool (test x)) [
     | inl passes ↦ absurd (true≢false (sym (ap (λ b. b || list_any test xs) passes) ∙ none))

@@ -1,11 +1,28 @@
--- Laws of sound catalogues and namespaces.
-use Rattle.std.specs.Prelude.{◌≡◌, ◌+◌, ◌<◌, ◌≤◌, ℕ, true, List, [], ◌∷◌, ◌++◌, length, map, Some, None}
+-- Laws of sound catalogues and namespaces, of chains, and of what ties principals and roles to them.
+use Rattle.std.specs.Prelude.{◌≡◌, ◌≢◌, ◌⊎◌, ◌↔◌, ◌+◌, ◌<◌, ◌≤◌, ℕ, true, false, List, [], ◌∷◌, ◌++◌, length, map, Contains, Some, None, codes}
+use Rattle.std.specs.List.{AllByRecursion}
 use Rattle.std.specs.List.Sorted.{IsPermutation, IsSortedBy}
+use Rattle.pol_access.specs.Access.{AccessRows, catalog_role_dropped, catalog_role_id, catalog_roles_dropped, grants_on_dropped, principal_dropped, principal_id, principal_role_dropped, principal_role_id}
+use Rattle.pol_access.specs.Names.{principal_role_named}
+use Rattle.pol_access.specs.contracts.rows.GrantRow as grant
+use Rattle.pol_access.specs.contracts.rows.JoinRow as join
+use Rattle.pol_access.specs.declared.privilege.Privilege.TheVariants.{CatalogManageAccess, CatalogManageContent}
+use Rattle.pol_access.specs.declared.rows.CatalogRoleRow.{CatalogRoleRow}
+use Rattle.pol_access.specs.declared.rows.GrantRow.{GrantRow}
+use Rattle.pol_access.specs.declared.rows.JoinRow.{JoinRow}
+use Rattle.pol_access.specs.declared.rows.MemberRow.{MemberRow}
+use Rattle.pol_access.specs.declared.rows.PrincipalRow.{PrincipalRow}
+use Rattle.pol_access.specs.declared.rows.PrincipalRoleRow.{PrincipalRoleRow}
+use Rattle.pol_access.specs.declared.securable.Securable.{Securable}
+use Rattle.pol_access.specs.declared.securable.Securable.TheVariants.{Catalog, Namespace}
 use Rattle.pol_names.specs.Namespace.{parent_of}
-use Rattle.pol_tables.specs.Table.{knows, row_of, rows_with, rows_without}
-use Rattle.pol_content.specs.Content.{ContentRows, catalog_id, catalog_is_empty, catalog_named, first_missing, is_empty, namespace_id, namespace_named}
+use Rattle.pol_tables.specs.Facts.{facts_with, facts_without}
+use Rattle.pol_tables.specs.Table.{knows, row_of, rows_with, rows_without, IdsDiffer}
+use Rattle.pol_content.specs.Chain.{Encloses, chain_of}
+use Rattle.pol_content.specs.Content.{ContentRows, NamespaceNamesDiffer, catalog_id, catalog_is_empty, catalog_named, first_missing, is_empty, namespace_id, namespace_named}
 use Rattle.pol_content.specs.Order.{are_levels_less, by_levels, by_name, is_name_less}
 use Rattle.pol_content.specs.Sound.{HasParent, IsSmallCatalog, IsSmallNamespace, IsSoundContent}
+use Rattle.pol_content.specs.Ties.{AreTied, IsGrantWithin, is_access_id, is_content_id, with_admin}
 use Rattle.pol_content.specs.declared.rows.CatalogRow.{CatalogRow}
 use Rattle.pol_content.specs.declared.rows.NamespaceRow.{NamespaceRow}
 
@@ -79,3 +96,90 @@ abbrev pub ListsAreInOrder : Type 0
 ListsAreInOrder =
     ((rows : List CatalogRow) → IsPermutation rows (by_name rows) × IsSortedBy is_name_less (by_name rows))
     × ((rows : List NamespaceRow) → IsPermutation rows (by_levels rows) × IsSortedBy are_levels_less (by_levels rows))
+
+-- a chain has the securable and what contains it, and nothing else, where each namespace has a level
+abbrev pub ChainsHaveWhatContains : Type 0
+ChainsHaveWhatContains =
+    (content : ContentRows) (of one : Securable) → IdsDiffer namespace_id content.namespaces → NamespaceNamesDiffer content.namespaces
+    → AllByRecursion (λ row. 0 < length row.levels) content.namespaces → Contains (chain_of of content) one ↔ ((one ≡ of) ⊎ Encloses content one of)
+
+-- an id that was not given out is no catalogue's and no namespace's
+abbrev pub NewIdsAreNoContents : Type 0
+NewIdsAreNoContents = (next_id id : ℕ) (content : ContentRows) → IsSoundContent next_id content → next_id ≤ id → is_content_id id content ≡ false
+
+-- what holds of rows that are tied
+abbrev OfTied : (AccessRows → ContentRows → Type 0) → Type 0
+OfTied Law = (access : AccessRows) (content : ContentRows) → AreTied access content → Law access content
+
+-- a principal may be put whose id is no catalogue's and no namespace's, and any may be dropped
+abbrev pub PutPrincipalKeepsTies : Type 0
+PutPrincipalKeepsTies = OfTied (λ access content. (row : PrincipalRow) → is_content_id row.id content ≡ false
+    → AreTied (record access { principals = rows_with principal_id row access.principals }) content)
+
+abbrev pub DroppedPrincipalKeepsTies : Type 0
+DroppedPrincipalKeepsTies = OfTied (λ access content. (id : ℕ) → AreTied (principal_dropped id access) content)
+
+-- a new principal role may be pushed whose id is no catalogue's and no namespace's
+abbrev pub PushedPrincipalRoleKeepsTies : Type 0
+PushedPrincipalRoleKeepsTies = OfTied (λ access content. (row : PrincipalRoleRow) → knows principal_role_id row.id access.principal_roles ≡ false → is_content_id row.id content ≡ false
+    → AreTied (record access { principal_roles = rows_with principal_role_id row access.principal_roles }) content)
+
+-- a principal role other than `service_admin` may be dropped
+abbrev pub DroppedPrincipalRoleKeepsTies : Type 0
+DroppedPrincipalRoleKeepsTies = OfTied (λ access content. (row : PrincipalRoleRow) → IdsDiffer principal_role_id access.principal_roles → row_of principal_role_id row.id access.principal_roles ≡ Some row
+    → row.name ≢ codes "service_admin" → AreTied (principal_role_dropped row.id access) content)
+
+-- a catalogue may be created, with its `catalog_admin`, where its id and the one after it are new
+abbrev pub CreatedCatalogKeepsTies : Type 0
+CreatedCatalogKeepsTies = OfTied (λ access content. (row : CatalogRow) (service : PrincipalRoleRow) → principal_role_named (codes "service_admin") access ≡ Some service
+    → is_content_id row.id content ≡ false → is_content_id (row.id + 1) content ≡ false → is_access_id row.id access ≡ false → is_access_id (row.id + 1) access ≡ false
+    → AreTied (with_admin row.id service.id access) (record content { catalogs = rows_with catalog_id row content.catalogs }))
+
+-- a catalogue may be dropped with its roles
+abbrev pub DroppedCatalogKeepsTies : Type 0
+DroppedCatalogKeepsTies = OfTied (λ access content. (id : ℕ) → IdsDiffer catalog_role_id access.catalog_roles
+    → AreTied (catalog_roles_dropped id access) (record content { catalogs = rows_without catalog_id id content.catalogs }))
+
+-- a namespace may be put, a new one or one that stays in its catalogue, whose id is no principal's and no role's
+abbrev pub PutNamespaceKeepsTies : Type 0
+PutNamespaceKeepsTies = OfTied (λ access content. (row : NamespaceRow) → ((old : NamespaceRow) → row_of namespace_id row.id content.namespaces ≡ Some old → row.catalog ≡ old.catalog)
+    → is_access_id row.id access ≡ false → AreTied access (record content { namespaces = rows_with namespace_id row content.namespaces }))
+
+-- a namespace may be dropped with the grants on it
+abbrev pub DroppedNamespaceKeepsTies : Type 0
+DroppedNamespaceKeepsTies = OfTied (λ access content. (id : ℕ) → AreTied (grants_on_dropped (Namespace id) access) (record content { namespaces = rows_without namespace_id id content.namespaces }))
+
+-- a new role of a catalogue that is there may be pushed, whose id is no catalogue's and no namespace's
+abbrev pub PushedCatalogRoleKeepsTies : Type 0
+PushedCatalogRoleKeepsTies = OfTied (λ access content. (row : CatalogRoleRow) → knows catalog_role_id row.id access.catalog_roles ≡ false → is_content_id row.id content ≡ false
+    → knows catalog_id row.catalog content.catalogs ≡ true → AreTied (record access { catalog_roles = rows_with catalog_role_id row access.catalog_roles }) content)
+
+-- a catalogue role other than a `catalog_admin` may be dropped
+abbrev pub DroppedCatalogRoleKeepsTies : Type 0
+DroppedCatalogRoleKeepsTies = OfTied (λ access content. (row : CatalogRoleRow) → IdsDiffer catalog_role_id access.catalog_roles → row_of catalog_role_id row.id access.catalog_roles ≡ Some row
+    → row.name ≢ codes "catalog_admin" → AreTied (catalog_role_dropped row.id access) content)
+
+-- members may be put and dropped
+abbrev pub MembersKeepTies : Type 0
+MembersKeepTies = OfTied (λ access content. (members : List MemberRow) → AreTied (record access { members = members }) content)
+
+-- a join may be put, and one other than of `service_admin` to a `catalog_admin` may be dropped
+abbrev pub PutJoinKeepsTies : Type 0
+PutJoinKeepsTies = OfTied (λ access content. (row : JoinRow) → AreTied (record access { joins = facts_with join.the_row.coded row access.joins }) content)
+
+abbrev pub DroppedJoinKeepsTies : Type 0
+DroppedJoinKeepsTies = OfTied (λ access content. (principal_role : PrincipalRoleRow) (catalog_role : CatalogRoleRow) → IdsDiffer principal_role_id access.principal_roles → IdsDiffer catalog_role_id access.catalog_roles
+    → row_of principal_role_id principal_role.id access.principal_roles ≡ Some principal_role → row_of catalog_role_id catalog_role.id access.catalog_roles ≡ Some catalog_role
+    → (principal_role.name ≡ codes "service_admin" → catalog_role.name ≢ codes "catalog_admin")
+    → AreTied (record access { joins = facts_without join.the_row.coded (record { principal_role = principal_role.id; catalog_role = catalog_role.id }) access.joins }) content)
+
+-- a grant on what lies in its role's catalogue may be put, and one other than the two of a `catalog_admin` on its
+-- catalogue may be dropped
+abbrev pub PutGrantKeepsTies : Type 0
+PutGrantKeepsTies = OfTied (λ access content. (row : GrantRow) → IsGrantWithin access content row
+    → AreTied (record access { grants = facts_with grant.the_row.coded row access.grants }) content)
+
+abbrev pub DroppedGrantKeepsTies : Type 0
+DroppedGrantKeepsTies = OfTied (λ access content. (role : CatalogRoleRow) (row : GrantRow) → IdsDiffer catalog_role_id access.catalog_roles → row_of catalog_role_id row.catalog_role access.catalog_roles ≡ Some role
+    → (role.name ≡ codes "catalog_admin" → row.securable ≡ Catalog role.catalog → (row.privilege ≢ CatalogManageAccess) × (row.privilege ≢ CatalogManageContent))
+    → AreTied (record access { grants = facts_without grant.the_row.coded row access.grants }) content)

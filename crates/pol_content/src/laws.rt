@@ -1,5 +1,5 @@
 //! Theorems over the definitions of `specs/`: the clause of each function is the statement, and its body is empty.
-ghost use Rattle.pol_content.specs.Laws.{AlteredCatalogsKeepSound, AlteredNamespacesKeepSound, DroppedCatalogKeepsSound, DroppedNamespaceKeepsSound, ListsAreInOrder, MoreIdsKeepSound, NewRowsGoLast, PushedCatalogKeepsSound, PushedNamespaceKeepsSound, ReplacedNamespaceKeepsSound, WholePathsHaveParents};
+ghost use Rattle.pol_content.specs.Laws.{CreatedCatalogKeepsTies, DroppedCatalogKeepsTies, PutNamespaceKeepsTies, DroppedNamespaceKeepsTies, PushedCatalogRoleKeepsTies, DroppedCatalogRoleKeepsTies, PutPrincipalKeepsTies, DroppedPrincipalKeepsTies, PushedPrincipalRoleKeepsTies, DroppedPrincipalRoleKeepsTies, PutJoinKeepsTies, DroppedJoinKeepsTies, PutGrantKeepsTies, DroppedGrantKeepsTies, AlteredCatalogsKeepSound, AlteredNamespacesKeepSound, DroppedCatalogKeepsSound, DroppedNamespaceKeepsSound, ListsAreInOrder, MembersKeepTies, MoreIdsKeepSound, NewIdsAreNoContents, NewRowsGoLast, PushedCatalogKeepsSound, PushedNamespaceKeepsSound, ReplacedNamespaceKeepsSound, WholePathsHaveParents};
 
 /// Rows stay sound where more ids are given out.
 pub fn more_ids_keep_sound()
@@ -54,4 +54,84 @@ pub fn dropped_namespace_keeps_sound()
 /// The lists in order have the rows, and no row's name or levels come before those of the row in front.
 pub fn lists_are_in_order()
     ensures { ListsAreInOrder }
+{}
+
+/// An id that was not given out is no catalogue's and no namespace's.
+pub fn new_ids_are_no_contents()
+    ensures { NewIdsAreNoContents }
+{}
+
+/// Members may be put and dropped.
+pub fn members_keep_ties()
+    ensures { MembersKeepTies }
+{}
+
+/// A principal may be put whose id is no catalogue's and no namespace's.
+pub fn put_principal_keeps_ties()
+    ensures { PutPrincipalKeepsTies }
+{}
+
+/// A principal may be dropped.
+pub fn dropped_principal_keeps_ties()
+    ensures { DroppedPrincipalKeepsTies }
+{}
+
+/// A new principal role may be pushed whose id is no catalogue's and no namespace's.
+pub fn pushed_principal_role_keeps_ties()
+    ensures { PushedPrincipalRoleKeepsTies }
+{}
+
+/// A principal role other than `service_admin` may be dropped.
+pub fn dropped_principal_role_keeps_ties()
+    ensures { DroppedPrincipalRoleKeepsTies }
+{}
+
+/// A join may be put.
+pub fn put_join_keeps_ties()
+    ensures { PutJoinKeepsTies }
+{}
+
+/// A join other than of `service_admin` to a `catalog_admin` may be dropped.
+pub fn dropped_join_keeps_ties()
+    ensures { DroppedJoinKeepsTies }
+{}
+
+/// A grant on what lies in its role's catalogue may be put.
+pub fn put_grant_keeps_ties()
+    ensures { PutGrantKeepsTies }
+{}
+
+/// A grant other than the two of a `catalog_admin` on its catalogue may be dropped.
+pub fn dropped_grant_keeps_ties()
+    ensures { DroppedGrantKeepsTies }
+{}
+
+/// A catalogue may be created with its `catalog_admin`, where its id and the one after it are new.
+pub fn created_catalog_keeps_ties()
+    ensures { CreatedCatalogKeepsTies }
+{}
+
+/// A catalogue may be dropped with its roles.
+pub fn dropped_catalog_keeps_ties()
+    ensures { DroppedCatalogKeepsTies }
+{}
+
+/// A namespace may be put, a new one or one that stays in its catalogue, whose id is no principal's and no role's.
+pub fn put_namespace_keeps_ties()
+    ensures { PutNamespaceKeepsTies }
+{}
+
+/// A namespace may be dropped with the grants on it.
+pub fn dropped_namespace_keeps_ties()
+    ensures { DroppedNamespaceKeepsTies }
+{}
+
+/// A new role of a catalogue that is there may be pushed, whose id is no catalogue's and no namespace's.
+pub fn pushed_catalog_role_keeps_ties()
+    ensures { PushedCatalogRoleKeepsTies }
+{}
+
+/// A catalogue role other than a `catalog_admin` may be dropped.
+pub fn dropped_catalog_role_keeps_ties()
+    ensures { DroppedCatalogRoleKeepsTies }
 {}

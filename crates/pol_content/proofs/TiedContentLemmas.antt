@@ -1,0 +1,271 @@
+-- Rows that are tied stay so once a catalogue, a namespace or a catalogue role is put or dropped.
+use Rattle.std.proofs.Common.{◌≡◌, ◌≢◌, ℕ, ◌+◌, Bool, true, false, not, ◌&&◌, List, filter, Option, Some, None, is_some, option_map, nat_eq, refl, sym, ap, ◌∙◌, inl, inr, true≢false, arith, codes}
+use Rattle.std.specs.Cmp.{nat_eq_equiv}
+use Rattle.std.specs.Cmp.Lexicographic.{nat_list_eq_equiv}
+use Rattle.std.specs.List.{find, AllByRecursion}
+use Rattle.std.specs.Str.{bytes_eq}
+use Rattle.std.proofs.lemmas.Bool.{and_from, cases_Bool, eq-eqb, eqb-true, ne_eqb}
+use Rattle.pol_access.specs.Access.{AccessRows, catalog_role_dropped, catalog_role_id, catalog_roles_dropped, grants_on_dropped, is_of_catalog, is_role_of}
+use Rattle.pol_access.specs.Names.{has_catalog_role_name}
+use Rattle.pol_access.specs.contracts.rows.GrantRow as grant
+use Rattle.pol_access.specs.contracts.rows.JoinRow as join
+use Rattle.pol_access.specs.contracts.securable.Securable.{the_row}
+use Rattle.pol_access.specs.declared.privilege.Privilege.TheVariants.{CatalogManageAccess, CatalogManageContent}
+use Rattle.pol_access.specs.declared.rows.CatalogRoleRow.{CatalogRoleRow}
+use Rattle.pol_access.specs.declared.rows.GrantRow.{GrantRow}
+use Rattle.pol_access.specs.declared.rows.JoinRow.{JoinRow}
+use Rattle.pol_access.specs.declared.securable.Securable.{Securable}
+use Rattle.pol_access.specs.declared.securable.Securable.TheVariants.{Realm, Catalog, Namespace, Table, View}
+use Rattle.pol_tables.specs.Facts.{facts_with, holds}
+use Rattle.pol_tables.specs.Same.{same}
+use Rattle.pol_tables.specs.Table.{has_id, knows, row_of, rows_with, rows_without, IdsDiffer}
+use Rattle.pol_tables.proofs.ListLemmas.{each-weaken}
+use Rattle.pol_tables.proofs.NamedLemmas.{each-rows_with, each-rows_without, find-none}
+use Rattle.pol_tables.proofs.SameLemmas.{same-differ, same-refl, same-true}
+use Rattle.pol_tables.proofs.TableLemmas.{is_some-row_of, key-row_of}
+use Rattle.pol_content.specs.Content.{catalog_id, namespace_id, ContentRows}
+use Rattle.pol_content.specs.Laws.{CreatedCatalogKeepsTies, DroppedCatalogKeepsTies, DroppedCatalogRoleKeepsTies, DroppedNamespaceKeepsTies, PushedCatalogRoleKeepsTies, PutNamespaceKeepsTies}
+use Rattle.pol_content.specs.Ties.{admin_grant, admin_of, catalog_of, is_access_id, is_content_id, with_admin, AreTied, HasAdmin, IdsApart, IsGrantWithin}
+use Rattle.pol_content.specs.declared.rows.CatalogRow.{CatalogRow}
+use Rattle.pol_content.specs.declared.rows.NamespaceRow.{NamespaceRow}
+use Rattle.pol_content.proofs.SoundLemmas.{any-fewer}
+use Rattle.pol_content.proofs.TiesLemmas.{apart-fewer, apart-put, each-facts_with, each-kept, find-kept, find-new, find-pushed, find-without, found-each, found-own, found-passes, holds-kept, holds-put, holds-with, knows-put, knows-without, mapped-kept, not-is, or-parts, other-id, other-name, role-name, row_of-new, row_of-other, row_of-put, unknown-from, unknown-parts, unknown-put, unknown-without, within-roles, IsUnknown}
+
+-- a catalogue's `catalog_admin`
+abbrev is_admin : ℕ → CatalogRoleRow → Bool
+is_admin catalog = has_catalog_role_name catalog (codes "catalog_admin")
+
+pub pushed_catalog_role : PushedCatalogRoleKeepsTies
+pushed_catalog_role access content tied row new none there =
+    let after : AccessRows = record access { catalog_roles = rows_with catalog_role_id row access.catalog_roles } in
+    record {
+      role_catalogs = each-rows_with catalog_role_id (λ one. knows catalog_id one.catalog content.catalogs ≡ true) (λ one. knows catalog_id one.catalog content.catalogs ≡ true) row access.catalog_roles tied.role_catalogs (λ one known other. known) there;
+      grants_within = each-weaken (IsGrantWithin access content) (IsGrantWithin after content) access.grants (λ one within. within-roles access after content one within (find-pushed catalog_role_id (has_id catalog_role_id one.catalog_role) row within.role access.catalog_roles new within.there)) tied.grants_within;
+      catalog_admins = each-weaken (λ one. HasAdmin access one.id) (λ one. HasAdmin after one.id) content.catalogs (λ one has. record {
+        role = has.role;
+        role_there = find-pushed catalog_role_id (is_admin one.id) row has.role access.catalog_roles new has.role_there;
+        service = has.service;
+        service_there = has.service_there;
+        joined = has.joined;
+        manages_access = has.manages_access;
+        manages_content = has.manages_content;
+      }) tied.catalog_admins;
+      ids_apart = apart-put access after content tied.ids_apart row.id none (λ id unknown other. record { principals = unknown.principals; principal_roles = unknown.principal_roles; catalog_roles = unknown-put catalog_role_id id row access.catalog_roles unknown.catalog_roles other });
+    }
+
+pub dropped_catalog_role : DroppedCatalogRoleKeepsTies
+unfolding rows_without
+dropped_catalog_role access content tied row differ there named =
+    let after : AccessRows = catalog_role_dropped row.id access in
+    record {
+      role_catalogs = each-rows_without catalog_role_id (λ one. knows catalog_id one.catalog content.catalogs ≡ true) (λ one. knows catalog_id one.catalog content.catalogs ≡ true) row.id access.catalog_roles tied.role_catalogs (λ one known other. known);
+      grants_within = each-kept (IsGrantWithin access content) (IsGrantWithin after content) (λ one. not (nat_eq one.catalog_role row.id)) access.grants tied.grants_within (λ one within stays. within-roles access after content one within (find-without catalog_role_id (has_id catalog_role_id one.catalog_role) row.id within.role access.catalog_roles within.there (nat_eq_equiv.symm row.id within.role.id ∙ ap (λ id. nat_eq id row.id) (sym (key-row_of catalog_role_id one.catalog_role within.role access.catalog_roles within.there)) ∙ not-is (nat_eq one.catalog_role row.id) stays)));
+      catalog_admins = each-weaken (λ one. HasAdmin access one.id) (λ one. HasAdmin after one.id) content.catalogs (λ one has. record {
+        role = has.role;
+        role_there = find-without catalog_role_id (is_admin one.id) row.id has.role access.catalog_roles has.role_there (nat_eq_equiv.symm row.id has.role.id ∙ apart one has);
+        service = has.service;
+        service_there = has.service_there;
+        joined = holds-kept join.the_row.coded (λ kept. not (nat_eq kept.catalog_role row.id)) (record { principal_role = has.service.id; catalog_role = has.role.id }) access.joins has.joined (ap not (apart one has));
+        manages_access = holds-kept grant.the_row.coded (λ kept. not (nat_eq kept.catalog_role row.id)) (record { catalog_role = has.role.id; privilege = CatalogManageAccess; securable = Catalog one.id }) access.grants has.manages_access (ap not (apart one has));
+        manages_content = holds-kept grant.the_row.coded (λ kept. not (nat_eq kept.catalog_role row.id)) (record { catalog_role = has.role.id; privilege = CatalogManageContent; securable = Catalog one.id }) access.grants has.manages_content (ap not (apart one has));
+      }) tied.catalog_admins;
+      ids_apart = apart-fewer access after content tied.ids_apart (λ id unknown. record { principals = unknown.principals; principal_roles = unknown.principal_roles; catalog_roles = unknown-without catalog_role_id id row.id access.catalog_roles unknown.catalog_roles });
+    }
+  where
+    apart : (one : CatalogRow) (has : HasAdmin access one.id) → nat_eq has.role.id row.id ≡ false
+    apart one has =
+        ne_eqb has.role.id row.id (other-id catalog_role_id (is_admin one.id) has.role row access.catalog_roles differ has.role_there there (λ passes. named (role-name one.id (codes "catalog_admin") row passes).1))
+
+-- a securable lies in its catalogue while the row of its id gives that one
+module _ (content after : ContentRows) (catalog : ℕ)
+  (catalogs : (row : CatalogRow) → row_of catalog_id catalog content.catalogs ≡ Some row → row_of catalog_id catalog after.catalogs ≡ Some row) where
+  pub lies-kept : (of : Securable) → ((id : ℕ) (row : NamespaceRow) → of ≡ Namespace id → row_of namespace_id id content.namespaces ≡ Some row → row.catalog ≡ catalog → option_map (λ one. one.catalog) (row_of namespace_id id after.namespaces) ≡ Some catalog)
+      → catalog_of of content ≡ Some catalog → catalog_of of after ≡ Some catalog
+  lies-kept Realm namespaces lies = lies
+  lies-kept (Catalog id) namespaces lies =
+      mapped-kept (λ one. one.id) catalog (row_of catalog_id id content.catalogs) (row_of catalog_id id after.catalogs) (λ row found is. kept row found is) lies
+    where
+      kept : (row : CatalogRow) → row_of catalog_id id content.catalogs ≡ Some row → row.id ≡ catalog → option_map (λ one. one.id) (row_of catalog_id id after.catalogs) ≡ Some catalog
+      kept row found is =
+          let same_id : id ≡ catalog = key-row_of catalog_id id row content.catalogs found ∙ is in
+          ap (λ one. option_map (λ (kept : CatalogRow). kept.id) (row_of catalog_id one after.catalogs)) same_id ∙ ap (option_map (λ (kept : CatalogRow). kept.id)) (catalogs row (ap (λ one. row_of catalog_id one content.catalogs) (sym same_id) ∙ found)) ∙ ap Some is
+  lies-kept (Namespace id) namespaces lies =
+      mapped-kept (λ one. one.catalog) catalog (row_of namespace_id id content.namespaces) (row_of namespace_id id after.namespaces) (λ row found is. namespaces id row refl found is) lies
+  lies-kept (Table id) namespaces lies = lies
+  lies-kept (View id) namespaces lies = lies
+
+pub put_namespace : PutNamespaceKeepsTies
+put_namespace access content tied row same_catalog none =
+    let after : ContentRows = record content { namespaces = rows_with namespace_id row content.namespaces } in
+    record {
+      role_catalogs = tied.role_catalogs;
+      grants_within = each-weaken (IsGrantWithin access content) (IsGrantWithin access after) access.grants (λ one within. record { role = within.role; there = within.there; within = lies-kept content after within.role.catalog (λ kept found. found) one.securable (λ id kept is found in_. lies id kept within.role.catalog found in_ (has_id namespace_id id row) refl) within.within }) tied.grants_within;
+      catalog_admins = tied.catalog_admins;
+      ids_apart = record {
+        catalogs = tied.ids_apart.catalogs;
+        namespaces = each-rows_with namespace_id (λ kept. is_access_id kept.id access ≡ false) (λ kept. is_access_id kept.id access ≡ false) row content.namespaces tied.ids_apart.namespaces (λ kept apart other. apart) none;
+      };
+    }
+  where
+    -- the row of an id once one is put
+    lies : (id : ℕ) (kept : NamespaceRow) (catalog : ℕ) → row_of namespace_id id content.namespaces ≡ Some kept → kept.catalog ≡ catalog → (b : Bool) → has_id namespace_id id row ≡ b
+        → option_map (λ one. one.catalog) (row_of namespace_id id (rows_with namespace_id row content.namespaces)) ≡ Some catalog
+    lies id kept catalog found in_ true is =
+        let one = eqb-true id row.id is in
+        ap (option_map (λ (other : NamespaceRow). other.catalog)) (ap (λ n. row_of namespace_id n (rows_with namespace_id row content.namespaces)) one ∙ row_of-put namespace_id row content.namespaces) ∙ ap Some (same_catalog kept (ap (λ n. row_of namespace_id n content.namespaces) (sym one) ∙ found) ∙ in_)
+    lies id kept catalog found in_ false is =
+        ap (option_map (λ (other : NamespaceRow). other.catalog)) (row_of-other namespace_id id row content.namespaces is ∙ found) ∙ ap Some in_
+
+pub dropped_namespace : DroppedNamespaceKeepsTies
+dropped_namespace access content tied gone =
+    let after : ContentRows = record content { namespaces = rows_without namespace_id gone content.namespaces } in
+    let roles : AccessRows = grants_on_dropped (Namespace gone) access in
+    record {
+      role_catalogs = tied.role_catalogs;
+      grants_within = each-kept (IsGrantWithin access content) (IsGrantWithin roles after) (λ one. not (same the_row.coded one.securable (Namespace gone))) access.grants tied.grants_within (λ one within stays. record { role = within.role; there = within.there; within = lies-kept content after within.role.catalog (λ kept found. found) one.securable (λ id kept is found in_. lies id kept within.role.catalog found in_ (ap (λ of. same the_row.coded of (Namespace gone)) (sym is) ∙ not-is (same the_row.coded one.securable (Namespace gone)) stays)) within.within });
+      catalog_admins = each-weaken (λ one. HasAdmin access one.id) (λ one. HasAdmin roles one.id) content.catalogs (λ one has. record {
+        role = has.role;
+        role_there = has.role_there;
+        service = has.service;
+        service_there = has.service_there;
+        joined = has.joined;
+        manages_access = holds-kept grant.the_row.coded (λ kept. not (same the_row.coded kept.securable (Namespace gone))) (record { catalog_role = has.role.id; privilege = CatalogManageAccess; securable = Catalog one.id }) access.grants has.manages_access (ap not (same-differ the_row.coded (Catalog one.id) (Namespace gone) (λ is. no_namespace one.id is)));
+        manages_content = holds-kept grant.the_row.coded (λ kept. not (same the_row.coded kept.securable (Namespace gone))) (record { catalog_role = has.role.id; privilege = CatalogManageContent; securable = Catalog one.id }) access.grants has.manages_content (ap not (same-differ the_row.coded (Catalog one.id) (Namespace gone) (λ is. no_namespace one.id is)));
+      }) tied.catalog_admins;
+      ids_apart = record {
+        catalogs = tied.ids_apart.catalogs;
+        namespaces = each-rows_without namespace_id (λ kept. is_access_id kept.id access ≡ false) (λ kept. is_access_id kept.id access ≡ false) gone content.namespaces tied.ids_apart.namespaces (λ kept apart other. apart);
+      };
+    }
+  where
+    no_namespace : (id : ℕ) → Catalog id ≡ Namespace gone → ⊥
+    no_namespace id is = cc
+
+    lies : (id : ℕ) (kept : NamespaceRow) (catalog : ℕ) → row_of namespace_id id content.namespaces ≡ Some kept → kept.catalog ≡ catalog → same the_row.coded (Namespace id) (Namespace gone) ≡ false
+        → option_map (λ one. one.catalog) (row_of namespace_id id (rows_without namespace_id gone content.namespaces)) ≡ Some catalog
+    lies id kept catalog found in_ apart =
+        let other : nat_eq gone kept.id ≡ false = ne_eqb gone kept.id (λ is. true≢false (sym (ap (λ n. same the_row.coded (Namespace id) (Namespace n)) (is ∙ sym (key-row_of namespace_id id kept content.namespaces found)) ∙ same-refl the_row.coded (Namespace id)) ∙ apart)) in
+        ap (option_map (λ (one : NamespaceRow). one.catalog)) (find-without namespace_id (has_id namespace_id id) gone kept content.namespaces found other) ∙ ap Some in_
+
+pub dropped_catalog : DroppedCatalogKeepsTies
+unfolding rows_without
+dropped_catalog access content tied gone differ =
+    let after : ContentRows = record content { catalogs = rows_without catalog_id gone content.catalogs } in
+    let roles : AccessRows = catalog_roles_dropped gone access in
+    record {
+      role_catalogs = each-kept (λ one. knows catalog_id one.catalog content.catalogs ≡ true) (λ one. knows catalog_id one.catalog after.catalogs ≡ true) (λ one. not (nat_eq one.catalog gone)) access.catalog_roles tied.role_catalogs (λ one known stays. knows-without catalog_id one.catalog gone content.catalogs known (not-is (nat_eq one.catalog gone) stays));
+      grants_within = each-kept (IsGrantWithin access content) (IsGrantWithin roles after) (λ one. not (is_role_of access.catalog_roles gone one.catalog_role)) access.grants tied.grants_within (λ one within stays. within_others one within (sym (ap (is_of_catalog gone) within.there) ∙ not-is (is_role_of access.catalog_roles gone one.catalog_role) stays));
+      catalog_admins = each-rows_without catalog_id (λ one. HasAdmin access one.id) (λ one. HasAdmin roles one.id) gone content.catalogs tied.catalog_admins admins;
+      ids_apart = record {
+        catalogs = each-rows_without catalog_id (λ kept. is_access_id kept.id roles ≡ false) (λ kept. is_access_id kept.id roles ≡ false) gone content.catalogs ids.catalogs (λ kept apart other. apart);
+        namespaces = ids.namespaces;
+      };
+    }
+  where
+    ids : IdsApart (catalog_roles_dropped gone access) content
+    ids = apart-fewer access (catalog_roles_dropped gone access) content tied.ids_apart (λ id unknown. record { principals = unknown.principals; principal_roles = unknown.principal_roles; catalog_roles = any-fewer (has_id catalog_role_id id) (λ row. not (nat_eq row.catalog gone)) access.catalog_roles unknown.catalog_roles })
+
+    -- grants of the roles of other catalogues
+    within_others : (one : GrantRow) (within : IsGrantWithin access content one) → nat_eq within.role.catalog gone ≡ false → IsGrantWithin (catalog_roles_dropped gone access) (record content { catalogs = rows_without catalog_id gone content.catalogs }) one
+    within_others one within apart = record {
+      role = within.role;
+      there = find-kept (has_id catalog_role_id one.catalog_role) (λ row. not (nat_eq row.catalog gone)) access.catalog_roles within.role within.there (ap not apart);
+      within = lies-kept content (record content { catalogs = rows_without catalog_id gone content.catalogs }) within.role.catalog (λ row found. find-without catalog_id (has_id catalog_id within.role.catalog) gone row content.catalogs found (nat_eq_equiv.symm gone row.id ∙ ap (λ id. nat_eq id gone) (sym (key-row_of catalog_id within.role.catalog row content.catalogs found)) ∙ apart)) one.securable (λ id row is found in_. ap (option_map (λ (kept : NamespaceRow). kept.catalog)) found ∙ ap Some in_) within.within;
+    }
+
+    admins : (one : CatalogRow) → HasAdmin access one.id → has_id catalog_id gone one ≡ false → HasAdmin (catalog_roles_dropped gone access) one.id
+    admins one has other =
+        let named = role-name one.id (codes "catalog_admin") has.role (found-passes (is_admin one.id) access.catalog_roles has.role has.role_there) in
+        let apart : nat_eq has.role.catalog gone ≡ false = ap (λ id. nat_eq id gone) named.0 ∙ nat_eq_equiv.symm one.id gone ∙ other in
+        let own = found-own catalog_role_id (is_admin one.id) has.role access.catalog_roles differ has.role_there in
+        let stays : not (is_role_of access.catalog_roles gone has.role.id) ≡ true = ap not (ap (is_of_catalog gone) own ∙ apart) in
+        record {
+          role = has.role;
+          role_there = find-kept (is_admin one.id) (λ row. not (nat_eq row.catalog gone)) access.catalog_roles has.role has.role_there (ap not apart);
+          service = has.service;
+          service_there = has.service_there;
+          joined = holds-kept join.the_row.coded (λ kept. not (is_role_of access.catalog_roles gone kept.catalog_role)) (record { principal_role = has.service.id; catalog_role = has.role.id }) access.joins has.joined stays;
+          manages_access = holds-kept grant.the_row.coded (λ kept. not (is_role_of access.catalog_roles gone kept.catalog_role)) (record { catalog_role = has.role.id; privilege = CatalogManageAccess; securable = Catalog one.id }) access.grants has.manages_access stays;
+          manages_content = holds-kept grant.the_row.coded (λ kept. not (is_role_of access.catalog_roles gone kept.catalog_role)) (record { catalog_role = has.role.id; privilege = CatalogManageContent; securable = Catalog one.id }) access.grants has.manages_content stays;
+        }
+
+pub created_catalog : CreatedCatalogKeepsTies
+created_catalog access content tied row service service_there none none_after unknown unknown_after =
+    record {
+      role_catalogs = each-rows_with catalog_role_id (λ one. knows catalog_id one.catalog content.catalogs ≡ true) (λ one. knows catalog_id one.catalog after.catalogs ≡ true) (admin_of row.id) access.catalog_roles tied.role_catalogs (λ one known other. knows-put catalog_id one.catalog row content.catalogs known) catalog_there;
+      grants_within = each-facts_with grant.the_row.coded (IsGrantWithin roles after) (admin_grant CatalogManageContent row.id) (facts_with grant.the_row.coded (admin_grant CatalogManageAccess row.id) access.grants) (each-facts_with grant.the_row.coded (IsGrantWithin roles after) (admin_grant CatalogManageAccess row.id) access.grants (each-weaken (IsGrantWithin access content) (IsGrantWithin roles after) access.grants within tied.grants_within) (admin_within (admin_grant CatalogManageAccess row.id) refl refl)) (admin_within (admin_grant CatalogManageContent row.id) refl refl);
+      catalog_admins = each-rows_with catalog_id (λ one. HasAdmin access one.id) (λ one. HasAdmin roles one.id) row content.catalogs tied.catalog_admins (λ one has other. kept_admin one.id has) new_admin;
+      ids_apart = record {
+        catalogs = each-rows_with catalog_id (λ kept. is_access_id kept.id roles ≡ false) (λ kept. is_access_id kept.id roles ≡ false) row content.catalogs ids.catalogs (λ kept apart other. apart) (unknown-from row.id roles (still_unknown row.id (unknown-parts row.id access unknown) (ne_eqb row.id (row.id + 1) (λ is. omega (arith, is)))));
+        namespaces = ids.namespaces;
+      };
+    }
+  where
+    roles : AccessRows
+    roles = with_admin row.id service.id access
+
+    after : ContentRows
+    after = record content { catalogs = rows_with catalog_id row content.catalogs }
+
+    new_catalog : knows catalog_id row.id content.catalogs ≡ false
+    new_catalog = (or-parts (knows catalog_id row.id content.catalogs) (knows namespace_id row.id content.namespaces) none).0
+
+    new_role : knows catalog_role_id (row.id + 1) access.catalog_roles ≡ false
+    new_role = (unknown-parts (row.id + 1) access unknown_after).catalog_roles
+
+    catalog_there : knows catalog_id row.id (rows_with catalog_id row content.catalogs) ≡ true
+    catalog_there = sym (is_some-row_of catalog_id row.id (rows_with catalog_id row content.catalogs)) ∙ ap is_some (row_of-new catalog_id row content.catalogs new_catalog)
+
+    still_unknown : (id : ℕ) → IsUnknown id access → nat_eq id (row.id + 1) ≡ false → IsUnknown id roles
+    still_unknown id other apart = record { principals = other.principals; principal_roles = other.principal_roles; catalog_roles = unknown-put catalog_role_id id (admin_of row.id) access.catalog_roles other.catalog_roles apart }
+
+    ids : IdsApart roles content
+    ids = apart-put access roles content tied.ids_apart (row.id + 1) none_after still_unknown
+
+    within : (one : GrantRow) → IsGrantWithin access content one → IsGrantWithin roles after one
+    within one inside = record {
+      role = inside.role;
+      there = find-pushed catalog_role_id (has_id catalog_role_id one.catalog_role) (admin_of row.id) inside.role access.catalog_roles new_role inside.there;
+      within = lies-kept content after inside.role.catalog (λ kept found. find-pushed catalog_id (has_id catalog_id inside.role.catalog) row kept content.catalogs new_catalog found) one.securable (λ id kept is found in_. ap (option_map (λ (other : NamespaceRow). other.catalog)) found ∙ ap Some in_) inside.within;
+    }
+
+    admin_within : (one : GrantRow) → one.catalog_role ≡ row.id + 1 → one.securable ≡ Catalog row.id → IsGrantWithin roles after one
+    admin_within one of on = record {
+      role = admin_of row.id;
+      there = ap (λ id. row_of catalog_role_id id (rows_with catalog_role_id (admin_of row.id) access.catalog_roles)) of ∙ row_of-new catalog_role_id (admin_of row.id) access.catalog_roles new_role;
+      within = ap (λ securable. catalog_of securable after) on ∙ ap (option_map (λ (kept : CatalogRow). kept.id)) (row_of-new catalog_id row content.catalogs new_catalog);
+    }
+
+    both_kept : (one : GrantRow) → holds grant.the_row.coded one access.grants ≡ true → holds grant.the_row.coded one roles.grants ≡ true
+    both_kept one held =
+        holds-with grant.the_row.coded one (admin_grant CatalogManageContent row.id) (facts_with grant.the_row.coded (admin_grant CatalogManageAccess row.id) access.grants) (holds-with grant.the_row.coded one (admin_grant CatalogManageAccess row.id) access.grants held)
+
+    kept_admin : (catalog : ℕ) → HasAdmin access catalog → HasAdmin roles catalog
+    kept_admin catalog has =
+        record {
+          role = has.role;
+          role_there = find-pushed catalog_role_id (is_admin catalog) (admin_of row.id) has.role access.catalog_roles new_role has.role_there;
+          service = has.service;
+          service_there = has.service_there;
+          joined = holds-with join.the_row.coded (record { principal_role = has.service.id; catalog_role = has.role.id }) (record { principal_role = service.id; catalog_role = row.id + 1 }) access.joins has.joined;
+          manages_access = both_kept (record { catalog_role = has.role.id; privilege = CatalogManageAccess; securable = Catalog catalog }) has.manages_access;
+          manages_content = both_kept (record { catalog_role = has.role.id; privilege = CatalogManageContent; securable = Catalog catalog }) has.manages_content;
+        }
+
+    elsewhere : (one : CatalogRoleRow) → knows catalog_id one.catalog content.catalogs ≡ true → is_admin row.id one ≡ false
+    elsewhere one known = ap (λ b. b && bytes_eq (codes "catalog_admin") one.name) (ne_eqb one.catalog row.id (λ is. true≢false (sym known ∙ ap (λ id. knows catalog_id id content.catalogs) is ∙ new_catalog)))
+
+    -- no role of the new catalogue was there
+    no_role : find (is_admin row.id) access.catalog_roles ≡ None
+    no_role = find-none (is_admin row.id) access.catalog_roles (each-weaken (λ one. knows catalog_id one.catalog content.catalogs ≡ true) (λ one. is_admin row.id one ≡ false) access.catalog_roles elsewhere tied.role_catalogs)
+
+    new_admin : HasAdmin roles row.id
+    new_admin = record {
+      role = admin_of row.id;
+      role_there = find-new catalog_role_id (is_admin row.id) (admin_of row.id) access.catalog_roles new_role no_role (and_from (nat_eq row.id row.id) (bytes_eq (codes "catalog_admin") (codes "catalog_admin")) (eq-eqb row.id row.id refl) (nat_list_eq_equiv.refl (codes "catalog_admin")));
+      service = service;
+      service_there = service_there;
+      joined = holds-put join.the_row.coded (record { principal_role = service.id; catalog_role = row.id + 1 }) access.joins;
+      manages_access = holds-with grant.the_row.coded (admin_grant CatalogManageAccess row.id) (admin_grant CatalogManageContent row.id) (facts_with grant.the_row.coded (admin_grant CatalogManageAccess row.id) access.grants) (holds-put grant.the_row.coded (admin_grant CatalogManageAccess row.id) access.grants);
+      manages_content = holds-put grant.the_row.coded (admin_grant CatalogManageContent row.id) (facts_with grant.the_row.coded (admin_grant CatalogManageAccess row.id) access.grants);
+    }

@@ -1,0 +1,436 @@
+-- Rows that are tied stay so once a row is put or dropped.
+use Rattle.std.proofs.Common.{◌≡◌, ◌≢◌, ℕ, ◌+◌, ◌≤◌, Bool, true, false, not, cond, ◌&&◌, ◌||◌, List, [], ◌∷◌, ◌++◌, map, filter, Option, Some, None, option_map, nat_eq, refl, sym, ap, subst, ◌∙◌, inl, inr, true≢false, arith, codes}
+use Rattle.std.specs.Cmp.{nat_eq_equiv}
+use Rattle.std.specs.Cmp.Lexicographic.{nat_list_eq_equiv, same_text}
+use Rattle.std.specs.Coded.{Coded}
+use Rattle.std.specs.List.{find, list_any, AllByRecursion}
+use Rattle.std.specs.Option.{option_or}
+use Rattle.std.specs.Str.{bytes_eq}
+use Rattle.std.proofs.lemmas.Bool.{and_from, and_parts, cases_Bool, eq-eqb, eqb-true, ne_eqb}
+use Rattle.std.proofs.lemmas.List.Folds.{find-append}
+use Rattle.pol_access.specs.Access.{AccessRows, catalog_role_id, is_joined, is_of_catalog, is_role_of, principal_dropped, principal_id, principal_role_dropped, principal_role_id}
+use Rattle.pol_access.specs.Names.{has_catalog_role_name, has_role_name}
+use Rattle.pol_access.specs.contracts.rows.GrantRow as grant
+use Rattle.pol_access.specs.contracts.rows.JoinRow as join
+use Rattle.pol_access.specs.contracts.securable.Securable as the_securable
+use Rattle.pol_access.specs.declared.privilege.Privilege.{Privilege}
+use Rattle.pol_access.specs.declared.privilege.Privilege.TheVariants.{CatalogManageAccess, CatalogManageContent}
+use Rattle.pol_access.specs.declared.rows.CatalogRoleRow.{CatalogRoleRow}
+use Rattle.pol_access.specs.declared.rows.GrantRow.{GrantRow}
+use Rattle.pol_access.specs.declared.rows.JoinRow.{JoinRow}
+use Rattle.pol_access.specs.declared.rows.PrincipalRow.{PrincipalRow}
+use Rattle.pol_access.specs.declared.rows.PrincipalRoleRow.{PrincipalRoleRow}
+use Rattle.pol_access.specs.declared.securable.Securable.{Securable}
+use Rattle.pol_access.specs.declared.securable.Securable.TheVariants.{Realm, Catalog, Namespace, Table, View}
+use Rattle.pol_tables.specs.Facts.{facts_with, facts_without, holds}
+use Rattle.pol_tables.specs.Same.{same}
+use Rattle.pol_tables.specs.Table.{has_id, knows, row_of, rows_with, rows_without, IdsDiffer}
+use Rattle.pol_tables.proofs.FactsLemmas.{facts_with-known, facts_with-new}
+use Rattle.pol_tables.proofs.ListLemmas.{each-all, each-join, each-push, each-weaken}
+use Rattle.pol_tables.proofs.NamedLemmas.{each-own, each-rows_with, each-rows_without, find-none}
+use Rattle.pol_tables.proofs.NumberedLemmas.{below-next}
+use Rattle.pol_tables.proofs.RisingLemmas.{key-replaced, knows-below, KeysBelow-more}
+use Rattle.pol_tables.proofs.SameLemmas.{same-differ, same-refl, same-symmetric, same-true}
+use Rattle.pol_tables.proofs.TableLemmas.{is_some-row_of, key-row_of, knows-map, rows_with-known, rows_with-new, some_is}
+use Rattle.pol_content.specs.Content.{catalog_id, namespace_id, ContentRows}
+use Rattle.pol_content.specs.Laws.{NewIdsAreNoContents, PutPrincipalKeepsTies, DroppedPrincipalKeepsTies, PushedPrincipalRoleKeepsTies, DroppedPrincipalRoleKeepsTies, MembersKeepTies, PutJoinKeepsTies, DroppedJoinKeepsTies, PutGrantKeepsTies, DroppedGrantKeepsTies}
+use Rattle.pol_content.specs.Ties.{admin_grant, admin_of, catalog_of, is_access_id, is_content_id, manages, with_admin, AreTied, HasAdmin, IdsApart, IsGrantWithin}
+use Rattle.pol_content.specs.declared.rows.CatalogRow.{CatalogRow}
+use Rattle.pol_content.specs.declared.rows.NamespaceRow.{NamespaceRow}
+use Rattle.pol_content.proofs.SoundLemmas.{any-fewer, any-kept, any-push, each-fails, knows-push}
+
+pub or-false : (a b : Bool) → a ≡ false → b ≡ false → (a || b) ≡ false
+or-false a b left right = λ i. left i || right i
+
+pub or-parts : (a b : Bool) → (a || b) ≡ false → (a ≡ false) × (b ≡ false)
+or-parts true b neither = absurd (true≢false neither)
+or-parts false b neither = (refl, neither)
+
+-- what is found first in a list, in one with an item more, and in what a filter keeps
+module _ {X : Type 0} (test : X → Bool) where
+  pub found-passes : (xs : List X) (x : X) → find test xs ≡ Some x → test x ≡ true
+  found-passes [] x found = cc
+  found-passes (first ∷ xs) x found = elim (cases_Bool (test first)) [
+    | inl passes ↦ subst (λ one. test one ≡ true) (some_is first x (sym (ap (λ b. cond b (Some first) (find test xs)) passes) ∙ found)) passes
+    | inr fails ↦ found-passes xs x (sym (ap (λ b. cond b (Some first) (find test xs)) fails) ∙ found)
+  ]
+
+  pub found-each : (P : X → Type 0) (xs : List X) (x : X) → AllByRecursion P xs → find test xs ≡ Some x → P x
+  found-each P [] x all found = cc
+  found-each P (first ∷ xs) x all found = elim (cases_Bool (test first)) [
+    | inl passes ↦ subst P (some_is first x (sym (ap (λ b. cond b (Some first) (find test xs)) passes) ∙ found)) all.0
+    | inr fails ↦ found-each P xs x all.1 (sym (ap (λ b. cond b (Some first) (find test xs)) fails) ∙ found)
+  ]
+
+  pub find-kept : (keep : X → Bool) (xs : List X) (x : X) → find test xs ≡ Some x → keep x ≡ true → find test (filter keep xs) ≡ Some x
+  find-kept keep [] x found kept = cc
+  find-kept keep (first ∷ xs) x found kept = elim (cases_Bool (test first)) [
+    | inl passes ↦
+        let is : first ≡ x = some_is first x (sym (ap (λ b. cond b (Some first) (find test xs)) passes) ∙ found) in
+        ap (λ b. find test (cond b (first ∷ filter keep xs) (filter keep xs))) (ap keep is ∙ kept) ∙ ap (λ b. cond b (Some first) (find test (filter keep xs))) passes ∙ ap Some is
+    | inr fails ↦
+        past (keep first) fails (find-kept keep xs x (sym (ap (λ b. cond b (Some first) (find test xs)) fails) ∙ found) kept)
+  ]
+    where
+      past : (b : Bool) → test first ≡ false → find test (filter keep xs) ≡ Some x → find test (cond b (first ∷ filter keep xs) (filter keep xs)) ≡ Some x
+      past true fails rest = ap (λ t. cond t (Some first) (find test (filter keep xs))) fails ∙ rest
+      past false fails rest = rest
+
+  pub find-push : (xs : List X) (new x : X) → find test xs ≡ Some x → find test (xs ++ new ∷ []) ≡ Some x
+  find-push xs new x found = find-append test xs (new ∷ []) ∙ ap (λ one. option_or one (find test (new ∷ []))) found
+
+  pub find-last : (xs : List X) (new : X) → find test xs ≡ None → test new ≡ true → find test (xs ++ new ∷ []) ≡ Some new
+  find-last xs new none passes =
+      find-append test xs (new ∷ []) ∙ ap (λ one. option_or one (find test (new ∷ []))) none ∙ ap (λ b. cond b (Some new) None) passes
+
+-- what holds of each item that a filter keeps
+pub each-kept : {X : Type 0} (P Q : X → Type 0) (keep : X → Bool) (xs : List X) → AllByRecursion P xs → ((x : X) → P x → keep x ≡ true → Q x) → AllByRecursion Q (filter keep xs)
+each-kept P Q keep [] all so = tt
+each-kept P Q keep (x ∷ xs) all so = by (keep x) refl (each-kept P Q keep xs all.1 so)
+  where
+    by : (b : Bool) → keep x ≡ b → AllByRecursion Q (filter keep xs) → AllByRecursion Q (cond b (x ∷ filter keep xs) (filter keep xs))
+    by true is rest = (so x all.0 is, rest)
+    by false is rest = rest
+
+not-false : (b : Bool) → b ≡ false → not b ≡ true
+not-false b is = ap not is
+
+pub not-is : (b : Bool) → not b ≡ true → b ≡ false
+not-is true is = sym is
+not-is false is = refl
+
+-- a value that a found row gives is given by another that is found
+pub mapped-kept : {R : Type 0} (f : R → ℕ) (value : ℕ) (found after : Option R) → ((row : R) → found ≡ Some row → f row ≡ value → option_map f after ≡ Some value) → option_map f found ≡ Some value → option_map f after ≡ Some value
+mapped-kept f value None after so is = let contrary : None ≡ Some value = is in cc
+mapped-kept f value (Some row) after so is = so row refl (some_is (f row) value is)
+
+module _ {R : Type 0} (key : R → ℕ) where
+  -- rows once one is put
+  pub knows-put : (id : ℕ) (row : R) (rows : List R) → knows key id rows ≡ true → knows key id (rows_with key row rows) ≡ true
+  knows-put id row rows there = elim (cases_Bool (knows key (key row) rows)) [
+    | inl known ↦ ap (knows key id) (rows_with-known key row rows known) ∙ knows-map key (λ kept. cond (has_id key (key row) kept) row kept) (key-replaced key row) id rows ∙ there
+    | inr unknown ↦ ap (knows key id) (rows_with-new key row rows unknown) ∙ any-push (has_id key id) rows row there
+  ]
+
+  pub unknown-put : (id : ℕ) (row : R) (rows : List R) → knows key id rows ≡ false → has_id key id row ≡ false → knows key id (rows_with key row rows) ≡ false
+  unknown-put id row rows unknown apart = elim (cases_Bool (knows key (key row) rows)) [
+    | inl known ↦ ap (knows key id) (rows_with-known key row rows known) ∙ knows-map key (λ kept. cond (has_id key (key row) kept) row kept) (key-replaced key row) id rows ∙ unknown
+    | inr new ↦ ap (knows key id) (rows_with-new key row rows new) ∙ knows-push key id row rows ∙ or-false (knows key id rows) (has_id key id row) unknown apart
+  ]
+
+  pub unknown-without : (id gone : ℕ) (rows : List R) → knows key id rows ≡ false → knows key id (rows_without key gone rows) ≡ false
+  unfolding rows_without
+  unknown-without id gone rows unknown = any-fewer (has_id key id) (λ row. not (has_id key gone row)) rows unknown
+
+  pub find-pushed : (test : R → Bool) (new row : R) (rows : List R) → knows key (key new) rows ≡ false → find test rows ≡ Some row → find test (rows_with key new rows) ≡ Some row
+  find-pushed test new row rows unknown found = ap (find test) (rows_with-new key new rows unknown) ∙ find-push test rows new row found
+
+  pub find-new : (test : R → Bool) (new : R) (rows : List R) → knows key (key new) rows ≡ false → find test rows ≡ None → test new ≡ true → find test (rows_with key new rows) ≡ Some new
+  find-new test new rows unknown none passes = ap (find test) (rows_with-new key new rows unknown) ∙ find-last test rows new none passes
+
+  pub find-without : (test : R → Bool) (gone : ℕ) (row : R) (rows : List R) → find test rows ≡ Some row → has_id key gone row ≡ false → find test (rows_without key gone rows) ≡ Some row
+  unfolding rows_without
+  find-without test gone row rows found apart =
+      find-kept test (λ kept. not (has_id key gone kept)) rows row found (ap not apart)
+
+  pub row_of-new : (new : R) (rows : List R) → knows key (key new) rows ≡ false → row_of key (key new) (rows_with key new rows) ≡ Some new
+  row_of-new new rows unknown =
+      find-new (has_id key (key new)) new rows unknown (find-none (has_id key (key new)) rows (each-fails (has_id key (key new)) rows unknown)) (eq-eqb (key new) (key new) refl)
+
+  pub knows-without : (id gone : ℕ) (rows : List R) → knows key id rows ≡ true → nat_eq id gone ≡ false → knows key id (rows_without key gone rows) ≡ true
+  unfolding rows_without
+  knows-without id gone rows known apart =
+      any-kept (has_id key id) (λ row. not (has_id key gone row)) rows (each-all (λ row. has_id key id row ≡ true → not (has_id key gone row) ≡ true) rows (λ row is. ap not (nat_eq_equiv.symm gone (key row) ∙ ap (λ n. nat_eq n gone) (sym (eqb-true id (key row) is)) ∙ apart))) known
+
+  -- the row of an id once one is put
+  pub row_of-put : (row : R) (rows : List R) → row_of key (key row) (rows_with key row rows) ≡ Some row
+  row_of-put row rows = elim (cases_Bool (knows key (key row) rows)) [
+    | inl known ↦ ap (row_of key (key row)) (rows_with-known key row rows known) ∙ replaced-found rows known
+    | inr unknown ↦ row_of-new row rows unknown
+  ]
+    where
+      replaced-found : (kept : List R) → knows key (key row) kept ≡ true → row_of key (key row) (map (λ one. cond (has_id key (key row) one) row one) kept) ≡ Some row
+      replaced-found [] known = absurd (true≢false (sym known))
+      replaced-found (first ∷ kept) known = elim (cases_Bool (has_id key (key row) first)) [
+        | inl is ↦
+            ap (λ b. row_of key (key row) (cond b row first ∷ map (λ one. cond (has_id key (key row) one) row one) kept)) is ∙ ap (λ b. cond b (Some row) (row_of key (key row) (map (λ one. cond (has_id key (key row) one) row one) kept))) (eq-eqb (key row) (key row) refl)
+        | inr other ↦
+            ap (λ b. row_of key (key row) (cond b row first ∷ map (λ one. cond (has_id key (key row) one) row one) kept)) other ∙ ap (λ b. cond b (Some first) (row_of key (key row) (map (λ one. cond (has_id key (key row) one) row one) kept))) other ∙ replaced-found kept (sym (ap (λ b. b || knows key (key row) kept) other) ∙ known)
+      ]
+
+  pub row_of-other : (id : ℕ) (row : R) (rows : List R) → has_id key id row ≡ false → row_of key id (rows_with key row rows) ≡ row_of key id rows
+  row_of-other id row rows apart = elim (cases_Bool (knows key (key row) rows)) [
+    | inl known ↦ ap (row_of key id) (rows_with-known key row rows known) ∙ others rows
+    | inr unknown ↦ ap (row_of key id) (rows_with-new key row rows unknown) ∙ find-append (has_id key id) rows (row ∷ []) ∙ ap (λ b. option_or (row_of key id rows) (cond b (Some row) None)) apart ∙ or_none (row_of key id rows)
+  ]
+    where
+      or_none : (one : Option R) → option_or one None ≡ one
+      or_none None = refl
+      or_none (Some one) = refl
+
+      others : (kept : List R) → row_of key id (map (λ one. cond (has_id key (key row) one) row one) kept) ≡ row_of key id kept
+      others [] = refl
+      others (first ∷ kept) = elim (cases_Bool (has_id key (key row) first)) [
+        | inl is ↦
+            let unlike : has_id key id first ≡ false = ap (λ n. nat_eq id n) (sym (eqb-true (key row) (key first) is)) ∙ apart in
+            ap (λ b. row_of key id (cond b row first ∷ map (λ one. cond (has_id key (key row) one) row one) kept)) is ∙ ap (λ b. cond b (Some row) (row_of key id (map (λ one. cond (has_id key (key row) one) row one) kept))) apart ∙ others kept ∙ sym (ap (λ b. cond b (Some first) (row_of key id kept)) unlike)
+        | inr other ↦
+            ap (λ b. row_of key id (cond b row first ∷ map (λ one. cond (has_id key (key row) one) row one) kept)) other ∙ ap (λ rest. cond (has_id key id first) (Some first) rest) (others kept)
+      ]
+
+  -- what is found is the row of its id, where ids differ; and two rows of one id are one
+  pub found-own : (test : R → Bool) (row : R) (rows : List R) → IdsDiffer key rows → find test rows ≡ Some row → row_of key (key row) rows ≡ Some row
+  found-own test row rows differ found =
+      found-each test (λ one. row_of key (key one) rows ≡ Some one) rows row (each-own key rows differ) found
+
+  pub one-row : (test : R → Bool) (row other : R) (rows : List R) → IdsDiffer key rows → find test rows ≡ Some row → row_of key (key other) rows ≡ Some other → key row ≡ key other → row ≡ other
+  one-row test row other rows differ found there is =
+      some_is row other (sym (found-own test row rows differ found) ∙ ap (λ id. row_of key id rows) is ∙ there)
+
+  -- a row that is found by another test than one that the row of an id passes has another id
+  pub other-id : (test : R → Bool) (row gone : R) (rows : List R) → IdsDiffer key rows → find test rows ≡ Some row → row_of key (key gone) rows ≡ Some gone → (test gone ≡ true → ⊥) → key row ≢ key gone
+  other-id test row gone rows differ found there fails is =
+      fails (subst (λ one. test one ≡ true) (one-row test row gone rows differ found there is) (found-passes test rows row found))
+
+-- facts once one is put, or some are dropped
+module _ {T : Type 0} (code : Coded T) where
+  pub holds-with : (other fact : T) (facts : List T) → holds code other facts ≡ true → holds code other (facts_with code fact facts) ≡ true
+  holds-with other fact facts held = elim (cases_Bool (holds code fact facts)) [
+    | inl known ↦ ap (holds code other) (facts_with-known code fact facts known) ∙ held
+    | inr new ↦ ap (holds code other) (facts_with-new code fact facts new) ∙ any-push (same code other) facts fact held
+  ]
+
+  last-held : (fact : T) (facts : List T) → holds code fact (facts ++ fact ∷ []) ≡ true
+  last-held fact [] = ap (λ b. b || false) (same-refl code fact)
+  last-held fact (first ∷ facts) = ap (λ b. same code fact first || b) (last-held fact facts) ∙ or_last (same code fact first)
+    where
+      or_last : (b : Bool) → (b || true) ≡ true
+      or_last true = refl
+      or_last false = refl
+
+  pub holds-put : (fact : T) (facts : List T) → holds code fact (facts_with code fact facts) ≡ true
+  holds-put fact facts = elim (cases_Bool (holds code fact facts)) [
+    | inl known ↦ ap (holds code fact) (facts_with-known code fact facts known) ∙ known
+    | inr new ↦ ap (holds code fact) (facts_with-new code fact facts new) ∙ last-held fact facts
+  ]
+
+  pub holds-kept : (keep : T → Bool) (fact : T) (facts : List T) → holds code fact facts ≡ true → keep fact ≡ true → holds code fact (filter keep facts) ≡ true
+  holds-kept keep fact facts held kept =
+      any-kept (same code fact) keep facts (each-all (λ one. same code fact one ≡ true → keep one ≡ true) facts (λ one is. ap keep (sym (same-true code fact one is)) ∙ kept)) held
+
+  pub holds-without : (gone fact : T) (facts : List T) → holds code fact facts ≡ true → fact ≢ gone → holds code fact (facts_without code gone facts) ≡ true
+  unfolding facts_without
+  holds-without gone fact facts held apart =
+      holds-kept (λ kept. not (same code gone kept)) fact facts held (ap not (same-differ code gone fact (λ is. apart (sym is))))
+
+  pub each-facts_with : (P : T → Type 0) (fact : T) (facts : List T) → AllByRecursion P facts → P fact → AllByRecursion P (facts_with code fact facts)
+  each-facts_with P fact facts all here = elim (cases_Bool (holds code fact facts)) [
+    | inl known ↦ subst (AllByRecursion P) (sym (facts_with-known code fact facts known)) all
+    | inr new ↦ subst (AllByRecursion P) (sym (facts_with-new code fact facts new)) (each-push P facts fact all here)
+  ]
+
+-- ids that are none of principals and roles
+pub record IsUnknown (id : ℕ) (access : AccessRows) : Type 0 where
+  pub principals : knows principal_id id access.principals ≡ false
+  pub principal_roles : knows principal_role_id id access.principal_roles ≡ false
+  pub catalog_roles : knows catalog_role_id id access.catalog_roles ≡ false
+
+pub unknown-parts : (id : ℕ) (access : AccessRows) → is_access_id id access ≡ false → IsUnknown id access
+unknown-parts id access none =
+    let last = or-parts (knows principal_id id access.principals || knows principal_role_id id access.principal_roles) (knows catalog_role_id id access.catalog_roles) none in
+    let first = or-parts (knows principal_id id access.principals) (knows principal_role_id id access.principal_roles) last.0 in
+    record { principals = first.0; principal_roles = first.1; catalog_roles = last.1 }
+
+pub unknown-from : (id : ℕ) (access : AccessRows) → IsUnknown id access → is_access_id id access ≡ false
+unknown-from id access none =
+    or-false (knows principal_id id access.principals || knows principal_role_id id access.principal_roles) (knows catalog_role_id id access.catalog_roles) (or-false (knows principal_id id access.principals) (knows principal_role_id id access.principal_roles) none.principals none.principal_roles) none.catalog_roles
+
+-- ids stay apart where no principal and no role is new, or one whose id is no catalogue's and no namespace's
+module _ (access after : AccessRows) (content : ContentRows) (apart : IdsApart access content) where
+  pub apart-fewer : ((id : ℕ) → IsUnknown id access → IsUnknown id after) → IdsApart after content
+  apart-fewer so = record {
+    catalogs = each-weaken (λ row. is_access_id row.id access ≡ false) (λ row. is_access_id row.id after ≡ false) content.catalogs (λ row none. unknown-from row.id after (so row.id (unknown-parts row.id access none))) apart.catalogs;
+    namespaces = each-weaken (λ row. is_access_id row.id access ≡ false) (λ row. is_access_id row.id after ≡ false) content.namespaces (λ row none. unknown-from row.id after (so row.id (unknown-parts row.id access none))) apart.namespaces;
+  }
+
+  pub apart-put : (new : ℕ) → is_content_id new content ≡ false → ((id : ℕ) → IsUnknown id access → nat_eq id new ≡ false → IsUnknown id after) → IdsApart after content
+  apart-put new none so =
+      let parts = or-parts (knows catalog_id new content.catalogs) (knows namespace_id new content.namespaces) none in
+      record {
+        catalogs = each-join (λ row. nat_eq new row.id ≡ false) (λ row. is_access_id row.id access ≡ false) (λ row. is_access_id row.id after ≡ false) content.catalogs (λ row other unknown. unknown-from row.id after (so row.id (unknown-parts row.id access unknown) (nat_eq_equiv.symm row.id new ∙ other))) (each-fails (has_id catalog_id new) content.catalogs parts.0) apart.catalogs;
+        namespaces = each-join (λ row. nat_eq new row.id ≡ false) (λ row. is_access_id row.id access ≡ false) (λ row. is_access_id row.id after ≡ false) content.namespaces (λ row other unknown. unknown-from row.id after (so row.id (unknown-parts row.id access unknown) (nat_eq_equiv.symm row.id new ∙ other))) (each-fails (has_id namespace_id new) content.namespaces parts.1) apart.namespaces;
+      }
+
+pub new_ids : NewIdsAreNoContents
+new_ids next_id id content sound above =
+    or-false (knows catalog_id id content.catalogs) (knows namespace_id id content.namespaces) (knows-below catalog_id id content.catalogs (KeysBelow-more catalog_id next_id id content.catalogs above (below-next catalog_id next_id content.catalogs sound.catalogs))) (knows-below namespace_id id content.namespaces (KeysBelow-more namespace_id next_id id content.namespaces above (below-next namespace_id next_id content.namespaces sound.namespaces)))
+
+pub members_keep : MembersKeepTies
+members_keep access content tied members = record {
+  role_catalogs = tied.role_catalogs;
+  grants_within = each-weaken (IsGrantWithin access content) (IsGrantWithin (record access { members = members }) content) access.grants (λ row within. record { role = within.role; there = within.there; within = within.within }) tied.grants_within;
+  catalog_admins = each-weaken (λ row. HasAdmin access row.id) (λ row. HasAdmin (record access { members = members }) row.id) content.catalogs (λ row has. record { role = has.role; role_there = has.role_there; service = has.service; service_there = has.service_there; joined = has.joined; manages_access = has.manages_access; manages_content = has.manages_content }) tied.catalog_admins;
+  ids_apart = record { catalogs = tied.ids_apart.catalogs; namespaces = tied.ids_apart.namespaces };
+}
+
+-- grants stay within their roles' catalogues where the roles are found as before
+module _ (access after : AccessRows) (content : ContentRows) where
+  pub within-roles : (row : GrantRow) (within : IsGrantWithin access content row) → row_of catalog_role_id row.catalog_role after.catalog_roles ≡ Some within.role → IsGrantWithin after content row
+  within-roles row within there = record { role = within.role; there = there; within = within.within }
+
+pub put_principal : PutPrincipalKeepsTies
+put_principal access content tied row none =
+    let after : AccessRows = record access { principals = rows_with principal_id row access.principals } in
+    record {
+      role_catalogs = tied.role_catalogs;
+      grants_within = each-weaken (IsGrantWithin access content) (IsGrantWithin after content) access.grants (λ one within. within-roles access after content one within within.there) tied.grants_within;
+      catalog_admins = each-weaken (λ one. HasAdmin access one.id) (λ one. HasAdmin after one.id) content.catalogs (λ one has. record { role = has.role; role_there = has.role_there; service = has.service; service_there = has.service_there; joined = has.joined; manages_access = has.manages_access; manages_content = has.manages_content }) tied.catalog_admins;
+      ids_apart = apart-put access after content tied.ids_apart row.id none (λ id unknown other. record { principals = unknown-put principal_id id row access.principals unknown.principals other; principal_roles = unknown.principal_roles; catalog_roles = unknown.catalog_roles });
+    }
+
+pub dropped_principal : DroppedPrincipalKeepsTies
+dropped_principal access content tied gone =
+    let after : AccessRows = principal_dropped gone access in
+    record {
+      role_catalogs = tied.role_catalogs;
+      grants_within = each-weaken (IsGrantWithin access content) (IsGrantWithin after content) access.grants (λ one within. within-roles access after content one within within.there) tied.grants_within;
+      catalog_admins = each-weaken (λ one. HasAdmin access one.id) (λ one. HasAdmin after one.id) content.catalogs (λ one has. record { role = has.role; role_there = has.role_there; service = has.service; service_there = has.service_there; joined = has.joined; manages_access = has.manages_access; manages_content = has.manages_content }) tied.catalog_admins;
+      ids_apart = apart-fewer access after content tied.ids_apart (λ id unknown. record { principals = unknown-without principal_id id gone access.principals unknown.principals; principal_roles = unknown.principal_roles; catalog_roles = unknown.catalog_roles });
+    }
+
+pub pushed_principal_role : PushedPrincipalRoleKeepsTies
+pushed_principal_role access content tied row new none =
+    let after : AccessRows = record access { principal_roles = rows_with principal_role_id row access.principal_roles } in
+    record {
+      role_catalogs = tied.role_catalogs;
+      grants_within = each-weaken (IsGrantWithin access content) (IsGrantWithin after content) access.grants (λ one within. within-roles access after content one within within.there) tied.grants_within;
+      catalog_admins = each-weaken (λ one. HasAdmin access one.id) (λ one. HasAdmin after one.id) content.catalogs (λ one has. record {
+        role = has.role;
+        role_there = has.role_there;
+        service = has.service;
+        service_there = find-pushed principal_role_id (has_role_name (codes "service_admin")) row has.service access.principal_roles new has.service_there;
+        joined = has.joined;
+        manages_access = has.manages_access;
+        manages_content = has.manages_content;
+      }) tied.catalog_admins;
+      ids_apart = apart-put access after content tied.ids_apart row.id none (λ id unknown other. record { principals = unknown.principals; principal_roles = unknown-put principal_role_id id row access.principal_roles unknown.principal_roles other; catalog_roles = unknown.catalog_roles });
+    }
+
+-- a row of another name doesn't pass the test of a name
+pub other-name : (name : List ℕ) (other : List ℕ) → other ≢ name → bytes_eq name other ≡ true → ⊥
+other-name name other apart same = apart (sym (same_text name other (sym same)))
+
+pub dropped_principal_role : DroppedPrincipalRoleKeepsTies
+dropped_principal_role access content tied row differ there named =
+    let after : AccessRows = principal_role_dropped row.id access in
+    let test = has_role_name (codes "service_admin") in
+    let apart : (has : PrincipalRoleRow) → find test access.principal_roles ≡ Some has → nat_eq has.id row.id ≡ false = λ has found. ne_eqb has.id row.id (other-id principal_role_id test has row access.principal_roles differ found there (other-name (codes "service_admin") row.name named)) in
+    record {
+      role_catalogs = tied.role_catalogs;
+      grants_within = each-weaken (IsGrantWithin access content) (IsGrantWithin after content) access.grants (λ one within. within-roles access after content one within within.there) tied.grants_within;
+      catalog_admins = each-weaken (λ one. HasAdmin access one.id) (λ one. HasAdmin after one.id) content.catalogs (λ one has. record {
+        role = has.role;
+        role_there = has.role_there;
+        service = has.service;
+        service_there = find-without principal_role_id test row.id has.service access.principal_roles has.service_there (nat_eq_equiv.symm row.id has.service.id ∙ apart has.service has.service_there);
+        joined = holds-kept join.the_row.coded (λ kept. not (nat_eq kept.principal_role row.id)) (record { principal_role = has.service.id; catalog_role = has.role.id }) access.joins has.joined (ap not (apart has.service has.service_there));
+        manages_access = has.manages_access;
+        manages_content = has.manages_content;
+      }) tied.catalog_admins;
+      ids_apart = apart-fewer access after content tied.ids_apart (λ id unknown. record { principals = unknown.principals; principal_roles = unknown-without principal_role_id id row.id access.principal_roles unknown.principal_roles; catalog_roles = unknown.catalog_roles });
+    }
+
+pub put_join : PutJoinKeepsTies
+put_join access content tied row =
+    let after : AccessRows = record access { joins = facts_with join.the_row.coded row access.joins } in
+    record {
+      role_catalogs = tied.role_catalogs;
+      grants_within = each-weaken (IsGrantWithin access content) (IsGrantWithin after content) access.grants (λ one within. within-roles access after content one within within.there) tied.grants_within;
+      catalog_admins = each-weaken (λ one. HasAdmin access one.id) (λ one. HasAdmin after one.id) content.catalogs (λ one has. record {
+        role = has.role;
+        role_there = has.role_there;
+        service = has.service;
+        service_there = has.service_there;
+        joined = holds-with join.the_row.coded (record { principal_role = has.service.id; catalog_role = has.role.id }) row access.joins has.joined;
+        manages_access = has.manages_access;
+        manages_content = has.manages_content;
+      }) tied.catalog_admins;
+      ids_apart = record { catalogs = tied.ids_apart.catalogs; namespaces = tied.ids_apart.namespaces };
+    }
+
+-- the name that a found role has
+pub role-name : (catalog : ℕ) (name : List ℕ) (row : CatalogRoleRow) → has_catalog_role_name catalog name row ≡ true → (row.catalog ≡ catalog) × (row.name ≡ name)
+role-name catalog name row has =
+    let parts = and_parts (nat_eq row.catalog catalog) (bytes_eq name row.name) has in
+    (eqb-true row.catalog catalog parts.0, sym (same_text name row.name (sym parts.1)))
+
+pub dropped_join : DroppedJoinKeepsTies
+dropped_join access content tied principal_role catalog_role roles_differ differ role_there there other =
+    let gone : JoinRow = record { principal_role = principal_role.id; catalog_role = catalog_role.id } in
+    let after : AccessRows = record access { joins = facts_without join.the_row.coded gone access.joins } in
+    record {
+      role_catalogs = tied.role_catalogs;
+      grants_within = each-weaken (IsGrantWithin access content) (IsGrantWithin after content) access.grants (λ one within. within-roles access after content one within within.there) tied.grants_within;
+      catalog_admins = each-weaken (λ one. HasAdmin access one.id) (λ one. HasAdmin after one.id) content.catalogs (λ one has. record {
+        role = has.role;
+        role_there = has.role_there;
+        service = has.service;
+        service_there = has.service_there;
+        joined = holds-without join.the_row.coded gone (record { principal_role = has.service.id; catalog_role = has.role.id }) access.joins has.joined (λ is. stays one has (ap (λ join_. join_.principal_role) is) (ap (λ join_. join_.catalog_role) is));
+        manages_access = has.manages_access;
+        manages_content = has.manages_content;
+      }) tied.catalog_admins;
+      ids_apart = record { catalogs = tied.ids_apart.catalogs; namespaces = tied.ids_apart.namespaces };
+    }
+  where
+    stays : (one : CatalogRow) (has : HasAdmin access one.id) → has.service.id ≡ principal_role.id → has.role.id ≡ catalog_role.id → ⊥
+    stays one has service_is role_is =
+        let service = one-row principal_role_id (has_role_name (codes "service_admin")) has.service principal_role access.principal_roles roles_differ has.service_there role_there service_is in
+        let role = one-row catalog_role_id (has_catalog_role_name one.id (codes "catalog_admin")) has.role catalog_role access.catalog_roles differ has.role_there there role_is in
+        let service_named = found-passes (has_role_name (codes "service_admin")) access.principal_roles has.service has.service_there in
+        let role_named = role-name one.id (codes "catalog_admin") has.role (found-passes (has_catalog_role_name one.id (codes "catalog_admin")) access.catalog_roles has.role has.role_there) in
+        other (sym (ap (λ row. row.name) service) ∙ sym (same_text (codes "service_admin") has.service.name (sym service_named))) (sym (ap (λ row. row.name) role) ∙ role_named.1)
+
+pub put_grant : PutGrantKeepsTies
+put_grant access content tied row within =
+    let after : AccessRows = record access { grants = facts_with grant.the_row.coded row access.grants } in
+    record {
+      role_catalogs = tied.role_catalogs;
+      grants_within = each-facts_with grant.the_row.coded (IsGrantWithin after content) row access.grants (each-weaken (IsGrantWithin access content) (IsGrantWithin after content) access.grants (λ one inside. within-roles access after content one inside inside.there) tied.grants_within) (within-roles access after content row within within.there);
+      catalog_admins = each-weaken (λ one. HasAdmin access one.id) (λ one. HasAdmin after one.id) content.catalogs (λ one has. record {
+        role = has.role;
+        role_there = has.role_there;
+        service = has.service;
+        service_there = has.service_there;
+        joined = has.joined;
+        manages_access = holds-with grant.the_row.coded (record { catalog_role = has.role.id; privilege = CatalogManageAccess; securable = Catalog one.id }) row access.grants has.manages_access;
+        manages_content = holds-with grant.the_row.coded (record { catalog_role = has.role.id; privilege = CatalogManageContent; securable = Catalog one.id }) row access.grants has.manages_content;
+      }) tied.catalog_admins;
+      ids_apart = record { catalogs = tied.ids_apart.catalogs; namespaces = tied.ids_apart.namespaces };
+    }
+
+pub dropped_grant : DroppedGrantKeepsTies
+unfolding facts_without
+dropped_grant access content tied role row differ there other =
+    let after : AccessRows = record access { grants = facts_without grant.the_row.coded row access.grants } in
+    record {
+      role_catalogs = tied.role_catalogs;
+      grants_within = each-kept (IsGrantWithin access content) (IsGrantWithin after content) (λ kept. not (same grant.the_row.coded row kept)) access.grants tied.grants_within (λ one within stays. within-roles access after content one within within.there);
+      catalog_admins = each-weaken (λ one. HasAdmin access one.id) (λ one. HasAdmin after one.id) content.catalogs (λ one has. record {
+        role = has.role;
+        role_there = has.role_there;
+        service = has.service;
+        service_there = has.service_there;
+        joined = has.joined;
+        manages_access = holds-without grant.the_row.coded row (record { catalog_role = has.role.id; privilege = CatalogManageAccess; securable = Catalog one.id }) access.grants has.manages_access (λ is. (admins one has (ap (λ grant_. grant_.catalog_role) is) (ap (λ grant_. grant_.securable) is)).0 (sym (ap (λ grant_. grant_.privilege) is)));
+        manages_content = holds-without grant.the_row.coded row (record { catalog_role = has.role.id; privilege = CatalogManageContent; securable = Catalog one.id }) access.grants has.manages_content (λ is. (admins one has (ap (λ grant_. grant_.catalog_role) is) (ap (λ grant_. grant_.securable) is)).1 (sym (ap (λ grant_. grant_.privilege) is)));
+      }) tied.catalog_admins;
+      ids_apart = record { catalogs = tied.ids_apart.catalogs; namespaces = tied.ids_apart.namespaces };
+    }
+  where
+    admins : (one : CatalogRow) (has : HasAdmin access one.id) → has.role.id ≡ row.catalog_role → Catalog one.id ≡ row.securable → (row.privilege ≢ CatalogManageAccess) × (row.privilege ≢ CatalogManageContent)
+    admins one has role_is on =
+        let own = found-own catalog_role_id (has_catalog_role_name one.id (codes "catalog_admin")) has.role access.catalog_roles differ has.role_there in
+        let is = some_is has.role role (sym own ∙ ap (λ id. row_of catalog_role_id id access.catalog_roles) role_is ∙ there) in
+        let named = role-name one.id (codes "catalog_admin") has.role (found-passes (has_catalog_role_name one.id (codes "catalog_admin")) access.catalog_roles has.role has.role_there) in
+        other (sym (ap (λ kept. kept.name) is) ∙ named.1) (sym on ∙ ap Catalog (sym named.0 ∙ ap (λ kept. kept.catalog) is))
