@@ -298,12 +298,12 @@ any-found test (x ∷ xs) some = elim (cases_Bool (test x)) [
 ]
 
 -- a parent has all levels but the last, and there are at least two
-record Front (levels parent : List (List ℕ)) : Type 0 where
-  deep : 1 < length levels
-  levels_is : parent ≡ take (length levels - 1) levels
-  size : length parent ≡ length levels - 1
+pub record Front (levels parent : List (List ℕ)) : Type 0 where
+  pub deep : 1 < length levels
+  pub levels_is : parent ≡ take (length levels - 1) levels
+  pub size : length parent ≡ length levels - 1
 
-parent_front : (levels parent : List (List ℕ)) → parent_of levels ≡ Some parent → Front levels parent
+pub parent_front : (levels parent : List (List ℕ)) → parent_of levels ≡ Some parent → Front levels parent
 parent_front levels parent is = elim (cases_Bool (nat_lt 1 (length levels))) [
   | inr single ↦ let contrary : None ≡ Some parent = sym (ap (λ b. cond b (Some (take (length levels - 1) levels)) None) single) ∙ is in cc
   | inl more ↦

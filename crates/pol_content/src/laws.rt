@@ -1,5 +1,5 @@
 //! Theorems over the definitions of `specs/`: the clause of each function is the statement, and its body is empty.
-ghost use Rattle.pol_content.specs.Laws.{CreatedCatalogKeepsTies, DroppedCatalogKeepsTies, PutNamespaceKeepsTies, DroppedNamespaceKeepsTies, PushedCatalogRoleKeepsTies, DroppedCatalogRoleKeepsTies, PutPrincipalKeepsTies, DroppedPrincipalKeepsTies, PushedPrincipalRoleKeepsTies, DroppedPrincipalRoleKeepsTies, PutJoinKeepsTies, DroppedJoinKeepsTies, PutGrantKeepsTies, DroppedGrantKeepsTies, AlteredCatalogsKeepSound, AlteredNamespacesKeepSound, DroppedCatalogKeepsSound, DroppedNamespaceKeepsSound, ListsAreInOrder, MembersKeepTies, MoreIdsKeepSound, NewIdsAreNoContents, NewRowsGoLast, PushedCatalogKeepsSound, PushedNamespaceKeepsSound, ReplacedNamespaceKeepsSound, WholePathsHaveParents};
+ghost use Rattle.pol_content.specs.Laws.{ChainsHaveWhatContains, CreatedCatalogKeepsTies, DroppedCatalogKeepsTies, PutNamespaceKeepsTies, DroppedNamespaceKeepsTies, PushedCatalogRoleKeepsTies, DroppedCatalogRoleKeepsTies, PutPrincipalKeepsTies, DroppedPrincipalKeepsTies, PushedPrincipalRoleKeepsTies, DroppedPrincipalRoleKeepsTies, PutJoinKeepsTies, DroppedJoinKeepsTies, PutGrantKeepsTies, DroppedGrantKeepsTies, AlteredCatalogsKeepSound, AlteredNamespacesKeepSound, DroppedCatalogKeepsSound, DroppedNamespaceKeepsSound, ListsAreInOrder, MembersKeepTies, MoreIdsKeepSound, NewIdsAreNoContents, NewRowsGoLast, PushedCatalogKeepsSound, PushedNamespaceKeepsSound, ReplacedNamespaceKeepsSound, WholePathsHaveParents};
 
 /// Rows stay sound where more ids are given out.
 pub fn more_ids_keep_sound()
@@ -134,4 +134,9 @@ pub fn pushed_catalog_role_keeps_ties()
 /// A catalogue role other than a `catalog_admin` may be dropped.
 pub fn dropped_catalog_role_keeps_ties()
     ensures { DroppedCatalogRoleKeepsTies }
+{}
+
+/// A chain has the securable and what contains it, and nothing else.
+pub fn chains_have_what_contains()
+    ensures { ChainsHaveWhatContains }
 {}
