@@ -1,9 +1,9 @@
 -- Chains of securables.
 use Rattle.std.proofs.Common.{◌≡◌, ◌⊎◌, ℕ, zero, suc, ◌+◌, ◌-◌, ◌<◌, ◌≤◌, true, cond, ◌&&◌, List, [], ◌∷◌, ◌++◌, map, reverse, filter_map, take, length, Option, None, Some, option_map, option_to_list, nat_eq, nat_lt, refl, sym, ap, subst, ◌∙◌, inl, inr, arith, length-take-le}
 use Rattle.std.specs.Cmp.Lexicographic.{lists_equiv, nat_list_eq_equiv, same_text}
-use Rattle.std.specs.List.{cons_option, find, range_with_len, AllByRecursion, Contains}
-use Rattle.std.proofs.lemmas.Bool.{and_from, and_parts, eq-eqb, eqb-true, lt-ltb, ltb-true}
-use Rattle.std.proofs.lemmas.List.{append_assoc, reverse-append, take-take}
+use Rattle.std.specs.List.{cons_option, range_with_len, AllByRecursion, Contains}
+use Rattle.std.proofs.lemmas.Bool.{and_from, and_parts, lt-ltb, ltb-true}
+use Rattle.std.proofs.lemmas.List.{append_assoc, reverse-append, take-take, take_all}
 use Rattle.std.proofs.lemmas.List.Elements.{Contains-append_cases, Contains-append_left, Contains-append_right, Contains-push, Contains-push_cases}
 use Rattle.std.proofs.lemmas.List.FromFn.{map-range_with_len_more}
 use Rattle.pol_types.specs.Exact.{pointwise_exact}
@@ -12,9 +12,9 @@ use Rattle.pol_access.specs.declared.securable.Securable.TheVariants.{Realm, Cat
 use Rattle.pol_names.specs.Namespace.{parent_of}
 use Rattle.pol_tables.specs.Table.{row_of, IdsDiffer}
 use Rattle.pol_tables.proofs.TableLemmas.{key-row_of, some_is}
-use Rattle.pol_content.specs.Chain.{chain_of, first_or, namespace_at, namespaces_out, parents_out, Encloses, EnclosesRow, uppers_of_found}
+use Rattle.pol_content.specs.Chain.{first_or, namespace_at, parents_out, Encloses, EnclosesRow, uppers_of_found}
 use Rattle.pol_content.specs.Content.{is_namespace_named, lies_below, namespace_id, namespace_named, same_levels, ContentRows, NamespaceNamesDiffer}
-use Rattle.pol_content.specs.Laws.{ChainsHaveWhatContains}
+use Rattle.pol_content.specs.Laws.{ChainsHaveWhatContains, DeepestPartsAreFirst}
 use Rattle.pol_content.specs.declared.rows.NamespaceRow.{NamespaceRow}
 use Rattle.pol_content.proofs.NamesLemmas.{each-row_of, first_found, namespaces_alike}
 use Rattle.pol_content.proofs.SoundLemmas.{parent_front}
@@ -82,6 +82,22 @@ module _ {X Y : Type 0} (h : X → Option Y) (at : ℕ → X) where
 pub first-falling : (h : List (List ℕ) → Option Securable) (at : ℕ → List (List ℕ)) (many rest : ℕ) → many ≡ suc rest → (found : Securable) → h (at many) ≡ Some found → (catalog : ℕ) → found ≡ first_or catalog (falling h at many)
 first-falling h at many rest more found is catalog =
     sym (ap (first_or catalog) (falling-more h at many rest more ∙ ap (λ one. cons_option one (falling h at rest)) is))
+
+-- what is there of the levels of a front is what is there of those of the whole, as far as the front goes
+falling-front : {Y : Type 0} (h : List (List ℕ) → Option Y) (levels : List (List ℕ)) (size many : ℕ) → many ≤ size → falling h (λ n. take n levels) many ≡ falling h (λ n. take n (take size levels)) many
+falling-front h levels size zero within = refl
+falling-front h levels size (suc rest) within =
+    falling-more h (λ n. take n levels) (suc rest) rest refl ∙ (λ i. cons_option (h (sym (take-take (suc rest) size levels within) i)) (falling-front h levels size rest (omega (arith, within)) i)) ∙ sym (falling-more h (λ n. take n (take size levels)) (suc rest) rest refl)
+
+pub deepest_first : DeepestPartsAreFirst
+deepest_first catalog levels content = (
+  λ some row found. sym (first-falling (namespace_at catalog content) (λ n. take n levels) (length levels) (length levels - 1) (omega (arith, some)) (Namespace row.id) (ap (namespace_at catalog content) (take_all (length levels) levels (omega arith)) ∙ ap (option_map (λ (one : NamespaceRow). Namespace one.id)) found) catalog),
+  λ some none.
+      let front = take (length levels - 1) levels in
+      let size : length front ≡ length levels - 1 = length-take-le (length levels - 1) levels (omega arith) in
+      ap (first_or catalog) (none-falling (namespace_at catalog content) (λ n. take n levels) (length levels) (length levels - 1) (omega (arith, some)) (ap (namespace_at catalog content) (take_all (length levels) levels (omega arith)) ∙ ap (option_map (λ (one : NamespaceRow). Namespace one.id)) none) ∙ falling-front (namespace_at catalog content) levels (length levels - 1) (length levels - 1) (omega arith) ∙ ap (falling (namespace_at catalog content) (λ n. take n front)) (sym size)),
+  refl,
+)
 
 -- levels that are the same are equal
 levels-are : (left right : List (List ℕ)) → same_levels left right ≡ true → left ≡ right

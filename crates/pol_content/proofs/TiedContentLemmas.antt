@@ -1,15 +1,17 @@
 -- Rows that are tied stay so once a catalogue, a namespace or a catalogue role is put or dropped.
-use Rattle.std.proofs.Common.{◌≡◌, ◌≢◌, ℕ, ◌+◌, Bool, true, false, not, ◌&&◌, List, filter, Option, Some, None, is_some, option_map, nat_eq, refl, sym, ap, ◌∙◌, inl, inr, true≢false, arith, codes}
+use Rattle.std.proofs.Common.{◌≡◌, ℕ, ◌+◌, Bool, true, false, not, ◌&&◌, ◌||◌, List, [], ◌∷◌, ◌++◌, Some, None, is_some, option_map, nat_eq, refl, sym, ap, ◌∙◌, true≢false, arith, codes}
 use Rattle.std.specs.Cmp.{nat_eq_equiv}
 use Rattle.std.specs.Cmp.Lexicographic.{nat_list_eq_equiv}
-use Rattle.std.specs.List.{find, AllByRecursion}
+use Rattle.std.specs.List.{find, list_any, AllByRecursion}
 use Rattle.std.specs.Str.{bytes_eq}
-use Rattle.std.proofs.lemmas.Bool.{and_from, cases_Bool, eq-eqb, eqb-true, ne_eqb}
+use Rattle.std.proofs.lemmas.Bool.{and_from, eq-eqb, eqb-true, ne_eqb}
+use Rattle.std.proofs.lemmas.List.{append_assoc}
 use Rattle.pol_access.specs.Access.{AccessRows, catalog_role_dropped, catalog_role_id, catalog_roles_dropped, grants_on_dropped, is_of_catalog, is_role_of}
 use Rattle.pol_access.specs.Names.{has_catalog_role_name}
 use Rattle.pol_access.specs.contracts.rows.GrantRow as grant
 use Rattle.pol_access.specs.contracts.rows.JoinRow as join
 use Rattle.pol_access.specs.contracts.securable.Securable.{the_row}
+use Rattle.pol_access.specs.declared.privilege.Privilege.{Privilege}
 use Rattle.pol_access.specs.declared.privilege.Privilege.TheVariants.{CatalogManageAccess, CatalogManageContent}
 use Rattle.pol_access.specs.declared.rows.CatalogRoleRow.{CatalogRoleRow}
 use Rattle.pol_access.specs.declared.rows.GrantRow.{GrantRow}
@@ -18,18 +20,27 @@ use Rattle.pol_access.specs.declared.securable.Securable.{Securable}
 use Rattle.pol_access.specs.declared.securable.Securable.TheVariants.{Realm, Catalog, Namespace, Table, View}
 use Rattle.pol_tables.specs.Facts.{facts_with, holds}
 use Rattle.pol_tables.specs.Same.{same}
-use Rattle.pol_tables.specs.Table.{has_id, knows, row_of, rows_with, rows_without, IdsDiffer}
-use Rattle.pol_tables.proofs.ListLemmas.{each-weaken}
+use Rattle.pol_tables.specs.Table.{has_id, knows, row_of, rows_with, rows_without}
+use Rattle.pol_tables.proofs.FactsLemmas.{facts_with-new}
+use Rattle.pol_tables.proofs.ListLemmas.{each-push, each-weaken}
 use Rattle.pol_tables.proofs.NamedLemmas.{each-rows_with, each-rows_without, find-none}
-use Rattle.pol_tables.proofs.SameLemmas.{same-differ, same-refl, same-true}
-use Rattle.pol_tables.proofs.TableLemmas.{is_some-row_of, key-row_of}
+use Rattle.pol_tables.proofs.SameLemmas.{same-differ, same-refl}
+use Rattle.pol_tables.proofs.TableLemmas.{is_some-row_of, key-row_of, rows_with-new}
 use Rattle.pol_content.specs.Content.{catalog_id, namespace_id, ContentRows}
-use Rattle.pol_content.specs.Laws.{CreatedCatalogKeepsTies, DroppedCatalogKeepsTies, DroppedCatalogRoleKeepsTies, DroppedNamespaceKeepsTies, PushedCatalogRoleKeepsTies, PutNamespaceKeepsTies}
-use Rattle.pol_content.specs.Ties.{admin_grant, admin_of, catalog_of, is_access_id, is_content_id, with_admin, AreTied, HasAdmin, IdsApart, IsGrantWithin}
+use Rattle.pol_content.specs.Laws.{AdminRowsGoLast, CreatedCatalogKeepsTies, DroppedCatalogKeepsTies, DroppedCatalogRoleKeepsTies, DroppedNamespaceKeepsTies, PushedCatalogRoleKeepsTies, PutNamespaceKeepsTies}
+use Rattle.pol_content.specs.Ties.{admin_grant, admin_join, admin_of, catalog_of, is_access_id, with_admin, HasAdmin, IdsApart, IsGrantWithin}
 use Rattle.pol_content.specs.declared.rows.CatalogRow.{CatalogRow}
 use Rattle.pol_content.specs.declared.rows.NamespaceRow.{NamespaceRow}
-use Rattle.pol_content.proofs.SoundLemmas.{any-fewer}
-use Rattle.pol_content.proofs.TiesLemmas.{apart-fewer, apart-put, each-facts_with, each-kept, find-kept, find-new, find-pushed, find-without, found-each, found-own, found-passes, holds-kept, holds-put, holds-with, knows-put, knows-without, mapped-kept, not-is, or-parts, other-id, other-name, role-name, row_of-new, row_of-other, row_of-put, unknown-from, unknown-parts, unknown-put, unknown-without, within-roles, IsUnknown}
+use Rattle.pol_content.proofs.SoundLemmas.{any-fewer, each-fails}
+use Rattle.pol_content.proofs.TiesLemmas.{apart-fewer, apart-put, each-facts_with, each-kept, find-kept, find-new, find-pushed, find-without, found-own, found-passes, holds-kept, holds-put, holds-with, knows-put, knows-without, mapped-kept, not-is, or-parts, other-id, role-name, row_of-new, row_of-other, row_of-put, unknown-from, unknown-parts, unknown-put, unknown-without, within-roles, IsUnknown}
+
+-- where each item fails none passes, and one more that fails leaves it so
+any-none : {X : Type 0} (test : X → Bool) (xs : List X) → AllByRecursion (λ x. test x ≡ false) xs → list_any test xs ≡ false
+any-none test [] all = refl
+any-none test (x ∷ xs) all = ap (λ b. b || list_any test xs) all.0 ∙ any-none test xs all.1
+
+none-push : {X : Type 0} (test : X → Bool) (xs : List X) (x : X) → list_any test xs ≡ false → test x ≡ false → list_any test (xs ++ x ∷ []) ≡ false
+none-push test xs x none fails = any-none test (xs ++ x ∷ []) (each-push (λ one. test one ≡ false) xs x (each-fails test xs none) fails)
 
 -- a catalogue's `catalog_admin`
 abbrev is_admin : ℕ → CatalogRoleRow → Bool
@@ -78,7 +89,7 @@ dropped_catalog_role access content tied row differ there named =
 
 -- a securable lies in its catalogue while the row of its id gives that one
 module _ (content after : ContentRows) (catalog : ℕ)
-  (catalogs : (row : CatalogRow) → row_of catalog_id catalog content.catalogs ≡ Some row → row_of catalog_id catalog after.catalogs ≡ Some row) where
+    (catalogs : (row : CatalogRow) → row_of catalog_id catalog content.catalogs ≡ Some row → row_of catalog_id catalog after.catalogs ≡ Some row) where
   pub lies-kept : (of : Securable) → ((id : ℕ) (row : NamespaceRow) → of ≡ Namespace id → row_of namespace_id id content.namespaces ≡ Some row → row.catalog ≡ catalog → option_map (λ one. one.catalog) (row_of namespace_id id after.namespaces) ≡ Some catalog)
       → catalog_of of content ≡ Some catalog → catalog_of of after ≡ Some catalog
   lies-kept Realm namespaces lies = lies
@@ -247,7 +258,7 @@ created_catalog access content tied row service service_there none none_after un
           role_there = find-pushed catalog_role_id (is_admin catalog) (admin_of row.id) has.role access.catalog_roles new_role has.role_there;
           service = has.service;
           service_there = has.service_there;
-          joined = holds-with join.the_row.coded (record { principal_role = has.service.id; catalog_role = has.role.id }) (record { principal_role = service.id; catalog_role = row.id + 1 }) access.joins has.joined;
+          joined = holds-with join.the_row.coded (record { principal_role = has.service.id; catalog_role = has.role.id }) (admin_join service.id row.id) access.joins has.joined;
           manages_access = both_kept (record { catalog_role = has.role.id; privilege = CatalogManageAccess; securable = Catalog catalog }) has.manages_access;
           manages_content = both_kept (record { catalog_role = has.role.id; privilege = CatalogManageContent; securable = Catalog catalog }) has.manages_content;
         }
@@ -265,7 +276,30 @@ created_catalog access content tied row service service_there none none_after un
       role_there = find-new catalog_role_id (is_admin row.id) (admin_of row.id) access.catalog_roles new_role no_role (and_from (nat_eq row.id row.id) (bytes_eq (codes "catalog_admin") (codes "catalog_admin")) (eq-eqb row.id row.id refl) (nat_list_eq_equiv.refl (codes "catalog_admin")));
       service = service;
       service_there = service_there;
-      joined = holds-put join.the_row.coded (record { principal_role = service.id; catalog_role = row.id + 1 }) access.joins;
+      joined = holds-put join.the_row.coded (admin_join service.id row.id) access.joins;
       manages_access = holds-with grant.the_row.coded (admin_grant CatalogManageAccess row.id) (admin_grant CatalogManageContent row.id) (facts_with grant.the_row.coded (admin_grant CatalogManageAccess row.id) access.grants) (holds-put grant.the_row.coded (admin_grant CatalogManageAccess row.id) access.grants);
       manages_content = holds-put grant.the_row.coded (admin_grant CatalogManageContent row.id) (facts_with grant.the_row.coded (admin_grant CatalogManageAccess row.id) access.grants);
     }
+
+pub admin_rows_last : AdminRowsGoLast
+admin_rows_last access content tied catalog service unknown joins_there = (
+  record { role = new_role; joined = new_join; manages_access = new_grant CatalogManageAccess; manages_content = new_grant CatalogManageContent },
+  λ i. record access { catalog_roles = rows_with-new catalog_role_id (admin_of catalog) access.catalog_roles new_role i; joins = facts_with-new join.the_row.coded (admin_join service catalog) access.joins new_join i; grants = grants_last i },
+)
+  where
+    new_role : knows catalog_role_id (catalog + 1) access.catalog_roles ≡ false
+    new_role = (unknown-parts (catalog + 1) access unknown).catalog_roles
+
+    new_join : holds join.the_row.coded (admin_join service catalog) access.joins ≡ false
+    new_join = any-none (same join.the_row.coded (admin_join service catalog)) access.joins (each-weaken (λ one. knows catalog_role_id one.catalog_role access.catalog_roles ≡ true) (λ one. same join.the_row.coded (admin_join service catalog) one ≡ false) access.joins (λ one known. same-differ join.the_row.coded (admin_join service catalog) one (λ is. true≢false (sym known ∙ ap (λ (kept : JoinRow). knows catalog_role_id kept.catalog_role access.catalog_roles) (sym is) ∙ new_role))) joins_there)
+
+    new_grant : (privilege : Privilege) → holds grant.the_row.coded (admin_grant privilege catalog) access.grants ≡ false
+    new_grant privilege =
+        any-none (same grant.the_row.coded (admin_grant privilege catalog)) access.grants (each-weaken (IsGrantWithin access content) (λ one. same grant.the_row.coded (admin_grant privilege catalog) one ≡ false) access.grants (λ one within. same-differ grant.the_row.coded (admin_grant privilege catalog) one (λ is. true≢false (sym (sym (is_some-row_of catalog_role_id one.catalog_role access.catalog_roles) ∙ ap is_some within.there) ∙ ap (λ (kept : GrantRow). knows catalog_role_id kept.catalog_role access.catalog_roles) (sym is) ∙ new_role))) tied.grants_within)
+
+    apart : same grant.the_row.coded (admin_grant CatalogManageContent catalog) (admin_grant CatalogManageAccess catalog) ≡ false
+    apart = same-differ grant.the_row.coded (admin_grant CatalogManageContent catalog) (admin_grant CatalogManageAccess catalog) (λ is. let contrary : CatalogManageContent ≡ CatalogManageAccess = ap (λ (one : GrantRow). one.privilege) is in cc)
+
+    grants_last : facts_with grant.the_row.coded (admin_grant CatalogManageContent catalog) (facts_with grant.the_row.coded (admin_grant CatalogManageAccess catalog) access.grants) ≡ access.grants ++ admin_grant CatalogManageAccess catalog ∷ admin_grant CatalogManageContent catalog ∷ []
+    grants_last =
+        ap (facts_with grant.the_row.coded (admin_grant CatalogManageContent catalog)) (facts_with-new grant.the_row.coded (admin_grant CatalogManageAccess catalog) access.grants (new_grant CatalogManageAccess)) ∙ facts_with-new grant.the_row.coded (admin_grant CatalogManageContent catalog) (access.grants ++ admin_grant CatalogManageAccess catalog ∷ []) (none-push (same grant.the_row.coded (admin_grant CatalogManageContent catalog)) access.grants (admin_grant CatalogManageAccess catalog) (new_grant CatalogManageContent) apart) ∙ append_assoc access.grants (admin_grant CatalogManageAccess catalog ∷ []) (admin_grant CatalogManageContent catalog ∷ [])

@@ -1,42 +1,37 @@
 -- Rows that are tied stay so once a row is put or dropped.
-use Rattle.std.proofs.Common.{◌≡◌, ◌≢◌, ℕ, ◌+◌, ◌≤◌, Bool, true, false, not, cond, ◌&&◌, ◌||◌, List, [], ◌∷◌, ◌++◌, map, filter, Option, Some, None, option_map, nat_eq, refl, sym, ap, subst, ◌∙◌, inl, inr, true≢false, arith, codes}
+use Rattle.std.proofs.Common.{◌≡◌, ◌≢◌, ℕ, Bool, true, false, not, cond, ◌||◌, List, [], ◌∷◌, ◌++◌, map, filter, Option, Some, None, option_map, nat_eq, refl, sym, ap, subst, ◌∙◌, inl, inr, true≢false, codes}
 use Rattle.std.specs.Cmp.{nat_eq_equiv}
-use Rattle.std.specs.Cmp.Lexicographic.{nat_list_eq_equiv, same_text}
+use Rattle.std.specs.Cmp.Lexicographic.{same_text}
 use Rattle.std.specs.Coded.{Coded}
-use Rattle.std.specs.List.{find, list_any, AllByRecursion}
+use Rattle.std.specs.List.{find, AllByRecursion}
 use Rattle.std.specs.Option.{option_or}
 use Rattle.std.specs.Str.{bytes_eq}
-use Rattle.std.proofs.lemmas.Bool.{and_from, and_parts, cases_Bool, eq-eqb, eqb-true, ne_eqb}
+use Rattle.std.proofs.lemmas.Bool.{and_parts, cases_Bool, eq-eqb, eqb-true, ne_eqb}
 use Rattle.std.proofs.lemmas.List.Folds.{find-append}
-use Rattle.pol_access.specs.Access.{AccessRows, catalog_role_id, is_joined, is_of_catalog, is_role_of, principal_dropped, principal_id, principal_role_dropped, principal_role_id}
+use Rattle.pol_access.specs.Access.{AccessRows, catalog_role_id, principal_dropped, principal_id, principal_role_dropped, principal_role_id}
 use Rattle.pol_access.specs.Names.{has_catalog_role_name, has_role_name}
 use Rattle.pol_access.specs.contracts.rows.GrantRow as grant
 use Rattle.pol_access.specs.contracts.rows.JoinRow as join
-use Rattle.pol_access.specs.contracts.securable.Securable as the_securable
-use Rattle.pol_access.specs.declared.privilege.Privilege.{Privilege}
 use Rattle.pol_access.specs.declared.privilege.Privilege.TheVariants.{CatalogManageAccess, CatalogManageContent}
 use Rattle.pol_access.specs.declared.rows.CatalogRoleRow.{CatalogRoleRow}
 use Rattle.pol_access.specs.declared.rows.GrantRow.{GrantRow}
 use Rattle.pol_access.specs.declared.rows.JoinRow.{JoinRow}
-use Rattle.pol_access.specs.declared.rows.PrincipalRow.{PrincipalRow}
 use Rattle.pol_access.specs.declared.rows.PrincipalRoleRow.{PrincipalRoleRow}
-use Rattle.pol_access.specs.declared.securable.Securable.{Securable}
-use Rattle.pol_access.specs.declared.securable.Securable.TheVariants.{Realm, Catalog, Namespace, Table, View}
+use Rattle.pol_access.specs.declared.securable.Securable.TheVariants.{Catalog}
 use Rattle.pol_tables.specs.Facts.{facts_with, facts_without, holds}
 use Rattle.pol_tables.specs.Same.{same}
 use Rattle.pol_tables.specs.Table.{has_id, knows, row_of, rows_with, rows_without, IdsDiffer}
 use Rattle.pol_tables.proofs.FactsLemmas.{facts_with-known, facts_with-new}
 use Rattle.pol_tables.proofs.ListLemmas.{each-all, each-join, each-push, each-weaken}
-use Rattle.pol_tables.proofs.NamedLemmas.{each-own, each-rows_with, each-rows_without, find-none}
+use Rattle.pol_tables.proofs.NamedLemmas.{each-own, find-none}
 use Rattle.pol_tables.proofs.NumberedLemmas.{below-next}
 use Rattle.pol_tables.proofs.RisingLemmas.{key-replaced, knows-below, KeysBelow-more}
-use Rattle.pol_tables.proofs.SameLemmas.{same-differ, same-refl, same-symmetric, same-true}
-use Rattle.pol_tables.proofs.TableLemmas.{is_some-row_of, key-row_of, knows-map, rows_with-known, rows_with-new, some_is}
+use Rattle.pol_tables.proofs.SameLemmas.{same-differ, same-refl, same-true}
+use Rattle.pol_tables.proofs.TableLemmas.{knows-map, rows_with-known, rows_with-new, some_is}
 use Rattle.pol_content.specs.Content.{catalog_id, namespace_id, ContentRows}
 use Rattle.pol_content.specs.Laws.{NewIdsAreNoContents, PutPrincipalKeepsTies, DroppedPrincipalKeepsTies, PushedPrincipalRoleKeepsTies, DroppedPrincipalRoleKeepsTies, MembersKeepTies, PutJoinKeepsTies, DroppedJoinKeepsTies, PutGrantKeepsTies, DroppedGrantKeepsTies}
-use Rattle.pol_content.specs.Ties.{admin_grant, admin_of, catalog_of, is_access_id, is_content_id, manages, with_admin, AreTied, HasAdmin, IdsApart, IsGrantWithin}
+use Rattle.pol_content.specs.Ties.{is_access_id, is_content_id, HasAdmin, IdsApart, IsGrantWithin}
 use Rattle.pol_content.specs.declared.rows.CatalogRow.{CatalogRow}
-use Rattle.pol_content.specs.declared.rows.NamespaceRow.{NamespaceRow}
 use Rattle.pol_content.proofs.SoundLemmas.{any-fewer, any-kept, any-push, each-fails, knows-push}
 
 pub or-false : (a b : Bool) → a ≡ false → b ≡ false → (a || b) ≡ false

@@ -1,7 +1,7 @@
 -- What contains a securable, its chain, and the deepest part of a path that is there.
 use Rattle.std.specs.Prelude.{◌≡◌, ℕ, true, List, [], ◌∷◌, ◌++◌, reverse, filter_map, Option, Some, None, option_map}
 use Rattle.pol_access.specs.declared.securable.Securable.{Securable}
-use Rattle.pol_access.specs.declared.securable.Securable.TheVariants.{Realm, Catalog, Namespace, Table, View}
+use Rattle.pol_access.specs.declared.securable.Securable.TheVariants.{Catalog, Namespace}
 use Rattle.pol_names.specs.Namespace.{parent_of}
 use Rattle.pol_tables.specs.Table.{row_of}
 use Rattle.pol_content.specs.Content.{ContentRows, lies_below, lineage, namespace_id, namespace_named}

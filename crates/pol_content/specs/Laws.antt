@@ -1,5 +1,5 @@
 -- Laws of sound catalogues and namespaces, of chains, and of what ties principals and roles to them.
-use Rattle.std.specs.Prelude.{◌≡◌, ◌≢◌, ◌⊎◌, ◌↔◌, ◌+◌, ◌<◌, ◌≤◌, ℕ, true, false, List, [], ◌∷◌, ◌++◌, length, map, Contains, Some, None, codes}
+use Rattle.std.specs.Prelude.{◌≡◌, ◌≢◌, ◌⊎◌, ◌↔◌, ◌+◌, ◌-◌, ◌<◌, ◌≤◌, ℕ, true, false, List, [], ◌∷◌, ◌++◌, length, map, take, Contains, Some, None, codes}
 use Rattle.std.specs.List.{AllByRecursion}
 use Rattle.std.specs.List.Sorted.{IsPermutation, IsSortedBy}
 use Rattle.pol_access.specs.Access.{AccessRows, catalog_role_dropped, catalog_role_id, catalog_roles_dropped, grants_on_dropped, principal_dropped, principal_id, principal_role_dropped, principal_role_id}
@@ -18,11 +18,11 @@ use Rattle.pol_access.specs.declared.securable.Securable.TheVariants.{Catalog, N
 use Rattle.pol_names.specs.Namespace.{parent_of}
 use Rattle.pol_tables.specs.Facts.{facts_with, facts_without}
 use Rattle.pol_tables.specs.Table.{knows, row_of, rows_with, rows_without, IdsDiffer}
-use Rattle.pol_content.specs.Chain.{Encloses, chain_of}
+use Rattle.pol_content.specs.Chain.{Encloses, chain_of, deepest}
 use Rattle.pol_content.specs.Content.{ContentRows, NamespaceNamesDiffer, catalog_id, catalog_is_empty, catalog_named, first_missing, is_empty, namespace_id, namespace_named}
 use Rattle.pol_content.specs.Order.{are_levels_less, by_levels, by_name, is_name_less}
 use Rattle.pol_content.specs.Sound.{HasParent, IsSmallCatalog, IsSmallNamespace, IsSoundContent}
-use Rattle.pol_content.specs.Ties.{AreTied, IsGrantWithin, is_access_id, is_content_id, with_admin}
+use Rattle.pol_content.specs.Ties.{IsAdminNew, AreTied, IsGrantWithin, is_access_id, is_content_id, with_admin, with_admin_last}
 use Rattle.pol_content.specs.declared.rows.CatalogRow.{CatalogRow}
 use Rattle.pol_content.specs.declared.rows.NamespaceRow.{NamespaceRow}
 
@@ -103,6 +103,15 @@ ChainsHaveWhatContains =
     (content : ContentRows) (of one : Securable) → IdsDiffer namespace_id content.namespaces → NamespaceNamesDiffer content.namespaces
     → AllByRecursion (λ row. 0 < length row.levels) content.namespaces → Contains (chain_of of content) one ↔ ((one ≡ of) ⊎ Encloses content one of)
 
+-- the deepest part that is there of a path is its namespace, or else that of the levels without the last; of no levels
+-- it is the catalogue
+abbrev pub DeepestPartsAreFirst : Type 0
+DeepestPartsAreFirst =
+    (catalog : ℕ) (levels : List (List ℕ)) (content : ContentRows)
+    → (0 < length levels → (row : NamespaceRow) → namespace_named catalog levels content ≡ Some row → deepest catalog levels content ≡ Namespace row.id)
+    × (0 < length levels → namespace_named catalog levels content ≡ None → deepest catalog levels content ≡ deepest catalog (take (length levels - 1) levels) content)
+    × (deepest catalog [] content ≡ Catalog catalog)
+
 -- an id that was not given out is no catalogue's and no namespace's
 abbrev pub NewIdsAreNoContents : Type 0
 NewIdsAreNoContents = (next_id id : ℕ) (content : ContentRows) → IsSoundContent next_id content → next_id ≤ id → is_content_id id content ≡ false
@@ -134,6 +143,13 @@ abbrev pub CreatedCatalogKeepsTies : Type 0
 CreatedCatalogKeepsTies = OfTied (λ access content. (row : CatalogRow) (service : PrincipalRoleRow) → principal_role_named (codes "service_admin") access ≡ Some service
     → is_content_id row.id content ≡ false → is_content_id (row.id + 1) content ≡ false → is_access_id row.id access ≡ false → is_access_id (row.id + 1) access ≡ false
     → AreTied (with_admin row.id service.id access) (record content { catalogs = rows_with catalog_id row content.catalogs }))
+
+-- the rows of a created catalogue's `catalog_admin` are new, and go last, where its id is new and the roles of joins
+-- are there
+abbrev pub AdminRowsGoLast : Type 0
+AdminRowsGoLast = OfTied (λ access content. (catalog service : ℕ) → is_access_id (catalog + 1) access ≡ false
+    → AllByRecursion (λ row. knows catalog_role_id row.catalog_role access.catalog_roles ≡ true) access.joins
+    → IsAdminNew catalog service access × (with_admin catalog service access ≡ with_admin_last catalog service access))
 
 -- a catalogue may be dropped with its roles
 abbrev pub DroppedCatalogKeepsTies : Type 0

@@ -1,5 +1,5 @@
 -- What ties principals and roles to catalogues and namespaces.
-use Rattle.std.specs.Prelude.{◌≡◌, ◌+◌, ℕ, Bool, true, false, ◌||◌, Option, Some, None, codes}
+use Rattle.std.specs.Prelude.{◌≡◌, ◌+◌, ℕ, Bool, true, false, ◌||◌, [], ◌∷◌, ◌++◌, Option, Some, None, codes}
 use Rattle.std.specs.List.{AllByRecursion}
 use Rattle.std.specs.Option.{option_map}
 use Rattle.pol_access.specs.Access.{AccessRows, catalog_role_id, is_joined, principal_id, principal_role_id}
@@ -10,6 +10,7 @@ use Rattle.pol_access.specs.declared.privilege.Privilege.{Privilege}
 use Rattle.pol_access.specs.declared.privilege.Privilege.TheVariants.{CatalogManageAccess, CatalogManageContent}
 use Rattle.pol_access.specs.declared.rows.CatalogRoleRow.{CatalogRoleRow}
 use Rattle.pol_access.specs.declared.rows.GrantRow.{GrantRow}
+use Rattle.pol_access.specs.declared.rows.JoinRow.{JoinRow}
 use Rattle.pol_access.specs.declared.rows.PrincipalRoleRow.{PrincipalRoleRow}
 use Rattle.pol_access.specs.declared.securable.Securable.{Securable}
 use Rattle.pol_access.specs.declared.securable.Securable.TheVariants as securable
@@ -72,6 +73,10 @@ pub record AreTied (access : AccessRows) (content : ContentRows) : Type 0 where
 abbrev pub admin_of : ℕ → CatalogRoleRow
 admin_of catalog = record { id = catalog + 1; catalog = catalog; name = codes "catalog_admin" }
 
+-- the join of a principal role to a catalogue's `catalog_admin`
+abbrev pub admin_join : ℕ → ℕ → JoinRow
+admin_join service catalog = record { principal_role = service; catalog_role = catalog + 1 }
+
 -- the grant that a catalogue's `catalog_admin` has of a privilege on its catalogue
 abbrev pub admin_grant : Privilege → ℕ → GrantRow
 admin_grant privilege catalog =
@@ -82,6 +87,20 @@ admin_grant privilege catalog =
 abbrev pub with_admin : ℕ → ℕ → AccessRows → AccessRows
 with_admin catalog service access = record access {
   catalog_roles = rows_with catalog_role_id (admin_of catalog) access.catalog_roles;
-  joins = facts_with join.the_row.coded (record { principal_role = service; catalog_role = catalog + 1 }) access.joins;
+  joins = facts_with join.the_row.coded (admin_join service catalog) access.joins;
   grants = facts_with grant.the_row.coded (admin_grant CatalogManageContent catalog) (facts_with grant.the_row.coded (admin_grant CatalogManageAccess catalog) access.grants);
+}
+
+-- none of these rows is there, and the rows with them last
+pub record IsAdminNew (catalog service : ℕ) (access : AccessRows) : Type 0 where
+  pub role : knows catalog_role_id (catalog + 1) access.catalog_roles ≡ false
+  pub joined : holds join.the_row.coded (admin_join service catalog) access.joins ≡ false
+  pub manages_access : holds grant.the_row.coded (admin_grant CatalogManageAccess catalog) access.grants ≡ false
+  pub manages_content : holds grant.the_row.coded (admin_grant CatalogManageContent catalog) access.grants ≡ false
+
+abbrev pub with_admin_last : ℕ → ℕ → AccessRows → AccessRows
+with_admin_last catalog service access = record access {
+  catalog_roles = access.catalog_roles ++ admin_of catalog ∷ [];
+  joins = access.joins ++ admin_join service catalog ∷ [];
+  grants = access.grants ++ admin_grant CatalogManageAccess catalog ∷ admin_grant CatalogManageContent catalog ∷ [];
 }

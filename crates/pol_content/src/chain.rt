@@ -1,4 +1,4 @@
-ghost use Rattle.std.specs.Prelude.{◌≡◌, ◌++◌, IfOk, OnOk, option_to_list};
+ghost use Rattle.std.specs.Prelude.{◌≡◌, ◌++◌, ◌<◌, ◌≤◌, IfOk, OnOk, length, option_to_list, take};
 ghost use Rattle.pol_content.specs.Chain.{chain_of, deepest, namespace_at, namespaces_out, uppers_of};
 ghost use Rattle.pol_content.specs.Content.{NamespaceNamesDiffer};
 
@@ -37,8 +37,7 @@ impl Content {
     {
         let depth = levels.levels().len();
         for fewer in 0..depth {
-            let path = levels.ancestor(alloc, depth - fewer)?;
-            if let Some(namespace) = self.namespace_at(catalog, &path) {
+            if let Some(namespace) = self.ancestor_at(alloc, catalog, levels, depth - fewer)? {
                 return Ok(namespace);
             }
         }
@@ -73,20 +72,26 @@ impl Content {
     {
         let depth = levels.levels().len();
         for fewer in 0..depth {
-            let path = levels.ancestor(alloc, depth - fewer)?;
-            push_found(self.namespace_at(catalog, &path), chain)?;
+            let found = self.ancestor_at(alloc, catalog, levels, depth - fewer)?;
+            push_found(found, chain)?;
         }
         Ok(())
     }
 
-    /// The namespace of this catalogue with these levels, as a securable.
-    fn namespace_at(&self, catalog: u64, levels: &Namespace) -> Option<Securable>
-        ensures { NamespaceNamesDiffer self.now.rows.namespaces → result ≡ namespace_at catalog self.now.rows levels.now }
+    /// The namespace of this catalogue with the first of these levels, as a securable.
+    fn ancestor_at(
+        &self,
+        alloc: Global,
+        catalog: u64,
+        levels: &Namespace,
+        depth: usize,
+    ) -> Result<Option<Securable>, OutOfMemory>
+        requires { (0 < depth) × (depth ≤ length levels.now) }
+        ensures { NamespaceNamesDiffer self.now.rows.namespaces → IfOk result (λ found. found ≡ namespace_at catalog self.now.rows (take depth levels.now)) }
     {
-        match self.namespace(catalog, levels) {
-            Some(row) => Some(Securable::Namespace(row.id)),
-            None => None,
-        }
+        let path = levels.ancestor(alloc, depth)?;
+        let found = self.namespace(catalog, &path);
+        Ok(found.map(|row| Securable::Namespace(row.id)))
     }
 }
 

@@ -1,5 +1,5 @@
 //! Theorems over the definitions of `specs/`: the clause of each function is the statement, and its body is empty.
-ghost use Rattle.pol_content.specs.Laws.{ChainsHaveWhatContains, CreatedCatalogKeepsTies, DroppedCatalogKeepsTies, PutNamespaceKeepsTies, DroppedNamespaceKeepsTies, PushedCatalogRoleKeepsTies, DroppedCatalogRoleKeepsTies, PutPrincipalKeepsTies, DroppedPrincipalKeepsTies, PushedPrincipalRoleKeepsTies, DroppedPrincipalRoleKeepsTies, PutJoinKeepsTies, DroppedJoinKeepsTies, PutGrantKeepsTies, DroppedGrantKeepsTies, AlteredCatalogsKeepSound, AlteredNamespacesKeepSound, DroppedCatalogKeepsSound, DroppedNamespaceKeepsSound, ListsAreInOrder, MembersKeepTies, MoreIdsKeepSound, NewIdsAreNoContents, NewRowsGoLast, PushedCatalogKeepsSound, PushedNamespaceKeepsSound, ReplacedNamespaceKeepsSound, WholePathsHaveParents};
+ghost use Rattle.pol_content.specs.Laws.{AdminRowsGoLast, AlteredCatalogsKeepSound, AlteredNamespacesKeepSound, ChainsHaveWhatContains, CreatedCatalogKeepsTies, DeepestPartsAreFirst, DroppedCatalogKeepsSound, DroppedCatalogKeepsTies, DroppedCatalogRoleKeepsTies, DroppedGrantKeepsTies, DroppedJoinKeepsTies, DroppedNamespaceKeepsSound, DroppedNamespaceKeepsTies, DroppedPrincipalKeepsTies, DroppedPrincipalRoleKeepsTies, ListsAreInOrder, MembersKeepTies, MoreIdsKeepSound, NewIdsAreNoContents, NewRowsGoLast, PushedCatalogKeepsSound, PushedCatalogRoleKeepsTies, PushedNamespaceKeepsSound, PushedPrincipalRoleKeepsTies, PutGrantKeepsTies, PutJoinKeepsTies, PutNamespaceKeepsTies, PutPrincipalKeepsTies, ReplacedNamespaceKeepsSound, WholePathsHaveParents};
 
 /// Rows stay sound where more ids are given out.
 pub fn more_ids_keep_sound()
@@ -56,14 +56,19 @@ pub fn lists_are_in_order()
     ensures { ListsAreInOrder }
 {}
 
+/// A chain has the securable and what contains it, and nothing else.
+pub fn chains_have_what_contains()
+    ensures { ChainsHaveWhatContains }
+{}
+
+/// The deepest part that is there of a path is its namespace, or else that of the levels without the last.
+pub fn deepest_parts_are_first()
+    ensures { DeepestPartsAreFirst }
+{}
+
 /// An id that was not given out is no catalogue's and no namespace's.
 pub fn new_ids_are_no_contents()
     ensures { NewIdsAreNoContents }
-{}
-
-/// Members may be put and dropped.
-pub fn members_keep_ties()
-    ensures { MembersKeepTies }
 {}
 
 /// A principal may be put whose id is no catalogue's and no namespace's.
@@ -86,29 +91,14 @@ pub fn dropped_principal_role_keeps_ties()
     ensures { DroppedPrincipalRoleKeepsTies }
 {}
 
-/// A join may be put.
-pub fn put_join_keeps_ties()
-    ensures { PutJoinKeepsTies }
-{}
-
-/// A join other than of `service_admin` to a `catalog_admin` may be dropped.
-pub fn dropped_join_keeps_ties()
-    ensures { DroppedJoinKeepsTies }
-{}
-
-/// A grant on what lies in its role's catalogue may be put.
-pub fn put_grant_keeps_ties()
-    ensures { PutGrantKeepsTies }
-{}
-
-/// A grant other than the two of a `catalog_admin` on its catalogue may be dropped.
-pub fn dropped_grant_keeps_ties()
-    ensures { DroppedGrantKeepsTies }
-{}
-
 /// A catalogue may be created with its `catalog_admin`, where its id and the one after it are new.
 pub fn created_catalog_keeps_ties()
     ensures { CreatedCatalogKeepsTies }
+{}
+
+/// The rows of a created catalogue's `catalog_admin` are new, and go last.
+pub fn admin_rows_go_last()
+    ensures { AdminRowsGoLast }
 {}
 
 /// A catalogue may be dropped with its roles.
@@ -136,7 +126,27 @@ pub fn dropped_catalog_role_keeps_ties()
     ensures { DroppedCatalogRoleKeepsTies }
 {}
 
-/// A chain has the securable and what contains it, and nothing else.
-pub fn chains_have_what_contains()
-    ensures { ChainsHaveWhatContains }
+/// Members may be put and dropped.
+pub fn members_keep_ties()
+    ensures { MembersKeepTies }
+{}
+
+/// A join may be put.
+pub fn put_join_keeps_ties()
+    ensures { PutJoinKeepsTies }
+{}
+
+/// A join other than of `service_admin` to a `catalog_admin` may be dropped.
+pub fn dropped_join_keeps_ties()
+    ensures { DroppedJoinKeepsTies }
+{}
+
+/// A grant on what lies in its role's catalogue may be put.
+pub fn put_grant_keeps_ties()
+    ensures { PutGrantKeepsTies }
+{}
+
+/// A grant other than the two of a `catalog_admin` on its catalogue may be dropped.
+pub fn dropped_grant_keeps_ties()
+    ensures { DroppedGrantKeepsTies }
 {}

@@ -1,6 +1,7 @@
 ghost use Rattle.std.specs.Prelude.{◌≡◌, IfOk};
 
 use super::*;
+use pol_access::Securable;
 use pol_locations::Location;
 use pol_names::{Namespace, Plain};
 use pol_properties::Properties;
@@ -271,5 +272,83 @@ fn a_copy_has_rows_of_its_own(rt: HostRuntime) -> Result<(), Fail> {
         copies_rows(rt.alloc(), &mut content)
     };
     assert!(rt; copied?);
+    Ok(())
+}
+
+/// Whether these are the chain of the securable.
+fn has_chain(
+    alloc: Global,
+    content: &Content,
+    of: Securable,
+    chain: &[Securable],
+) -> Result<bool, Fail> {
+    Ok(content.chain(alloc, of)?.as_slice() == chain)
+}
+
+fn chains_go_outwards(alloc: Global, content: &mut Content) -> Result<bool, Fail> {
+    fill(alloc, content)?;
+    let deep = [
+        Securable::Namespace(8),
+        Securable::Namespace(6),
+        Securable::Namespace(5),
+        Securable::Catalog(3),
+    ];
+    let of_stock = [Securable::Namespace(7), Securable::Catalog(4)];
+    let mut all = has_chain(alloc, content, Securable::Namespace(8), &deep)?;
+    all = all && has_chain(alloc, content, Securable::Namespace(7), &of_stock)?;
+    for alone in [
+        Securable::Realm,
+        Securable::Catalog(3),
+        Securable::Namespace(10),
+        Securable::Table(6),
+    ] {
+        all = all && has_chain(alloc, content, alone, &[alone])?;
+    }
+    Ok(all)
+}
+
+#[test]
+fn a_chain_goes_from_the_securable_out_to_its_catalogue(rt: HostRuntime) -> Result<(), Fail> {
+    let outwards = {
+        let mut content = Content::new(rt.alloc());
+        chains_go_outwards(rt.alloc(), &mut content)
+    };
+    assert!(rt; outwards?);
+    Ok(())
+}
+
+/// Whether this is the deepest part that is there of the path.
+fn is_deepest(
+    alloc: Global,
+    content: &Content,
+    catalog: u64,
+    segment: &str,
+    part: Securable,
+) -> Result<bool, Fail> {
+    let levels = Namespace::from_segment(alloc, segment)?;
+    Ok(content.deepest(alloc, catalog, &levels)? == part)
+}
+
+fn finds_deepest(alloc: Global, content: &mut Content) -> Result<bool, Fail> {
+    fill(alloc, content)?;
+    let mut all = true;
+    for (catalog, segment, part) in [
+        (3, "a\u{1f}b\u{1f}c", Securable::Namespace(8)),
+        (3, "a\u{1f}b\u{1f}x\u{1f}c", Securable::Namespace(6)),
+        (3, "x\u{1f}b", Securable::Catalog(3)),
+        (4, "a\u{1f}b", Securable::Namespace(7)),
+    ] {
+        all = all && is_deepest(alloc, content, catalog, segment, part)?;
+    }
+    Ok(all)
+}
+
+#[test]
+fn the_deepest_part_that_is_there_is_found(rt: HostRuntime) -> Result<(), Fail> {
+    let found = {
+        let mut content = Content::new(rt.alloc());
+        finds_deepest(rt.alloc(), &mut content)
+    };
+    assert!(rt; found?);
     Ok(())
 }
