@@ -32,7 +32,7 @@ use Rattle.pol_content.specs.Ties.{admin_grant, admin_join, admin_of, catalog_of
 use Rattle.pol_content.specs.declared.rows.CatalogRow.{CatalogRow}
 use Rattle.pol_content.specs.declared.rows.NamespaceRow.{NamespaceRow}
 use Rattle.pol_content.proofs.SoundLemmas.{any-fewer, each-fails}
-use Rattle.pol_content.proofs.TiesLemmas.{apart-fewer, apart-put, each-facts_with, each-kept, find-kept, find-new, find-pushed, find-without, found-own, found-passes, holds-kept, holds-put, holds-with, knows-put, knows-without, mapped-kept, not-is, or-parts, other-id, role-name, row_of-new, row_of-other, row_of-put, unknown-from, unknown-parts, unknown-put, unknown-without, within-roles, IsUnknown}
+use Rattle.pol_content.proofs.TiesLemmas.{apart-fewer, apart-put, each-facts_with, each-kept, each-within, find-kept, find-new, find-pushed, find-without, found-own, found-passes, holds-kept, holds-put, holds-with, knows-put, knows-without, mapped-kept, not-is, or-parts, other-id, role-name, row_of-new, row_of-other, row_of-put, unknown-from, unknown-parts, unknown-put, unknown-without, within-roles, IsUnknown}
 
 -- where each item fails none passes, and one more that fails leaves it so
 any-none : {X : Type 0} (test : X → Bool) (xs : List X) → AllByRecursion (λ x. test x ≡ false) xs → list_any test xs ≡ false
@@ -51,7 +51,7 @@ pushed_catalog_role access content tied row new none there =
     let after : AccessRows = record access { catalog_roles = rows_with catalog_role_id row access.catalog_roles } in
     record {
       role_catalogs = each-rows_with catalog_role_id (λ one. knows catalog_id one.catalog content.catalogs ≡ true) (λ one. knows catalog_id one.catalog content.catalogs ≡ true) row access.catalog_roles tied.role_catalogs (λ one known other. known) there;
-      grants_within = each-weaken (IsGrantWithin access content) (IsGrantWithin after content) access.grants (λ one within. within-roles access after content one within (find-pushed catalog_role_id (has_id catalog_role_id one.catalog_role) row within.role access.catalog_roles new within.there)) tied.grants_within;
+      grants_within = each-within access after content (λ one within. find-pushed catalog_role_id (has_id catalog_role_id one.catalog_role) row within.role access.catalog_roles new within.there) access.grants tied.grants_within;
       catalog_admins = each-weaken (λ one. HasAdmin access one.id) (λ one. HasAdmin after one.id) content.catalogs (λ one has. record {
         role = has.role;
         role_there = find-pushed catalog_role_id (is_admin one.id) row has.role access.catalog_roles new has.role_there;

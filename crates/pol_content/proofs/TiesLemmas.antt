@@ -260,25 +260,20 @@ pub new_ids : NewIdsAreNoContents
 new_ids next_id id content sound above =
     or-false (knows catalog_id id content.catalogs) (knows namespace_id id content.namespaces) (knows-below catalog_id id content.catalogs (KeysBelow-more catalog_id next_id id content.catalogs above (below-next catalog_id next_id content.catalogs sound.catalogs))) (knows-below namespace_id id content.namespaces (KeysBelow-more namespace_id next_id id content.namespaces above (below-next namespace_id next_id content.namespaces sound.namespaces)))
 
-pub members_keep : MembersKeepTies
-members_keep access content tied members = record {
-  role_catalogs = tied.role_catalogs;
-  grants_within = each-weaken (IsGrantWithin access content) (IsGrantWithin (record access { members = members }) content) access.grants (λ row within. record { role = within.role; there = within.there; within = within.within }) tied.grants_within;
-  catalog_admins = each-weaken (λ row. HasAdmin access row.id) (λ row. HasAdmin (record access { members = members }) row.id) content.catalogs (λ row has. record { role = has.role; role_there = has.role_there; service = has.service; service_there = has.service_there; joined = has.joined; manages_access = has.manages_access; manages_content = has.manages_content }) tied.catalog_admins;
-  ids_apart = record { catalogs = tied.ids_apart.catalogs; namespaces = tied.ids_apart.namespaces };
-}
-
 -- grants stay within their roles' catalogues where the roles are found as before
 module _ (access after : AccessRows) (content : ContentRows) where
   pub within-roles : (row : GrantRow) (within : IsGrantWithin access content row) → row_of catalog_role_id row.catalog_role after.catalog_roles ≡ Some within.role → IsGrantWithin after content row
   within-roles row within there = record { role = within.role; there = there; within = within.within }
+
+  pub each-within : ((row : GrantRow) (within : IsGrantWithin access content row) → row_of catalog_role_id row.catalog_role after.catalog_roles ≡ Some within.role) → (grants : List GrantRow) → AllByRecursion (IsGrantWithin access content) grants → AllByRecursion (IsGrantWithin after content) grants
+  each-within there grants all = each-weaken (IsGrantWithin access content) (IsGrantWithin after content) grants (λ row within. within-roles row within (there row within)) all
 
 pub put_principal : PutPrincipalKeepsTies
 put_principal access content tied row none =
     let after : AccessRows = record access { principals = rows_with principal_id row access.principals } in
     record {
       role_catalogs = tied.role_catalogs;
-      grants_within = each-weaken (IsGrantWithin access content) (IsGrantWithin after content) access.grants (λ one within. within-roles access after content one within within.there) tied.grants_within;
+      grants_within = each-within access after content (λ one within. within.there) access.grants tied.grants_within;
       catalog_admins = each-weaken (λ one. HasAdmin access one.id) (λ one. HasAdmin after one.id) content.catalogs (λ one has. record { role = has.role; role_there = has.role_there; service = has.service; service_there = has.service_there; joined = has.joined; manages_access = has.manages_access; manages_content = has.manages_content }) tied.catalog_admins;
       ids_apart = apart-put access after content tied.ids_apart row.id none (λ id unknown other. record { principals = unknown-put principal_id id row access.principals unknown.principals other; principal_roles = unknown.principal_roles; catalog_roles = unknown.catalog_roles });
     }
@@ -288,7 +283,7 @@ dropped_principal access content tied gone =
     let after : AccessRows = principal_dropped gone access in
     record {
       role_catalogs = tied.role_catalogs;
-      grants_within = each-weaken (IsGrantWithin access content) (IsGrantWithin after content) access.grants (λ one within. within-roles access after content one within within.there) tied.grants_within;
+      grants_within = each-within access after content (λ one within. within.there) access.grants tied.grants_within;
       catalog_admins = each-weaken (λ one. HasAdmin access one.id) (λ one. HasAdmin after one.id) content.catalogs (λ one has. record { role = has.role; role_there = has.role_there; service = has.service; service_there = has.service_there; joined = has.joined; manages_access = has.manages_access; manages_content = has.manages_content }) tied.catalog_admins;
       ids_apart = apart-fewer access after content tied.ids_apart (λ id unknown. record { principals = unknown-without principal_id id gone access.principals unknown.principals; principal_roles = unknown.principal_roles; catalog_roles = unknown.catalog_roles });
     }
@@ -298,7 +293,7 @@ pushed_principal_role access content tied row new none =
     let after : AccessRows = record access { principal_roles = rows_with principal_role_id row access.principal_roles } in
     record {
       role_catalogs = tied.role_catalogs;
-      grants_within = each-weaken (IsGrantWithin access content) (IsGrantWithin after content) access.grants (λ one within. within-roles access after content one within within.there) tied.grants_within;
+      grants_within = each-within access after content (λ one within. within.there) access.grants tied.grants_within;
       catalog_admins = each-weaken (λ one. HasAdmin access one.id) (λ one. HasAdmin after one.id) content.catalogs (λ one has. record {
         role = has.role;
         role_there = has.role_there;
@@ -322,7 +317,7 @@ dropped_principal_role access content tied row differ there named =
     let apart : (has : PrincipalRoleRow) → find test access.principal_roles ≡ Some has → nat_eq has.id row.id ≡ false = λ has found. ne_eqb has.id row.id (other-id principal_role_id test has row access.principal_roles differ found there (other-name (codes "service_admin") row.name named)) in
     record {
       role_catalogs = tied.role_catalogs;
-      grants_within = each-weaken (IsGrantWithin access content) (IsGrantWithin after content) access.grants (λ one within. within-roles access after content one within within.there) tied.grants_within;
+      grants_within = each-within access after content (λ one within. within.there) access.grants tied.grants_within;
       catalog_admins = each-weaken (λ one. HasAdmin access one.id) (λ one. HasAdmin after one.id) content.catalogs (λ one has. record {
         role = has.role;
         role_there = has.role_there;
@@ -335,12 +330,20 @@ dropped_principal_role access content tied row differ there named =
       ids_apart = apart-fewer access after content tied.ids_apart (λ id unknown. record { principals = unknown.principals; principal_roles = unknown-without principal_role_id id row.id access.principal_roles unknown.principal_roles; catalog_roles = unknown.catalog_roles });
     }
 
+pub members_keep : MembersKeepTies
+members_keep access content tied members = record {
+  role_catalogs = tied.role_catalogs;
+  grants_within = each-within access (record access { members = members }) content (λ row within. within.there) access.grants tied.grants_within;
+  catalog_admins = each-weaken (λ row. HasAdmin access row.id) (λ row. HasAdmin (record access { members = members }) row.id) content.catalogs (λ row has. record { role = has.role; role_there = has.role_there; service = has.service; service_there = has.service_there; joined = has.joined; manages_access = has.manages_access; manages_content = has.manages_content }) tied.catalog_admins;
+  ids_apart = record { catalogs = tied.ids_apart.catalogs; namespaces = tied.ids_apart.namespaces };
+}
+
 pub put_join : PutJoinKeepsTies
 put_join access content tied row =
     let after : AccessRows = record access { joins = facts_with join.the_row.coded row access.joins } in
     record {
       role_catalogs = tied.role_catalogs;
-      grants_within = each-weaken (IsGrantWithin access content) (IsGrantWithin after content) access.grants (λ one within. within-roles access after content one within within.there) tied.grants_within;
+      grants_within = each-within access after content (λ one within. within.there) access.grants tied.grants_within;
       catalog_admins = each-weaken (λ one. HasAdmin access one.id) (λ one. HasAdmin after one.id) content.catalogs (λ one has. record {
         role = has.role;
         role_there = has.role_there;
@@ -365,7 +368,7 @@ dropped_join access content tied principal_role catalog_role roles_differ differ
     let after : AccessRows = record access { joins = facts_without join.the_row.coded gone access.joins } in
     record {
       role_catalogs = tied.role_catalogs;
-      grants_within = each-weaken (IsGrantWithin access content) (IsGrantWithin after content) access.grants (λ one within. within-roles access after content one within within.there) tied.grants_within;
+      grants_within = each-within access after content (λ one within. within.there) access.grants tied.grants_within;
       catalog_admins = each-weaken (λ one. HasAdmin access one.id) (λ one. HasAdmin after one.id) content.catalogs (λ one has. record {
         role = has.role;
         role_there = has.role_there;
@@ -391,7 +394,7 @@ put_grant access content tied row within =
     let after : AccessRows = record access { grants = facts_with grant.the_row.coded row access.grants } in
     record {
       role_catalogs = tied.role_catalogs;
-      grants_within = each-facts_with grant.the_row.coded (IsGrantWithin after content) row access.grants (each-weaken (IsGrantWithin access content) (IsGrantWithin after content) access.grants (λ one inside. within-roles access after content one inside inside.there) tied.grants_within) (within-roles access after content row within within.there);
+      grants_within = each-facts_with grant.the_row.coded (IsGrantWithin after content) row access.grants (each-within access after content (λ one inside. inside.there) access.grants tied.grants_within) (within-roles access after content row within within.there);
       catalog_admins = each-weaken (λ one. HasAdmin access one.id) (λ one. HasAdmin after one.id) content.catalogs (λ one has. record {
         role = has.role;
         role_there = has.role_there;

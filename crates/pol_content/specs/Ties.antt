@@ -18,7 +18,8 @@ use Rattle.pol_tables.specs.Facts.{facts_with, holds}
 use Rattle.pol_tables.specs.Table.{knows, row_of, rows_with}
 use Rattle.pol_content.specs.Content.{ContentRows, catalog_id, namespace_id}
 
--- the catalogue in which a securable that is there lies: a catalogue lies in itself, the realm in none
+-- the catalogue in which a securable lies that is there: a catalogue lies in itself, and the realm in none; no table
+-- and no view is there
 abbrev pub catalog_of : Securable → ContentRows → Option ℕ
 catalog_of securable.Realm content = None
 catalog_of (securable.Catalog id) content = option_map (λ row. row.id) (row_of catalog_id id content.catalogs)
