@@ -1,8 +1,8 @@
 use Rattle.std.proofs.Common.{rules}
 use Rattle.std.proofs.lemmas.Cmp.{lists_total, nat_list_cmp_total}
 use Rattle.std.proofs.lemmas.List.Sorted.{answers_always, ranks_by}
+use Rattle.pol_access.proofs.OrderLemmas.{lent-ordered}
 use Rattle.pol_content.specs.Order.{are_levels_less}
-use Rattle.pol_content.proofs.OrderLemmas.{lent-ordered}
 use Rattle.pol_content.proofs.content.sorted_by_levels.Goals as goal
 
 pub returns : goal.returns

@@ -1,8 +1,8 @@
 use Rattle.std.proofs.Common.{rules}
 use Rattle.std.proofs.lemmas.Cmp.{nat_list_cmp_total}
 use Rattle.std.proofs.lemmas.List.Sorted.{answers_always, ranks_by}
+use Rattle.pol_access.proofs.OrderLemmas.{lent-ordered}
 use Rattle.pol_content.specs.Order.{is_name_less}
-use Rattle.pol_content.proofs.OrderLemmas.{lent-ordered}
 use Rattle.pol_content.proofs.content.sorted_by_name.Goals as goal
 
 pub returns : goal.returns
