@@ -1,16 +1,14 @@
 -- Sound states.
-use Rattle.std.specs.Prelude.{◌≡◌, ◌<◌, ◌≤◌, ◌^◌, ℕ, Bool, ◌||◌, false}
+use Rattle.std.specs.Prelude.{◌<◌, ◌≤◌, ◌^◌, ℕ}
 use Rattle.std.specs.Bool.{⊤}
 use Rattle.std.specs.List.{AllByRecursion}
-use Rattle.pol_access.specs.Access.{AccessRows, principal_id, principal_role_id, catalog_role_id}
 pub use Rattle.pol_access.specs.Sound.{HasRootChain, IsCatalogRoleOf, IsGrantOf, IsSecurableGiven, IsSoundAccess}
-use Rattle.pol_content.specs.Content.{ContentRows}
 use Rattle.pol_content.specs.Sound.{IsSoundContent}
+pub use Rattle.pol_content.specs.Ties.{IdsApart, is_access_id}
 use Rattle.pol_names.specs.declared.scope.Scope.{Scope}
 use Rattle.pol_names.specs.declared.scope.Scope.TheVariants as scope
 pub use Rattle.pol_tables.specs.Numbered.{AreNumbered, IsGiven}
 use Rattle.pol_tables.specs.Rising.{KeysRise}
-use Rattle.pol_tables.specs.Table.{knows}
 use Rattle.pol_tokens.specs.Tokens.{TokenRows, serial_of}
 use Rattle.pol_tokens.specs.declared.session.SessionRow.{SessionRow}
 use Rattle.pol_machine.specs.Rows.{Rows}
@@ -30,16 +28,6 @@ pub record IsSessionOf (next_id next_serial : ℕ) (row : SessionRow) : Type 0 w
 pub record IsSoundTokens (next_id next_serial : ℕ) (tokens : TokenRows) : Type 0 where
   pub sessions_rise : KeysRise serial_of tokens.sessions
   pub sessions : AllByRecursion (IsSessionOf next_id next_serial) tokens.sessions
-
--- whether a row of principals and roles has this id
-abbrev pub is_access_id : ℕ → AccessRows → Bool
-is_access_id id access =
-    knows principal_id id access.principals || knows principal_role_id id access.principal_roles || knows catalog_role_id id access.catalog_roles
-
--- no catalogue and no namespace has an id of theirs
-pub record IdsApart (access : AccessRows) (content : ContentRows) : Type 0 where
-  pub catalogs : AllByRecursion (λ row. is_access_id row.id access ≡ false) content.catalogs
-  pub namespaces : AllByRecursion (λ row. is_access_id row.id access ≡ false) content.namespaces
 
 -- a sound state
 pub record IsSound (s : Rows) : Type 0 where
