@@ -89,6 +89,7 @@ module _ (s : Rows) (sound : IsSound s) (command : Command) where
     agree = λ i. with_tokens (record { sessions = live-after after none i }) (stamped s command after);
   }
 
+  -- an action on what it found, if anything, and its bounds
   leaves-done : {A : Type 0} (found : Option A) (after other : A → Rows) → ((one : A) → Leaves (after one) (other one)) → Leaves (done s found after) (done live found other)
   leaves-done None after other leaves = leaves-tokens s none-returns
   leaves-done (Some one) after other leaves = leaves one

@@ -29,13 +29,13 @@ filter-weaker test weaker (x ∷ xs) all = by (weaker x) (test x) refl refl (fil
     by false true weak is rest = absurd (true≢false (sym (all.0 is) ∙ weak))
     by false false weak is rest = rw (weak, is) rest
 
+-- past an item that passes the test, none does
+abbrev pub OnePasses : {X : Type 0} → (X → Bool) → List X → Type 0
+OnePasses test [] = Unit {0}
+OnePasses test (x ∷ xs) = (test x ≡ true → AllByRecursion (λ y. test y ≡ false) xs) × OnePasses test xs
+
 -- an item that alone passes a test, and passes a second one, is found among those that stay
 module _ {X : Type 0} (test also stay : X → Bool) where
-  -- past an item that passes the test, none does
-  abbrev pub OnePasses : List X → Type 0
-  OnePasses [] = Unit {0}
-  OnePasses (x ∷ xs) = (test x ≡ true → AllByRecursion (λ y. test y ≡ false) xs) × OnePasses xs
-
   found-none : (xs : List X) → AllByRecursion (λ x. test x ≡ false) xs → find test (filter stay xs) ≡ None
   found-none [] fail = refl
   found-none (x ∷ xs) fail = by (stay x) refl (found-none xs fail.1)
@@ -44,7 +44,7 @@ module _ {X : Type 0} (test also stay : X → Bool) where
       by true stays rest = rw (stays, fail.0) rest
       by false leaves rest = rw leaves rest
 
-  pub kept-stays : (xs : List X) → OnePasses xs → AllByRecursion (λ x. test x ≡ true → also x ≡ true → stay x ≡ true) xs → kept_if also (find test (filter stay xs)) ≡ kept_if also (find test xs)
+  pub kept-stays : (xs : List X) → OnePasses test xs → AllByRecursion (λ x. test x ≡ true → also x ≡ true → stay x ≡ true) xs → kept_if also (find test (filter stay xs)) ≡ kept_if also (find test xs)
   kept-stays [] one all = refl
   kept-stays (x ∷ xs) one all = by (stay x) (test x) (also x) refl refl refl (kept-stays xs one.1 all.1)
     where
@@ -84,7 +84,7 @@ module _ (text : List ℕ) (time : ℕ) where
           absurd (omega (arith, same, above))
 
   -- where serials rise, one session has the text
-  one-sought : (rows : List SessionRow) → KeysRise serial_of rows → AllByRecursion (λ row. row.serial < 2 ^ 64) rows → OnePasses is_sought is_sought is_sought rows
+  one-sought : (rows : List SessionRow) → KeysRise serial_of rows → AllByRecursion (λ row. row.serial < 2 ^ 64) rows → OnePasses is_sought rows
   one-sought [] rise fit = tt
   one-sought (row ∷ rows) rise fit = (
     λ sought. each-join (λ later. row.serial < later.serial) (λ later. later.serial < 2 ^ 64) (λ later. is_sought later ≡ false) rows (λ later above fits. later-fails row later sought fit.0 above fits) (rise_head serial_of row rows rise) fit.1,
