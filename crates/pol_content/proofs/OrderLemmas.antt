@@ -1,5 +1,4 @@
 -- The lists of catalogues and of namespaces are in order.
-use Rattle.std.proofs.Common.{ℕ}
 use Rattle.std.specs.Cmp.{IsStrictWeakOrder}
 use Rattle.std.proofs.lemmas.Cmp.{lists_total, nat_list_cmp_total}
 use Rattle.std.proofs.lemmas.List.Sorted.{ranks_by}

@@ -1,4 +1,5 @@
 pub mod Chain
+pub mod Change
 pub mod Content
 pub mod Laws
 pub mod Numbers

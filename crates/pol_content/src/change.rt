@@ -1,8 +1,13 @@
+ghost use Rattle.std.specs.Prelude.{◌≡◌};
+ghost use Rattle.pol_content.specs.Change.{kind_put};
+
 use crate::{CatalogRow, NamespaceRow};
+use pol_access::{CatalogRoleRow, GrantRow, JoinRow, MemberRow, PrincipalRoleRow, PrincipalRow};
 use pol_tokens::SessionRow;
 
 /// A change of a state. The changes of one command stand in the order of these variants, those of one variant by
-/// rising ids or serials.
+/// rising ids or serials, and those of members, joins and grants by rising rows. A put of a row with a new id or
+/// serial goes last, and a known id's row is replaced in its place; a drop takes that one row away.
 #[derive(Debug, Drop, PartialEq, Eq)]
 pub enum Change {
     /// The state's time becomes this one.
@@ -11,14 +16,65 @@ pub enum Change {
     NextId(u64),
     /// The next serial becomes this one.
     NextSerial(u64),
-    /// The catalogue is put: a new id goes last, and a known id's row is replaced in its place.
+    PutPrincipal(PrincipalRow),
+    DropPrincipal(u64),
+    PutPrincipalRole(PrincipalRoleRow),
+    DropPrincipalRole(u64),
     PutCatalog(CatalogRow),
-    /// The catalogue of this id is taken away.
     DropCatalog(u64),
-    /// The namespace is put: a new id goes last, and a known id's row is replaced in its place.
+    PutCatalogRole(CatalogRoleRow),
+    DropCatalogRole(u64),
     PutNamespace(NamespaceRow),
-    /// The namespace of this id is taken away.
     DropNamespace(u64),
-    /// The session is put: a new serial goes last.
+    PutMember(MemberRow),
+    DropMember(MemberRow),
+    PutJoin(JoinRow),
+    DropJoin(JoinRow),
+    PutGrant(GrantRow),
+    DropGrant(GrantRow),
     PutSession(SessionRow),
+}
+
+impl Change {
+    /// The kind of the row that the change puts, where it puts one.
+    pub fn kind_put(&self) -> Option<RowKind>
+        ensures { result ≡ kind_put self.now }
+    {
+        match self {
+            Change::PutPrincipal(_) => Some(RowKind::Principal),
+            Change::PutPrincipalRole(_) => Some(RowKind::PrincipalRole),
+            Change::PutCatalog(_) => Some(RowKind::Catalog),
+            Change::PutCatalogRole(_) => Some(RowKind::CatalogRole),
+            Change::PutNamespace(_) => Some(RowKind::Namespace),
+            Change::PutMember(_) => Some(RowKind::Member),
+            Change::PutJoin(_) => Some(RowKind::Join),
+            Change::PutGrant(_) => Some(RowKind::Grant),
+            Change::PutSession(_) => Some(RowKind::Session),
+            Change::Time(_)
+            | Change::NextId(_)
+            | Change::NextSerial(_)
+            | Change::DropPrincipal(_)
+            | Change::DropPrincipalRole(_)
+            | Change::DropCatalog(_)
+            | Change::DropCatalogRole(_)
+            | Change::DropNamespace(_)
+            | Change::DropMember(_)
+            | Change::DropJoin(_)
+            | Change::DropGrant(_) => None,
+        }
+    }
+}
+
+/// The kinds of rows that a state has.
+#[derive(Clone, Copy, Debug, PartialEq, Eq)]
+pub enum RowKind {
+    Principal,
+    PrincipalRole,
+    Catalog,
+    CatalogRole,
+    Namespace,
+    Member,
+    Join,
+    Grant,
+    Session,
 }

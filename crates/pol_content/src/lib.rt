@@ -7,7 +7,7 @@ mod content;
 pub mod laws;
 mod rows;
 
-pub use change::Change;
+pub use change::{Change, RowKind};
 pub use content::Content;
 pub use rows::{CatalogRow, NamespaceName, NamespaceRow};
 

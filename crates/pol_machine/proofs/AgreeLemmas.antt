@@ -1,10 +1,15 @@
 -- A command does the same in a state and in its live part, and so in states that agree.
-use Rattle.std.proofs.Common.{◌≡◌, ℕ, ◌+◌, true, not, is_some, List, [], ◌∷◌, ◌++◌, filter, Option, None, Some, nat_lt, refl, sym, ap, subst, ◌∙◌, arith}
+use Rattle.std.proofs.Common.{◌≡◌, ℕ, ◌+◌, true, not, cond, codes, is_some, List, [], ◌∷◌, ◌++◌, filter, Option, None, Some, nat_lt, refl, sym, ap, subst, ◌∙◌, arith}
 use Rattle.std.specs.List.{AllByRecursion}
+use Rattle.std.specs.Option.{option_map}
 use Rattle.std.proofs.lemmas.Bool.{and_parts}
 use Rattle.std.proofs.lemmas.List.Elements.{filter-append}
 use Rattle.pol_access.specs.Access.{principal_id}
+use Rattle.pol_access.specs.Names.{principal_role_named}
+use Rattle.pol_access.specs.declared.privilege.Privilege.{Privilege}
+use Rattle.pol_access.specs.declared.privilege.Privilege.TheVariants.{CatalogReadProperties, NamespaceCreate, NamespaceDrop, NamespaceList, NamespaceReadProperties, NamespaceWriteProperties}
 use Rattle.pol_access.specs.declared.rows.PrincipalRow.{PrincipalRow}
+use Rattle.pol_content.specs.Content.{catalog_named}
 use Rattle.pol_names.specs.Namespace.{parent_of}
 use Rattle.pol_tables.specs.Rising.{KeysBelow}
 use Rattle.pol_tables.specs.Table.{knows}
@@ -15,11 +20,12 @@ use Rattle.pol_tokens.specs.declared.session.SessionRow.{SessionRow}
 use Rattle.pol_machine.specs.Acting.{done, Acting}
 use Rattle.pol_machine.specs.Agree.{is_live, live_part, live_tokens, Agree, DoesAlike}
 use Rattle.pol_machine.specs.Catalogs.{new_catalog, with_catalog, without_catalog}
-use Rattle.pol_machine.specs.Changes.{catalog_changes, changes_between, headed, id_change, namespace_changes, serial_change}
+use Rattle.pol_machine.specs.Changes.{changes_between, headed, id_change, in_turn, row_changes, serial_change}
 use Rattle.pol_machine.specs.Machine.{acting, next_by, next_state, reply_by, reply_of, rows_by, stamped}
 use Rattle.pol_machine.specs.Namespaces.{namespace_at, with_namespace, with_properties, without_namespace}
+use Rattle.pol_machine.specs.Needs.{caller_may, first_unmet, forbidden, on_catalog, on_parent, on_path, service, session_may, shown}
 use Rattle.pol_machine.specs.Rows.{Rows}
-use Rattle.pol_machine.specs.Rules.{catalog_holds, catalog_taken, client_of, first_refusal, given, inside, invalid_client, invalid_scope, is_signed_in, key_twice, namespace_holds, namespace_taken, no_catalogue, no_namespace, no_parent, over_limit, refuse_if, run_full, time_of, unauthenticated}
+use Rattle.pol_machine.specs.Rules.{bad_text, bad_texts, catalog_holds, catalog_taken, client_of, first_refusal, given, inside, invalid_client, invalid_scope, is_signed_in, key_twice, namespace_holds, namespace_taken, no_catalogue, no_namespace, no_parent, over_limit, refuse_if, run_full, time_of, unauthenticated, unsupported_type}
 use Rattle.pol_machine.specs.Sessions.{opened, scope_of, session_opened, with_session}
 use Rattle.pol_machine.specs.Sound.{IsSound}
 use Rattle.pol_machine.specs.declared.command.Action.{Action}
@@ -27,9 +33,10 @@ use Rattle.pol_machine.specs.declared.command.Action.TheVariants.{OpenSession, G
 use Rattle.pol_machine.specs.declared.command.Caller.{Caller}
 use Rattle.pol_machine.specs.declared.command.Caller.TheVariants.{Nobody, Bearer, Setup}
 use Rattle.pol_machine.specs.declared.command.Command.{Command}
+use Rattle.pol_machine.specs.declared.needs.Need.{Need}
 use Rattle.pol_machine.specs.declared.reply.Answer.{Answer}
 use Rattle.pol_machine.specs.declared.reply.Refusal.{Refusal}
-use Rattle.pol_machine.specs.declared.reply.Refusal.TheVariants.{Unauthenticated}
+use Rattle.pol_machine.specs.declared.reply.Refusal.TheVariants.{Forbidden, Unauthenticated}
 use Rattle.pol_machine.proofs.ChangesLemmas.{changes-opened, changes-timed, sessions-kept}
 use Rattle.pol_machine.proofs.LiveLemmas.{filter-weaker, live-agrees, live-before, session-live}
 use Rattle.pol_machine.proofs.SessionsLemmas.{opened-below}
@@ -51,6 +58,26 @@ module _ (s : Rows) (sound : IsSound s) (command : Command) where
   caller-alike : unauthenticated s command ≡ unauthenticated live command
   unfolding unauthenticated
   caller-alike = ap (λ is. refuse_if (not is) Unauthenticated) (signed_in command.caller)
+
+  -- and so are its needs
+  caller-may : (caller : Caller) (need : Need) → caller_may s (time_of s command) caller need ≡ caller_may live (time_of s command) caller need
+  caller-may Nobody need = refl
+  caller-may (Bearer text) need = ap (λ found. session_may s found need) (sym (session-live s sound (time_of s command) text (omega arith)))
+  caller-may Setup need = refl
+
+  unmet-alike : (needs : List Need) → first_unmet s command needs ≡ first_unmet live command needs
+  unfolding first_unmet
+  unmet-alike [] = refl
+  unmet-alike (need ∷ needs) = λ i. cond (not (caller-may command.caller need i)) (Some need) (unmet-alike needs i)
+
+  need-alike : (needs : List Need) → forbidden s command needs ≡ forbidden live command needs
+  unfolding forbidden
+  need-alike needs = ap (option_map (λ need. Forbidden need.privilege (shown s need.on))) (unmet-alike needs)
+
+  -- a rule on what is found is judged alike where it is for each
+  given-alike : {A : Type 0} (found : Option A) (rule other : A → Option Refusal) → ((one : A) → rule one ≡ other one) → given found rule ≡ given found other
+  given-alike None rule other alike = refl
+  given-alike (Some one) rule other alike = alike one
 
   -- rows after the command in the state, and in its live part
   record Ends (after other : Rows) : Type 0 where
@@ -85,7 +112,7 @@ module _ (s : Rows) (sound : IsSound s) (command : Command) where
   leaves-tokens : (after : Rows) → NoneReturns after → Leaves (with_tokens s.tokens after) (with_tokens (live_tokens s) after)
   unfolding changes_between
   leaves-tokens after none = record {
-    changes = λ i. headed (time_of s command) (id_change s after ++ serial_change s after) (catalog_changes s after ++ namespace_changes s after ++ (sessions-kept s ∙ sym (sessions-kept live)) i);
+    changes = λ i. headed (time_of s command) (id_change s after ++ serial_change s after) (in_turn (record (row_changes s after) { sessions = (sessions-kept s ∙ sym (sessions-kept live)) i }));
     agree = λ i. with_tokens (record { sessions = live-after after none i }) (stamped s command after);
   }
 
@@ -105,27 +132,18 @@ module _ (s : Rows) (sound : IsSound s) (command : Command) where
     answer : action.answer ≡ other.answer
     leaves : Leaves action.after other.after
 
-  -- an action whose first rule judges the caller, and whose other rules see no tokens
-  alike-by : (rules : List (Option Refusal)) (answer : Answer) (after other : Rows) → Leaves after other
-      → IsAlike (record { rules = unauthenticated s command ∷ rules; after = after; answer = answer }) (record { rules = unauthenticated live command ∷ rules; after = other; answer = answer })
-  alike-by rules answer after other leaves = record {
-    rules = λ i. caller-alike i ∷ rules;
+  -- an action whose rules are judged alike, which answers alike
+  alike-by : (rules others : List (Option Refusal)) (answer : Answer) (after other : Rows) → rules ≡ others → Leaves after other
+      → IsAlike (record { rules = unauthenticated s command ∷ rules; after = after; answer = answer }) (record { rules = unauthenticated live command ∷ others; after = other; answer = answer })
+  alike-by rules others answer after other judged leaves = record {
+    rules = λ i. caller-alike i ∷ judged i;
     answer = refl;
     leaves = leaves;
   }
 
-  alike-reading : (rules : List (Option Refusal)) (answer : Answer)
-      → IsAlike (record { rules = unauthenticated s command ∷ rules; after = s; answer = answer }) (record { rules = unauthenticated live command ∷ rules; after = live; answer = answer })
-  alike-reading rules answer = alike-by rules answer s live (leaves-tokens s none-returns)
-
-  -- and one whose last rule judges the rows that it leaves, on what it found
-  alike-limited : {A : Type 0} (rules : Option Refusal → List (Option Refusal)) (answer : Answer) (found : Option A) (after other : A → Rows) → ((one : A) → over_limit (after one) ≡ over_limit (other one)) → ((one : A) → Leaves (after one) (other one))
-      → IsAlike (record { rules = unauthenticated s command ∷ rules (over_limit (done s found after)); after = done s found after; answer = answer }) (record { rules = unauthenticated live command ∷ rules (over_limit (done live found other)); after = done live found other; answer = answer })
-  alike-limited rules answer found after other limit leaves = record {
-    rules = λ i. caller-alike i ∷ rules (limit-done found after other limit i);
-    answer = refl;
-    leaves = leaves-done found after other leaves;
-  }
+  alike-reading : (rules others : List (Option Refusal)) (answer : Answer) → rules ≡ others
+      → IsAlike (record { rules = unauthenticated s command ∷ rules; after = s; answer = answer }) (record { rules = unauthenticated live command ∷ others; after = live; answer = answer })
+  alike-reading rules others answer judged = alike-by rules others answer s live judged (leaves-tokens s none-returns)
 
   -- a session that is opened is the same one
   opened-alike : (scopes : List (List ℕ)) (principal : PrincipalRow) → opened s command scopes principal ≡ opened live command scopes principal
@@ -157,6 +175,13 @@ module _ (s : Rows) (sound : IsSound s) (command : Command) where
   limit-opened scopes None = refl
   limit-opened scopes (Some principal) = refl
 
+  -- the rules of an action on a namespace behind that on the caller
+  on-path : (privilege : Privilege) (name : List ℕ) (levels : List (List ℕ)) (rules others : List (Option Refusal)) → rules ≡ others
+      → no_catalogue s name ∷ inside s name (λ catalog. forbidden s command (on_path s privilege levels catalog)) ∷ inside s name (λ catalog. no_namespace s catalog.id levels) ∷ rules
+      ≡ no_catalogue s name ∷ inside s name (λ catalog. forbidden live command (on_path s privilege levels catalog)) ∷ inside s name (λ catalog. no_namespace s catalog.id levels) ∷ others
+  on-path privilege name levels rules others judged =
+      λ i. no_catalogue s name ∷ given-alike (catalog_named name s.content) _ _ (λ catalog. need-alike (on_path s privilege levels catalog)) i ∷ inside s name (λ catalog. no_namespace s catalog.id levels) ∷ judged i
+
   -- each action is done alike
   acts : (action : Action) → IsAlike (acting s command action) (acting live command action)
   unfolding catalog_holds catalog_taken client_of invalid_client invalid_scope namespace_at namespace_holds namespace_taken no_catalogue no_namespace over_limit
@@ -165,22 +190,30 @@ module _ (s : Rows) (sound : IsSound s) (command : Command) where
     answer = refl;
     leaves = leaves-opened scopes (client_of s client_id secret);
   }
-  acts (GetConfig name) = alike-reading _ _
-  acts ListCatalogs = alike-reading _ _
+  acts (GetConfig name) = alike-reading _ _ _ refl
+  acts ListCatalogs = alike-reading _ _ _ (λ i. need-alike service i ∷ [])
   acts (CreateCatalog name base allowed properties external) =
-      alike-by _ _ _ _ (leaves-tokens (with_catalog s (new_catalog s name base allowed properties)) none-returns)
-  acts (GetCatalog name) = alike-reading _ _
+      let row = new_catalog s name base allowed properties in
+      let found = principal_role_named (codes "service_admin") s.access in
+      alike-by _ _ _ _ _ (λ i. need-alike service i ∷ catalog_taken s name ∷ bad_text base ∷ bad_texts allowed ∷ unsupported_type external ∷ limit-done found (with_catalog s row) (with_catalog live row) (λ role. refl) i ∷ [])
+      (leaves-done found (with_catalog s row) (with_catalog live row) (λ role. leaves-tokens (with_catalog s row role) none-returns))
+  acts (GetCatalog name) =
+      alike-reading _ _ _ (λ i. no_catalogue s name ∷ given-alike (catalog_named name s.content) _ _ (λ catalog. need-alike (on_catalog CatalogReadProperties catalog)) i ∷ [])
   acts (DropCatalog name) =
-      alike-by _ _ _ _ (leaves-done _ _ _ (λ row. leaves-tokens (without_catalog s row) none-returns))
-  acts (ListNamespaces name parent) = alike-reading _ _
+      alike-by _ _ _ _ _ (λ i. no_catalogue s name ∷ need-alike service i ∷ inside s name (catalog_holds s) ∷ [])
+      (leaves-done _ _ _ (λ row. leaves-tokens (without_catalog s row) none-returns))
+  acts (ListNamespaces name parent) =
+      alike-reading _ _ _ (λ i. no_catalogue s name ∷ given-alike (catalog_named name s.content) _ _ (λ catalog. need-alike (on_parent s NamespaceList parent catalog)) i ∷ inside s name (λ catalog. no_parent s catalog.id parent) ∷ [])
   acts (CreateNamespace name levels properties) =
-      alike-limited (λ limit. no_catalogue s name ∷ inside s name (λ catalog. no_parent s catalog.id (parent_of levels)) ∷ inside s name (namespace_taken s levels) ∷ limit ∷ []) _ _ _ _ (λ catalog. refl) (λ catalog. leaves-tokens (with_namespace s levels properties catalog) none-returns)
-  acts (LoadNamespace name levels) = alike-reading _ _
-  acts (HeadNamespace name levels) = alike-reading _ _
+      alike-by _ _ _ _ _ (λ i. no_catalogue s name ∷ given-alike (catalog_named name s.content) _ _ (λ catalog. need-alike (on_parent s NamespaceCreate (parent_of levels) catalog)) i ∷ inside s name (λ catalog. no_parent s catalog.id (parent_of levels)) ∷ inside s name (namespace_taken s levels) ∷ limit-done (catalog_named name s.content) (with_namespace s levels properties) (with_namespace live levels properties) (λ catalog. refl) i ∷ [])
+      (leaves-done _ _ _ (λ catalog. leaves-tokens (with_namespace s levels properties catalog) none-returns))
+  acts (LoadNamespace name levels) = alike-reading _ _ _ (on-path NamespaceReadProperties name levels [] [] refl)
+  acts (HeadNamespace name levels) = alike-reading _ _ _ (on-path NamespaceReadProperties name levels [] [] refl)
   acts (DropNamespace name levels) =
-      alike-by _ _ _ _ (leaves-done _ _ _ (λ row. leaves-tokens (without_namespace s row) none-returns))
+      alike-by _ _ _ _ _ (on-path NamespaceDrop name levels _ _ refl) (leaves-done _ _ _ (λ row. leaves-tokens (without_namespace s row) none-returns))
   acts (UpdateProperties name levels removals updates) =
-      alike-limited (λ limit. no_catalogue s name ∷ inside s name (λ catalog. no_namespace s catalog.id levels) ∷ key_twice removals updates ∷ limit ∷ []) _ _ _ _ (λ row. refl) (λ row. leaves-tokens (with_properties s removals updates row) none-returns)
+      alike-by _ _ _ _ _ (on-path NamespaceWriteProperties name levels _ _ (λ i. key_twice removals updates ∷ limit-done (namespace_at s name levels) (with_properties s removals updates) (with_properties live removals updates) (λ row. refl) i ∷ []))
+      (leaves-done _ _ _ (λ row. leaves-tokens (with_properties s removals updates row) none-returns))
 
   -- what is left by the first rule that fails
   left-by : (full first : Option Refusal) (after other : Rows) → Leaves after other → Ends (next_by full s (stamped s command (rows_by first s after))) (next_by full live (stamped live command (rows_by first live other)))

@@ -1,8 +1,9 @@
 -- Decisions: the reply and the state after, by the first rule that fails.
-use Rattle.std.proofs.Common.{◌≡◌, ◌≤◌, ◌+◌, ◌^◌, ℕ, List, [], ◌∷◌, Option, None, Some, Result, Ok, Err, refl, sym, ap, subst, ◌∙◌, true, false, is_some, true≢false}
+use Rattle.std.proofs.Common.{◌≡◌, ◌≤◌, ◌+◌, ◌^◌, ℕ, List, [], ◌∷◌, Option, None, Some, Result, Ok, Err, refl, sym, ap, subst, ◌∙◌, true, false, codes, is_some, true≢false}
 use Rattle.std.specs.List.{AllByRecursion}
 use Rattle.std.specs.Result.{IsErrAnd}
 use Rattle.pol_access.specs.declared.rows.PrincipalRow.{PrincipalRow}
+use Rattle.pol_access.specs.Names.{principal_role_named}
 use Rattle.pol_content.specs.Content.{catalog_named}
 use Rattle.pol_names.specs.Namespace.{parent_of}
 use Rattle.pol_machine.specs.Applied.{applied}
@@ -10,6 +11,7 @@ use Rattle.pol_machine.specs.Catalogs.{new_catalog}
 use Rattle.pol_machine.specs.Acting.{done}
 use Rattle.pol_machine.specs.Namespaces.{namespace_at, with_properties}
 use Rattle.pol_machine.specs.Changes.{changes_between}
+use Rattle.pol_machine.specs.Needs.{service}
 use Rattle.pol_machine.specs.Judged.{Acts, Judges}
 use Rattle.pol_machine.specs.Machine.{acting, next_by, next_state, reply_by, reply_of, rows_by, rules_of, stamped}
 use Rattle.pol_machine.specs.Reply.{is_run_full}
@@ -31,7 +33,7 @@ use Rattle.pol_machine.specs.declared.rules.Stop.TheVariants as stop
 use Rattle.pol_machine.proofs.ActionLemmas.{leads-catalog, leads-catalog_dropped, leads-first, leads-namespace, leads-namespace_dropped, leads-properties, leads-reading, sound-create_catalog, sound-create_namespace, sound-drop_catalog, sound-drop_namespace, sound-reading, sound-update_properties}
 use Rattle.pol_machine.proofs.ChangesLemmas.{changes-timed}
 use Rattle.pol_machine.proofs.LimitsLemmas.{above-within, serial_limits}
-use Rattle.pol_machine.proofs.RulesLemmas.{caller-other, catalog-other, client-other, deeper-other, first-other, given-other, holds-other, key-other, levels-other, limit-other, no_catalogue-other, on_namespace-other, parent-other, refusal-past, run_full-tells, scope-other, tells_full, text-other, texts-other, type-other, EachPasses-none}
+use Rattle.pol_machine.proofs.RulesLemmas.{caller-other, catalog-other, client-other, deeper-other, first-other, given-other, holds-other, key-other, levels-other, limit-other, need-other, no_catalogue-other, on_namespace-other, parent-other, refusal-past, run_full-tells, scope-other, tells_full, text-other, texts-other, type-other, EachPasses-none}
 use Rattle.pol_machine.proofs.SessionsLemmas.{leads-by, limit-opened}
 use Rattle.pol_machine.proofs.SoundLemmas.{client-given, opened-sound, scope-given, stamped-sound, within-bounds, IsWithin}
 
@@ -99,7 +101,7 @@ module _ (s : Rows) (command : Command) where
   action_leads (GetConfig name) sound = leads-reading s command _
   action_leads ListCatalogs sound = leads-reading s command _
   action_leads (CreateCatalog name base allowed properties external) sound =
-      leads-first s command _ _ (leads-catalog s command sound (new_catalog s name base allowed properties) refl)
+      leads-first s command _ _ (leads-catalog s command sound (new_catalog s name base allowed properties) (principal_role_named (codes "service_admin") s.access) refl)
   action_leads (GetCatalog name) sound = leads-reading s command _
   action_leads (DropCatalog name) sound =
       leads-first s command _ _ (leads-catalog_dropped s command sound name (catalog_named name s.content) refl)
@@ -167,25 +169,25 @@ module _ (s : Rows) (command : Command) where
   others (GetConfig name) =
       (caller-other s command, (no_catalogue-other s name, tt))
   others ListCatalogs =
-      (caller-other s command, tt)
+      (caller-other s command, (need-other s command service, tt))
   others (CreateCatalog name base allowed properties external) =
-      (caller-other s command, (catalog-other s name, (text-other base, (texts-other allowed, (type-other external, (limit-other _, tt))))))
+      (caller-other s command, (need-other s command service, (catalog-other s name, (text-other base, (texts-other allowed, (type-other external, (limit-other _, tt)))))))
   others (GetCatalog name) =
-      (caller-other s command, (no_catalogue-other s name, tt))
+      (caller-other s command, (no_catalogue-other s name, (given-other (catalog_named name s.content) _ (λ catalog. need-other s command _), tt)))
   others (DropCatalog name) =
-      (caller-other s command, (no_catalogue-other s name, (given-other (catalog_named name s.content) _ (holds-other s), tt)))
+      (caller-other s command, (no_catalogue-other s name, (need-other s command service, (given-other (catalog_named name s.content) _ (holds-other s), tt))))
   others (ListNamespaces name parent) =
-      (caller-other s command, (no_catalogue-other s name, (given-other (catalog_named name s.content) _ (λ catalog. parent-other s catalog.id parent), tt)))
+      (caller-other s command, (no_catalogue-other s name, (given-other (catalog_named name s.content) _ (λ catalog. need-other s command _), (given-other (catalog_named name s.content) _ (λ catalog. parent-other s catalog.id parent), tt))))
   others (CreateNamespace name levels properties) =
-      (caller-other s command, (no_catalogue-other s name, (given-other (catalog_named name s.content) _ (λ catalog. parent-other s catalog.id (parent_of levels)), (given-other (catalog_named name s.content) _ (levels-other s levels), (limit-other _, tt)))))
+      (caller-other s command, (no_catalogue-other s name, (given-other (catalog_named name s.content) _ (λ catalog. need-other s command _), (given-other (catalog_named name s.content) _ (λ catalog. parent-other s catalog.id (parent_of levels)), (given-other (catalog_named name s.content) _ (levels-other s levels), (limit-other _, tt))))))
   others (LoadNamespace name levels) =
-      on_namespace-other s command name levels [] tt
+      on_namespace-other s command _ name levels [] tt
   others (HeadNamespace name levels) =
-      on_namespace-other s command name levels [] tt
+      on_namespace-other s command _ name levels [] tt
   others (DropNamespace name levels) =
-      on_namespace-other s command name levels (given (namespace_at s name levels) (namespace_holds s) ∷ []) (given-other (namespace_at s name levels) _ (deeper-other s), tt)
+      on_namespace-other s command _ name levels (given (namespace_at s name levels) (namespace_holds s) ∷ []) (given-other (namespace_at s name levels) _ (deeper-other s), tt)
   others (UpdateProperties name levels removals updates) =
-      on_namespace-other s command name levels (key_twice removals updates ∷ over_limit (done s (namespace_at s name levels) (with_properties s removals updates)) ∷ []) (key-other removals updates, (limit-other _, tt))
+      on_namespace-other s command _ name levels (key_twice removals updates ∷ over_limit (done s (namespace_at s name levels) (with_properties s removals updates)) ∷ []) (key-other removals updates, (limit-other _, tt))
 
   told_by : (first : Option Refusal) → is_run_full (reply_by first answer) ≡ tells_full first
   told_by None = refl

@@ -123,7 +123,7 @@ fresh-sound secret = record {
     catalogs_small = tt;
     namespaces_small = tt;
   };
-  ids_apart = record { catalogs = tt; namespaces = tt };
+  ties = record { role_catalogs = tt; grants_within = tt; catalog_admins = tt; ids_apart = record { catalogs = tt; namespaces = tt } };
   tokens = record { sessions_rise = tt; sessions = tt };
   time_bound = lit≤ tt;
   next_id_bound = lit≤ tt;

@@ -8,6 +8,7 @@ pub mod FreshLemmas
 pub mod JudgedLemmas
 pub mod LimitsLemmas
 pub mod LiveLemmas
+pub mod NeedsLemmas
 pub mod RulesLemmas
 pub mod ScopesLemmas
 pub mod SessionsLemmas

@@ -1,17 +1,24 @@
 -- The bounds of quantities, judged on the rows after an action.
 use Rattle.std.proofs.Common.{◌≡◌, ℕ, suc, ◌≤◌, ◌+◌, ◌^◌, Bool, true, false, cond, ◌||◌, nat_lt, List, [], ◌∷◌, ◌++◌, map, length, Option, None, Some, is_some, refl, sym, subst, ap, ◌∙◌, inl, inr, true≢false, arith}
+use Rattle.std.specs.Coded.{Coded}
 use Rattle.std.specs.List.{list_any, AllByRecursion}
 use Rattle.std.proofs.lemmas.Bool.{cases_Bool, le-ltb, ltb-false}
+use Rattle.pol_access.specs.Access.{AccessRows, catalog_role_id, principal_id, principal_role_id}
+use Rattle.pol_access.specs.declared.privilege.Privilege.TheVariants.{CatalogManageAccess, CatalogManageContent}
+use Rattle.pol_access.specs.declared.rows.PrincipalRoleRow.{PrincipalRoleRow}
 use Rattle.pol_content.specs.Content.{catalog_id, namespace_id}
 use Rattle.pol_content.specs.Sound.{IsSmallCatalog}
+use Rattle.pol_content.specs.Ties.{admin_grant, admin_join, admin_of, is_access_id, with_admin, with_admin_last, IsAdminNew}
+use Rattle.pol_content.proofs.TiedContentLemmas.{admin_rows_last}
 use Rattle.pol_content.specs.declared.rows.CatalogRow.{CatalogRow}
 use Rattle.pol_content.specs.declared.rows.NamespaceRow.{NamespaceRow}
 use Rattle.pol_properties.specs.declared.property.Property.{Property}
+use Rattle.pol_tables.specs.Facts.{facts_with, holds}
 use Rattle.pol_tables.specs.Rising.{KeysBelow}
 use Rattle.pol_tables.specs.Table.{has_id, knows, row_of, rows_with}
 use Rattle.pol_tables.proofs.ListLemmas.{each-weaken}
 use Rattle.pol_tables.proofs.NumberedLemmas.{below-next}
-use Rattle.pol_tables.proofs.RisingLemmas.{knows-below}
+use Rattle.pol_tables.proofs.RisingLemmas.{knows-below, KeysBelow-more}
 use Rattle.pol_tables.proofs.TableLemmas.{is_some-row_of, rows_with-known, rows_with-new}
 use Rattle.pol_machine.specs.Catalogs.{with_catalog}
 use Rattle.pol_machine.specs.Namespaces.{with_altered, with_namespace}
@@ -90,27 +97,27 @@ module _ (kind : Quantity) (bound : ℕ) where
           ap (any_above kind bound number) (rows_with-known key row rows known) ∙ ap (λ b. refuse_if b (Limit kind bound)) (above_replaced rows row within known)
 
 -- rules that pass are none of the first
-skip-last : (a : Option Refusal) → first_refusal (a ∷ None ∷ None ∷ []) ≡ first_refusal (a ∷ [])
-skip-last None = refl
-skip-last (Some why) = refl
-
-skip-catalog : (a b c d : Option Refusal) → first_refusal (a ∷ None ∷ b ∷ c ∷ None ∷ d ∷ None ∷ []) ≡ first_refusal (a ∷ b ∷ c ∷ d ∷ [])
-skip-catalog (Some why) b c d = refl
-skip-catalog None (Some why) c d = refl
-skip-catalog None None (Some why) d = refl
-skip-catalog None None None (Some why) = refl
-skip-catalog None None None None = refl
-
-skip-namespace : (a b c : Option Refusal) → first_refusal (None ∷ a ∷ None ∷ None ∷ b ∷ c ∷ None ∷ []) ≡ first_refusal (a ∷ b ∷ c ∷ [])
-skip-namespace (Some why) b c = refl
-skip-namespace None (Some why) c = refl
-skip-namespace None None (Some why) = refl
-skip-namespace None None None = refl
+first-keep : (rule : Option Refusal) (rules others : List (Option Refusal)) → first_refusal rules ≡ first_refusal others → first_refusal (rule ∷ rules) ≡ first_refusal (rule ∷ others)
+first-keep None rules others same = same
+first-keep (Some why) rules others same = refl
 
 -- how many rows there are
-length-push : {R : Type 0} (rows : List R) (row : R) → length (rows ++ row ∷ []) ≡ length rows + 1
+pub length-push : {R : Type 0} (rows : List R) (row : R) → length (rows ++ row ∷ []) ≡ length rows + 1
 length-push [] row = refl
 length-push (first ∷ rows) row = let rest : length (rows ++ row ∷ []) ≡ length rows + 1 = length-push rows row in omega (arith, rest)
+
+length-two : {R : Type 0} (rows : List R) (one two : R) → length (rows ++ one ∷ two ∷ []) ≡ length rows + 2
+length-two [] one two = refl
+length-two (first ∷ rows) one two = let rest : length (rows ++ one ∷ two ∷ []) ≡ length rows + 2 = length-two rows one two in omega (arith, rest)
+
+-- a fact that is put makes the list one longer at the most
+pub length-facts_with : {T : Type 0} (code : Coded T) (fact : T) (facts : List T) (bound : ℕ) → length facts + 1 ≤ bound → length (facts_with code fact facts) ≤ bound
+unfolding facts_with
+length-facts_with code fact facts bound room = by (holds code fact facts)
+  where
+    by : (b : Bool) → length (cond b facts (facts ++ fact ∷ [])) ≤ bound
+    by true = omega (arith, room)
+    by false = let is = length-push facts fact in omega (arith, room, is)
 
 length-new : {R : Type 0} (key : R → ℕ) (row : R) (rows : List R) → knows key (key row) rows ≡ false → length (rows_with key row rows) ≡ length rows + 1
 length-new key row rows new = ap length (rows_with-new key row rows new) ∙ length-push rows row
@@ -122,22 +129,55 @@ length-map f (row ∷ rows) = ap suc (length-map f rows)
 length-altered : {R : Type 0} (key : R → ℕ) (row : R) (rows : List R) → knows key (key row) rows ≡ true → length (rows_with key row rows) ≡ length rows
 length-altered key row rows known = ap length (rows_with-known key row rows known) ∙ length-map _ rows
 
--- where each quantity is judged so, the first refusal is that of these
-limits-by : (rows : Rows) (a b c d e f g : Option Refusal) → above quantity.Catalogs 1000 (length rows.content.catalogs) ≡ a → above quantity.Namespaces 100000 (length rows.content.namespaces) ≡ b
-    → any_above quantity.AllowedLocations 100 allowed_count rows.content.catalogs ≡ c → any_above quantity.Properties 1000 catalog_properties rows.content.catalogs ≡ d → any_above quantity.Properties 1000 namespace_properties rows.content.namespaces ≡ e
-    → above quantity.NextId (2 ^ 62) rows.next_id ≡ f → above quantity.NextSerial (2 ^ 62) rows.next_serial ≡ g
-    → over_limit rows ≡ first_refusal (a ∷ b ∷ c ∷ d ∷ e ∷ f ∷ g ∷ [])
+-- how the quantities are judged
+pub record Judged : Type 0 where
+  pub catalogs : Option Refusal
+  pub catalog_roles : Option Refusal
+  pub joins : Option Refusal
+  pub grants : Option Refusal
+  pub namespaces : Option Refusal
+  pub allowed : Option Refusal
+  pub properties : Option Refusal
+  pub own : Option Refusal
+  pub ids : Option Refusal
+  pub serials : Option Refusal
+
+abbrev pub judged : Rows → Judged
+judged rows = record {
+  catalogs = above quantity.Catalogs 1000 (length rows.content.catalogs);
+  catalog_roles = above quantity.CatalogRoles 10000 (length rows.access.catalog_roles);
+  joins = above quantity.Joins 100000 (length rows.access.joins);
+  grants = above quantity.Grants 100000 (length rows.access.grants);
+  namespaces = above quantity.Namespaces 100000 (length rows.content.namespaces);
+  allowed = any_above quantity.AllowedLocations 100 allowed_count rows.content.catalogs;
+  properties = any_above quantity.Properties 1000 catalog_properties rows.content.catalogs;
+  own = any_above quantity.Properties 1000 namespace_properties rows.content.namespaces;
+  ids = above quantity.NextId (2 ^ 62) rows.next_id;
+  serials = above quantity.NextSerial (2 ^ 62) rows.next_serial;
+}
+
+abbrev pub none_above_bounds : Judged
+none_above_bounds = record { catalogs = None; catalog_roles = None; joins = None; grants = None; namespaces = None; allowed = None; properties = None; own = None; ids = None; serials = None }
+
+abbrev pub in_turn : Judged → List (Option Refusal)
+in_turn by = by.catalogs ∷ by.catalog_roles ∷ by.joins ∷ by.grants ∷ by.namespaces ∷ by.allowed ∷ by.properties ∷ by.own ∷ by.ids ∷ by.serials ∷ []
+
+-- the first refusal is that of the quantities as they are judged
+limits-by : (rows : Rows) (by : Judged) → judged rows ≡ by → over_limit rows ≡ first_refusal (in_turn by)
 unfolding over_limit
-limits-by rows a b c d e f g ia ib ic id ie if_ ig =
-    λ i. first_refusal (ia i ∷ ib i ∷ ic i ∷ id i ∷ ie i ∷ if_ i ∷ ig i ∷ [])
+limits-by rows by is = ap (λ so. first_refusal (in_turn so)) is
+
+-- an id that was not given out is no principal's and no role's
+pub unknown-later : (s : Rows) → IsSound s → (id : ℕ) → s.next_id ≤ id → is_access_id id s.access ≡ false
+unknown-later s sound id later =
+    rw (knows-below principal_id id s.access.principals (KeysBelow-more principal_id s.next_id id s.access.principals later (below-next principal_id s.next_id s.access.principals sound.access.principals)), knows-below principal_role_id id s.access.principal_roles (KeysBelow-more principal_role_id s.next_id id s.access.principal_roles later (below-next principal_role_id s.next_id s.access.principal_roles sound.access.principal_roles)), knows-below catalog_role_id id s.access.catalog_roles (KeysBelow-more catalog_role_id s.next_id id s.access.catalog_roles later (below-next catalog_role_id s.next_id s.access.catalog_roles sound.access.catalog_roles))) refl
+
+-- the rows of a new catalogue's `catalog_admin` are new, and go last
+pub admin-last : (s : Rows) → IsSound s → (catalog service : ℕ) → catalog ≡ s.next_id → IsAdminNew catalog service s.access × (with_admin catalog service s.access ≡ with_admin_last catalog service s.access)
+admin-last s sound catalog service id =
+    admin_rows_last s.access s.content sound.ties catalog service (unknown-later s sound (catalog + 1) (omega (arith, id))) sound.access.join_catalog_roles
 
 module _ (s : Rows) (sound : IsSound s) where
-  catalogs-few : above quantity.Catalogs 1000 (length s.content.catalogs) ≡ None
-  catalogs-few = above-none quantity.Catalogs 1000 _ sound.content.catalogs_bound
-
-  namespaces-few : above quantity.Namespaces 100000 (length s.content.namespaces) ≡ None
-  namespaces-few = above-none quantity.Namespaces 100000 _ sound.content.namespaces_bound
-
   allowed-within : AllByRecursion (λ row. allowed_count row ≤ 100) s.content.catalogs
   allowed-within =
       each-weaken IsSmallCatalog (λ row. allowed_count row ≤ 100) s.content.catalogs (λ row small. small.allowed) sound.content.catalogs_small
@@ -146,37 +186,53 @@ module _ (s : Rows) (sound : IsSound s) where
   properties-within =
       each-weaken IsSmallCatalog (λ row. catalog_properties row ≤ 1000) s.content.catalogs (λ row small. small.properties) sound.content.catalogs_small
 
-  allowed-few : any_above quantity.AllowedLocations 100 allowed_count s.content.catalogs ≡ None
-  allowed-few = any_above-none quantity.AllowedLocations 100 allowed_count s.content.catalogs allowed-within
-
-  properties-few : any_above quantity.Properties 1000 catalog_properties s.content.catalogs ≡ None
-  properties-few =
-      any_above-none quantity.Properties 1000 catalog_properties s.content.catalogs properties-within
-
-  own-few : any_above quantity.Properties 1000 namespace_properties s.content.namespaces ≡ None
-  own-few =
-      any_above-none quantity.Properties 1000 namespace_properties s.content.namespaces sound.content.namespaces_small
-
-  ids-left : above quantity.NextId (2 ^ 62) s.next_id ≡ None
-  ids-left = above-none quantity.NextId (2 ^ 62) _ sound.next_id_bound
-
-  serials-left : above quantity.NextSerial (2 ^ 62) s.next_serial ≡ None
-  serials-left = above-none quantity.NextSerial (2 ^ 62) _ sound.next_serial_bound
+  -- a sound state is within each bound
+  within-all : judged s ≡ none_above_bounds
+  within-all = λ i. record {
+    catalogs = above-none quantity.Catalogs 1000 _ sound.content.catalogs_bound i;
+    catalog_roles = above-none quantity.CatalogRoles 10000 _ sound.access.catalog_roles_bound i;
+    joins = above-none quantity.Joins 100000 _ sound.access.joins_bound i;
+    grants = above-none quantity.Grants 100000 _ sound.access.grants_bound i;
+    namespaces = above-none quantity.Namespaces 100000 _ sound.content.namespaces_bound i;
+    allowed = any_above-none quantity.AllowedLocations 100 allowed_count s.content.catalogs allowed-within i;
+    properties = any_above-none quantity.Properties 1000 catalog_properties s.content.catalogs properties-within i;
+    own = any_above-none quantity.Properties 1000 namespace_properties s.content.namespaces sound.content.namespaces_small i;
+    ids = above-none quantity.NextId (2 ^ 62) _ sound.next_id_bound i;
+    serials = above-none quantity.NextSerial (2 ^ 62) _ sound.next_serial_bound i;
+  }
 
   -- another next serial
   pub serial_limits : (serial : ℕ) → over_limit (with_serial serial s) ≡ first_refusal (above quantity.NextSerial (2 ^ 62) serial ∷ [])
   serial_limits serial =
-      limits-by (with_serial serial s) None None None None None None (above quantity.NextSerial (2 ^ 62) serial) catalogs-few namespaces-few allowed-few properties-few own-few ids-left refl
+      let by : Judged = record none_above_bounds { serials = above quantity.NextSerial (2 ^ 62) serial } in
+      limits-by (with_serial serial s) by (λ i. record (within-all i) { serials = above quantity.NextSerial (2 ^ 62) serial })
 
-  -- one more catalogue
-  pub catalog_limits : (row : CatalogRow) → row.id ≡ s.next_id
-      → over_limit (with_catalog s row) ≡ first_refusal (above quantity.Catalogs 1000 (length s.content.catalogs + 1) ∷ above quantity.AllowedLocations 100 (length row.allowed) ∷ above quantity.Properties 1000 (length row.properties) ∷ above quantity.NextId (2 ^ 62) (s.next_id + 2) ∷ [])
-  catalog_limits row id =
+  -- one more catalogue, with its `catalog_admin`
+  pub catalog_limits : (row : CatalogRow) (service : PrincipalRoleRow) → row.id ≡ s.next_id
+      → over_limit (with_catalog s row service) ≡ first_refusal (above quantity.Catalogs 1000 (length s.content.catalogs + 1) ∷ above quantity.CatalogRoles 10000 (length s.access.catalog_roles + 1) ∷ above quantity.Joins 100000 (length s.access.joins + 1) ∷ above quantity.Grants 100000 (length s.access.grants + 2)
+      ∷ above quantity.AllowedLocations 100 (length row.allowed) ∷ above quantity.Properties 1000 (length row.properties) ∷ above quantity.NextId (2 ^ 62) (s.next_id + 2) ∷ [])
+  catalog_limits row service id =
       let new = knows-below catalog_id row.id s.content.catalogs (subst (λ n. KeysBelow catalog_id n s.content.catalogs) (sym id) (below-next catalog_id s.next_id s.content.catalogs sound.content.catalogs)) in
-      limits-by (with_catalog s row) (above quantity.Catalogs 1000 (length s.content.catalogs + 1)) None (above quantity.AllowedLocations 100 (length row.allowed)) (above quantity.Properties 1000 (length row.properties)) None (above quantity.NextId (2 ^ 62) (s.next_id + 2)) None
-      (ap (above quantity.Catalogs 1000) (length-new catalog_id row s.content.catalogs new)) namespaces-few (any_above-new quantity.AllowedLocations 100 allowed_count catalog_id s.content.catalogs row allowed-within new)
-      (any_above-new quantity.Properties 1000 catalog_properties catalog_id s.content.catalogs row properties-within new) own-few refl serials-left
-      ∙ skip-catalog (above quantity.Catalogs 1000 (length s.content.catalogs + 1)) (above quantity.AllowedLocations 100 (length row.allowed)) (above quantity.Properties 1000 (length row.properties)) (above quantity.NextId (2 ^ 62) (s.next_id + 2))
+      let last = (admin-last s sound row.id service.id id).1 in
+      let by : Judged = record none_above_bounds {
+        catalogs = above quantity.Catalogs 1000 (length s.content.catalogs + 1);
+        catalog_roles = above quantity.CatalogRoles 10000 (length s.access.catalog_roles + 1);
+        joins = above quantity.Joins 100000 (length s.access.joins + 1);
+        grants = above quantity.Grants 100000 (length s.access.grants + 2);
+        allowed = above quantity.AllowedLocations 100 (length row.allowed);
+        properties = above quantity.Properties 1000 (length row.properties);
+        ids = above quantity.NextId (2 ^ 62) (s.next_id + 2);
+      } in
+      limits-by (with_catalog s row service) by (λ i. record (within-all i) {
+        catalogs = ap (above quantity.Catalogs 1000) (length-new catalog_id row s.content.catalogs new) i;
+        catalog_roles = ap (above quantity.CatalogRoles 10000) (ap (λ (access : AccessRows). length access.catalog_roles) last ∙ length-push s.access.catalog_roles (admin_of row.id)) i;
+        joins = ap (above quantity.Joins 100000) (ap (λ (access : AccessRows). length access.joins) last ∙ length-push s.access.joins (admin_join service.id row.id)) i;
+        grants = ap (above quantity.Grants 100000) (ap (λ (access : AccessRows). length access.grants) last ∙ length-two s.access.grants (admin_grant CatalogManageAccess row.id) (admin_grant CatalogManageContent row.id)) i;
+        allowed = any_above-new quantity.AllowedLocations 100 allowed_count catalog_id s.content.catalogs row allowed-within new i;
+        properties = any_above-new quantity.Properties 1000 catalog_properties catalog_id s.content.catalogs row properties-within new i;
+        ids = above quantity.NextId (2 ^ 62) (s.next_id + 2);
+      })
+      ∙ first-keep by.catalogs _ _ (first-keep by.catalog_roles _ _ (first-keep by.joins _ _ (first-keep by.grants _ _ (first-keep by.allowed _ _ (first-keep by.properties _ _ (first-keep by.ids _ _ refl))))))
 
   -- one more namespace
   pub namespace_limits : (levels : List (List ℕ)) (properties : List Property) (catalog : CatalogRow)
@@ -184,16 +240,25 @@ module _ (s : Rows) (sound : IsSound s) where
   namespace_limits levels properties catalog =
       let row : NamespaceRow = record { id = s.next_id; catalog = catalog.id; levels = levels; properties = properties } in
       let new = knows-below namespace_id s.next_id s.content.namespaces (below-next namespace_id s.next_id s.content.namespaces sound.content.namespaces) in
-      limits-by (with_namespace s levels properties catalog) None (above quantity.Namespaces 100000 (length s.content.namespaces + 1)) None None (above quantity.Properties 1000 (length properties)) (above quantity.NextId (2 ^ 62) (s.next_id + 1)) None
-      catalogs-few (ap (above quantity.Namespaces 100000) (length-new namespace_id row s.content.namespaces new)) allowed-few properties-few
-      (any_above-new quantity.Properties 1000 namespace_properties namespace_id s.content.namespaces row sound.content.namespaces_small new) refl serials-left
-      ∙ skip-namespace (above quantity.Namespaces 100000 (length s.content.namespaces + 1)) (above quantity.Properties 1000 (length properties)) (above quantity.NextId (2 ^ 62) (s.next_id + 1))
+      let by : Judged = record none_above_bounds {
+        namespaces = above quantity.Namespaces 100000 (length s.content.namespaces + 1);
+        own = above quantity.Properties 1000 (length properties);
+        ids = above quantity.NextId (2 ^ 62) (s.next_id + 1);
+      } in
+      limits-by (with_namespace s levels properties catalog) by (λ i. record (within-all i) {
+        namespaces = ap (above quantity.Namespaces 100000) (length-new namespace_id row s.content.namespaces new) i;
+        own = any_above-new quantity.Properties 1000 namespace_properties namespace_id s.content.namespaces row sound.content.namespaces_small new i;
+        ids = above quantity.NextId (2 ^ 62) (s.next_id + 1);
+      })
+      ∙ first-keep by.namespaces _ _ (first-keep by.own _ _ (first-keep by.ids _ _ refl))
 
   -- a namespace that is altered
   pub altered_limits : (row old : NamespaceRow) → row_of namespace_id row.id s.content.namespaces ≡ Some old → over_limit (with_altered s row) ≡ first_refusal (above quantity.Properties 1000 (length row.properties) ∷ [])
   altered_limits row old there =
       let known = sym (is_some-row_of namespace_id row.id s.content.namespaces) ∙ ap is_some there in
-      limits-by (with_altered s row) None None None None (above quantity.Properties 1000 (length row.properties)) None None catalogs-few
-      (ap (above quantity.Namespaces 100000) (length-altered namespace_id row s.content.namespaces known) ∙ namespaces-few) allowed-few properties-few
-      (any_above-altered quantity.Properties 1000 namespace_properties namespace_id s.content.namespaces row sound.content.namespaces_small known) ids-left serials-left
-      ∙ skip-last (above quantity.Properties 1000 (length row.properties))
+      let by : Judged = record none_above_bounds { own = above quantity.Properties 1000 (length row.properties) } in
+      limits-by (with_altered s row) by (λ i. record (within-all i) {
+        namespaces = (ap (above quantity.Namespaces 100000) (length-altered namespace_id row s.content.namespaces known) ∙ above-none quantity.Namespaces 100000 _ sound.content.namespaces_bound) i;
+        own = any_above-altered quantity.Properties 1000 namespace_properties namespace_id s.content.namespaces row sound.content.namespaces_small known i;
+      })
+      ∙ first-keep by.own _ _ refl

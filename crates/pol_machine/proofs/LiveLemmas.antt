@@ -120,7 +120,7 @@ module _ (s : Rows) where
     live-sound = record {
       access = sound.access;
       content = sound.content;
-      ids_apart = sound.ids_apart;
+      ties = sound.ties;
       tokens = record {
         sessions_rise = KeysRise-filter serial_of (is_live s) s.tokens.sessions sound.tokens.sessions_rise;
         sessions = each-filter (IsSessionOf s.next_id s.next_serial) (is_live s) s.tokens.sessions sound.tokens.sessions;

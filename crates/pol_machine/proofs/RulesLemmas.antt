@@ -12,13 +12,16 @@ use Rattle.pol_properties.specs.declared.property.Property.{Property}
 use Rattle.pol_machine.specs.Reply.{is_full}
 use Rattle.pol_machine.specs.Rows.{Rows}
 use Rattle.pol_machine.specs.Namespaces.{on_namespace}
+use Rattle.pol_machine.specs.Needs.{first_unmet, forbidden, on_path, shown}
+use Rattle.pol_machine.specs.declared.needs.Need.{Need}
+use Rattle.pol_access.specs.declared.privilege.Privilege.{Privilege}
 use Rattle.pol_machine.specs.Rules.{bad_text, bad_texts, catalog_holds, catalog_taken, first_refusal, given, invalid_client, invalid_scope, key_twice, limits, namespace_holds, namespace_taken, no_catalogue, no_namespace, no_parent, over_limit, refuse_if, run_full, unauthenticated, unsupported_type, EachPasses}
 use Rattle.pol_machine.specs.declared.command.Command.{Command}
 use Rattle.pol_machine.specs.declared.reply.OptionName.TheVariants as option
 use Rattle.pol_machine.specs.Machine.{reply_by}
 use Rattle.pol_machine.specs.declared.reply.Answer.{Answer}
 use Rattle.pol_machine.specs.declared.reply.Refusal.{Refusal}
-use Rattle.pol_machine.specs.declared.reply.Refusal.TheVariants.{RunFull, InvalidClient, InvalidScope, Unauthenticated, NoCatalogue, NoNamespace, NameTaken, NotEmpty, KeyTwice, BadLocation, Unsupported}
+use Rattle.pol_machine.specs.declared.reply.Refusal.TheVariants.{RunFull, InvalidClient, InvalidScope, Unauthenticated, NoCatalogue, Forbidden, NoNamespace, NameTaken, NotEmpty, KeyTwice, BadLocation, Unsupported}
 use Rattle.pol_machine.specs.declared.reply.Reply.TheVariants.{Answered, Refused}
 
 -- a rule that fails first is the answer, and one that passes leaves it to those after it
@@ -137,11 +140,15 @@ unfolding bad_texts
 texts-other [] = refl
 texts-other (text ∷ texts) = either-other (bad_text text) (bad_texts texts) (text-other text) (texts-other texts)
 
+pub need-other : (s : Rows) (command : Command) (needs : List Need) → tells_full (forbidden s command needs) ≡ false
+unfolding forbidden
+need-other s command needs = mapped-other (first_unmet s command needs) (λ need. Forbidden need.privilege (shown s need.on)) (λ need. refl)
+
 pub limit-other : (rows : Rows) → tells_full (over_limit rows) ≡ false
 unfolding over_limit
 limit-other rows =
-    first-other (limits rows) (refuse_if-other _ _ refl, (refuse_if-other _ _ refl, (refuse_if-other _ _ refl, (refuse_if-other _ _ refl, (refuse_if-other _ _ refl, (refuse_if-other _ _ refl, (refuse_if-other _ _ refl, tt)))))))
+    first-other (limits rows) (refuse_if-other _ _ refl, (refuse_if-other _ _ refl, (refuse_if-other _ _ refl, (refuse_if-other _ _ refl, (refuse_if-other _ _ refl, (refuse_if-other _ _ refl, (refuse_if-other _ _ refl, (refuse_if-other _ _ refl, (refuse_if-other _ _ refl, (refuse_if-other _ _ refl, tt))))))))))
 
-pub on_namespace-other : (s : Rows) (command : Command) (name : List ℕ) (levels : List (List ℕ)) (rules : List (Option Refusal)) → AllByRecursion (λ rule. tells_full rule ≡ false) rules → AllByRecursion (λ rule. tells_full rule ≡ false) (on_namespace s command name levels rules)
-on_namespace-other s command name levels rules others =
-    (caller-other s command, (no_catalogue-other s name, (given-other (catalog_named name s.content) _ (λ catalog. namespace-other s catalog.id levels), others)))
+pub on_namespace-other : (s : Rows) (command : Command) (privilege : Privilege) (name : List ℕ) (levels : List (List ℕ)) (rules : List (Option Refusal)) → AllByRecursion (λ rule. tells_full rule ≡ false) rules → AllByRecursion (λ rule. tells_full rule ≡ false) (on_namespace s command privilege name levels rules)
+on_namespace-other s command privilege name levels rules others =
+    (caller-other s command, (no_catalogue-other s name, (given-other (catalog_named name s.content) _ (λ catalog. need-other s command (on_path s privilege levels catalog)), (given-other (catalog_named name s.content) _ (λ catalog. namespace-other s catalog.id levels), others))))

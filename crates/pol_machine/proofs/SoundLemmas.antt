@@ -4,18 +4,17 @@ use Rattle.std.specs.List.{cons_option, find, filter_map, list_any, AllByRecursi
 use Rattle.std.specs.Str.{bytes_eq}
 use Rattle.std.proofs.lemmas.Bool.{cases_Bool, ltb-false}
 use Rattle.std.specs.Option.{option_map}
-use Rattle.pol_access.specs.Access.{catalog_role_id, principal_id, principal_role_id, is_member}
+use Rattle.pol_access.specs.Access.{AccessRows, principal_id, principal_role_id, is_member}
 use Rattle.pol_access.specs.declared.rows.PrincipalRow.{PrincipalRow}
 use Rattle.pol_access.specs.declared.rows.PrincipalRoleRow.{PrincipalRoleRow}
-use Rattle.pol_access.proofs.SoundLemmas.{given-later, more_ids}
+use Rattle.pol_access.proofs.SoundLemmas.{given-later}
 use Rattle.pol_content.specs.Content.{ContentRows}
 use Rattle.pol_content.specs.Sound.{IsSoundContent}
 use Rattle.pol_names.specs.declared.scope.Scope.{Scope}
 use Rattle.pol_names.specs.declared.scope.Scope.TheVariants as scope
 use Rattle.pol_tables.specs.Rising.{KeysBelow}
 use Rattle.pol_tables.proofs.ListLemmas.{each-push, each-weaken}
-use Rattle.pol_tables.proofs.NumberedLemmas.{below-next}
-use Rattle.pol_tables.proofs.RisingLemmas.{KeysRise-push, knows-below}
+use Rattle.pol_tables.proofs.RisingLemmas.{KeysRise-push}
 use Rattle.pol_tables.proofs.TableLemmas.{some_is}
 use Rattle.pol_tokens.specs.Tokens.{TokenRows, serial_of}
 use Rattle.pol_tokens.specs.declared.session.SessionRow.{SessionRow}
@@ -23,7 +22,7 @@ use Rattle.pol_machine.specs.Machine.{stamped}
 use Rattle.pol_machine.specs.Rows.{Rows}
 use Rattle.pol_machine.specs.Rules.{all_roles, client_of, held_role, kept_if, role_of_scope, role_scope, run_full, time_of}
 use Rattle.pol_machine.specs.Sessions.{scope_of, with_session}
-use Rattle.pol_machine.specs.Sound.{is_access_id, IdsApart, IsGiven, IsSessionOf, IsSound, IsSoundTokens, NamesGiven}
+use Rattle.pol_machine.specs.Sound.{AreTied, IsGiven, IsSessionOf, IsSound, IsSoundAccess, IsSoundTokens, NamesGiven}
 use Rattle.pol_machine.specs.declared.command.Command.{Command}
 use Rattle.pol_machine.specs.declared.reply.Refusal.TheVariants.{RunFull}
 use Rattle.pol_machine.proofs.ChangesLemmas.{serials-below}
@@ -103,7 +102,7 @@ pub stamped-sound : (s : Rows) (command : Command) → IsSound s → IsWithin s 
 stamped-sound s command sound within = record {
   access = sound.access;
   content = sound.content;
-  ids_apart = sound.ids_apart;
+  ties = sound.ties;
   tokens = sound.tokens;
   time_bound = within.time;
   next_id_bound = sound.next_id_bound;
@@ -117,7 +116,7 @@ pub opened-sound : (s : Rows) (command : Command) (row : SessionRow) → IsSound
 opened-sound s command row sound within serial principal scope bound = record {
   access = sound.access;
   content = sound.content;
-  ids_apart = sound.ids_apart;
+  ties = sound.ties;
   tokens = record {
     sessions_rise = KeysRise-push serial_of row s.tokens.sessions sound.tokens.sessions_rise (subst (λ high. KeysBelow serial_of high s.tokens.sessions) (sym serial) (serials-below s sound));
     sessions = each-push (IsSessionOf s.next_id (s.next_serial + 1)) s.tokens.sessions row (each-weaken (IsSessionOf s.next_id s.next_serial) (IsSessionOf s.next_id (s.next_serial + 1)) s.tokens.sessions (λ kept. later_serial s.next_id s.next_serial (s.next_serial + 1) kept (omega arith)) sound.tokens.sessions) (record { below = omega (arith, serial); principal = principal; scope = scope });
@@ -140,13 +139,13 @@ later-tokens low high serial tokens more sound = record {
   sessions = each-weaken (IsSessionOf low serial) (IsSessionOf high serial) tokens.sessions (λ row known. record { below = known.below; principal = given-later low high row.principal more known.principal; scope = names-later low high row.scope more known.scope }) sound.sessions;
 }
 
--- rows whose catalogues and namespaces are others, and more ids given out, are sound at the command's time
-pub content-sound : (s : Rows) (command : Command) (content : ContentRows) (next_id : ℕ) → IsSound s → IsWithin s command → s.next_id ≤ next_id → next_id ≤ 2 ^ 62 → IsSoundContent next_id content → IdsApart s.access content
-    → IsSound (stamped s command (record s { content = content; next_id = next_id }))
-content-sound s command content next_id sound within more bound kept apart = record {
-  access = more_ids s.next_id next_id s.access more sound.access;
-  content = kept;
-  ids_apart = apart;
+-- other rows of access and content, with more ids given out, are sound at the command's time
+pub tables-sound : (s : Rows) (command : Command) (access : AccessRows) (content : ContentRows) (next_id : ℕ) → IsSound s → IsWithin s command → s.next_id ≤ next_id → next_id ≤ 2 ^ 62 → IsSoundAccess next_id access → IsSoundContent next_id content → AreTied access content
+    → IsSound (stamped s command (record s { access = access; content = content; next_id = next_id }))
+tables-sound s command access content next_id sound within more bound access_sound content_sound tied = record {
+  access = access_sound;
+  content = content_sound;
+  ties = tied;
   tokens = later-tokens s.next_id next_id s.next_serial s.tokens more sound.tokens;
   time_bound = within.time;
   next_id_bound = bound;
@@ -160,8 +159,3 @@ next_id-some s sound =
     let chain = sound.access.root_chain in
     let given = found-holds (λ row. IsGiven s.next_id (principal_id row)) _ s.access.principals chain.root sound.access.principals.given chain.root_there in
     omega (arith, given.0, given.1)
-
--- the next id is no principal's and no role's
-pub next_id-unknown : (s : Rows) → IsSound s → is_access_id s.next_id s.access ≡ false
-next_id-unknown s sound =
-    rw (knows-below principal_id s.next_id s.access.principals (below-next principal_id s.next_id s.access.principals sound.access.principals), knows-below principal_role_id s.next_id s.access.principal_roles (below-next principal_role_id s.next_id s.access.principal_roles sound.access.principal_roles), knows-below catalog_role_id s.next_id s.access.catalog_roles (below-next catalog_role_id s.next_id s.access.catalog_roles sound.access.catalog_roles)) refl

@@ -1,5 +1,9 @@
 -- The actions on namespaces.
 use Rattle.std.specs.Prelude.{ℕ, ◌+◌, List, [], ◌∷◌, map, Option, Some, None}
+use Rattle.pol_access.specs.Access.{grants_on_dropped}
+use Rattle.pol_access.specs.declared.privilege.Privilege.{Privilege}
+use Rattle.pol_access.specs.declared.privilege.Privilege.TheVariants.{NamespaceCreate, NamespaceDrop, NamespaceList, NamespaceReadProperties, NamespaceWriteProperties}
+use Rattle.pol_access.specs.declared.securable.Securable.TheVariants as securable
 use Rattle.pol_content.specs.Content.{catalog_named, children, namespace_id, namespace_named}
 use Rattle.pol_content.specs.declared.rows.CatalogRow.{CatalogRow}
 use Rattle.pol_content.specs.declared.rows.NamespaceRow.{NamespaceRow}
@@ -8,6 +12,7 @@ use Rattle.pol_properties.specs.Properties.{keys, missing_keys, pairs_updated, r
 use Rattle.pol_properties.specs.declared.property.Property.{Property}
 use Rattle.pol_tables.specs.Table.{rows_with, rows_without}
 use Rattle.pol_machine.specs.Acting.{Acting, done, reading, told}
+use Rattle.pol_machine.specs.Needs.{forbidden, on_parent, on_path}
 use Rattle.pol_machine.specs.Rows.{Rows}
 use Rattle.pol_machine.specs.Rules.{given, inside, key_twice, namespace_holds, namespace_taken, no_catalogue, no_namespace, no_parent, over_limit, unauthenticated}
 use Rattle.pol_machine.specs.declared.command.Command.{Command}
@@ -22,10 +27,10 @@ in_catalog s levels (Some catalog) = namespace_named catalog.id levels s.content
 unfoldable pub namespace_at : Rows → List ℕ → List (List ℕ) → Option NamespaceRow
 namespace_at s name levels = in_catalog s levels (catalog_named name s.content)
 
--- the rules of an action on a namespace that must be there, before its own
-abbrev pub on_namespace : Rows → Command → List ℕ → List (List ℕ) → List (Option Refusal) → List (Option Refusal)
-on_namespace s command name levels rules =
-    unauthenticated s command ∷ no_catalogue s name ∷ inside s name (λ catalog. no_namespace s catalog.id levels) ∷ rules
+-- the rules of an action on a namespace that must be there and on which a privilege is needed, before its own
+abbrev pub on_namespace : Rows → Command → Privilege → List ℕ → List (List ℕ) → List (Option Refusal) → List (Option Refusal)
+on_namespace s command privilege name levels rules =
+    unauthenticated s command ∷ no_catalogue s name ∷ inside s name (λ catalog. forbidden s command (on_path s privilege levels catalog)) ∷ inside s name (λ catalog. no_namespace s catalog.id levels) ∷ rules
 
 -- listing the namespaces directly below a parent, or those of one level
 abbrev pub listed : Rows → Option (List (List ℕ)) → CatalogRow → List (List (List ℕ))
@@ -33,7 +38,7 @@ listed s parent catalog = map (λ (row : NamespaceRow). row.levels) (children ca
 
 abbrev pub list_namespaces : Rows → Command → List ℕ → Option (List (List ℕ)) → Acting
 list_namespaces s command name parent =
-    reading s (unauthenticated s command ∷ no_catalogue s name ∷ inside s name (λ catalog. no_parent s catalog.id parent) ∷ []) (told (catalog_named name s.content) (λ catalog. NamespacesListed (listed s parent catalog)))
+    reading s (unauthenticated s command ∷ no_catalogue s name ∷ inside s name (λ catalog. forbidden s command (on_parent s NamespaceList parent catalog)) ∷ inside s name (λ catalog. no_parent s catalog.id parent) ∷ []) (told (catalog_named name s.content) (λ catalog. NamespacesListed (listed s parent catalog)))
 
 -- the rows with one more namespace, under the next id
 abbrev pub with_namespace : Rows → List (List ℕ) → List Property → CatalogRow → Rows
@@ -46,7 +51,7 @@ abbrev pub create_namespace : Rows → Command → List ℕ → List (List ℕ) 
 create_namespace s command name levels properties =
     let after : Rows = done s (catalog_named name s.content) (with_namespace s levels properties) in
     record {
-      rules = unauthenticated s command ∷ no_catalogue s name ∷ inside s name (λ catalog. no_parent s catalog.id (parent_of levels)) ∷ inside s name (namespace_taken s levels) ∷ over_limit after ∷ [];
+      rules = unauthenticated s command ∷ no_catalogue s name ∷ inside s name (λ catalog. forbidden s command (on_parent s NamespaceCreate (parent_of levels) catalog)) ∷ inside s name (λ catalog. no_parent s catalog.id (parent_of levels)) ∷ inside s name (namespace_taken s levels) ∷ over_limit after ∷ [];
       after = after;
       answer = NamespaceCreated levels properties;
     }
@@ -54,20 +59,20 @@ create_namespace s command name levels properties =
 -- showing a namespace
 abbrev pub load_namespace : Rows → Command → List ℕ → List (List ℕ) → Acting
 load_namespace s command name levels =
-    reading s (on_namespace s command name levels []) (told (namespace_at s name levels) (λ row. NamespaceLoaded row.levels row.properties))
+    reading s (on_namespace s command NamespaceReadProperties name levels []) (told (namespace_at s name levels) (λ row. NamespaceLoaded row.levels row.properties))
 
 -- telling whether a namespace is there
 abbrev pub head_namespace : Rows → Command → List ℕ → List (List ℕ) → Acting
-head_namespace s command name levels = reading s (on_namespace s command name levels []) NamespaceThere
+head_namespace s command name levels = reading s (on_namespace s command NamespaceReadProperties name levels []) NamespaceThere
 
--- the rows without a namespace
+-- the rows without a namespace, and the grants on it
 abbrev pub without_namespace : Rows → NamespaceRow → Rows
-without_namespace s row = record s { content = record s.content { namespaces = rows_without namespace_id row.id s.content.namespaces } }
+without_namespace s row = record s { access = grants_on_dropped (securable.Namespace row.id) s.access; content = record s.content { namespaces = rows_without namespace_id row.id s.content.namespaces } }
 
 -- dropping a namespace
 abbrev pub drop_namespace : Rows → Command → List ℕ → List (List ℕ) → Acting
 drop_namespace s command name levels = record {
-  rules = on_namespace s command name levels (given (namespace_at s name levels) (namespace_holds s) ∷ []);
+  rules = on_namespace s command NamespaceDrop name levels (given (namespace_at s name levels) (namespace_holds s) ∷ []);
   after = done s (namespace_at s name levels) (without_namespace s);
   answer = NamespaceDropped;
 }
@@ -85,7 +90,7 @@ abbrev pub update_properties : Rows → Command → List ℕ → List (List ℕ)
 update_properties s command name levels removals updates =
     let after : Rows = done s (namespace_at s name levels) (with_properties s removals updates) in
     record {
-      rules = on_namespace s command name levels (key_twice removals updates ∷ over_limit after ∷ []);
+      rules = on_namespace s command NamespaceWriteProperties name levels (key_twice removals updates ∷ over_limit after ∷ []);
       after = after;
       answer = told (namespace_at s name levels) (λ row. PropertiesUpdated (missing_keys removals row.properties) (removed_keys removals row.properties) (keys updates));
     }

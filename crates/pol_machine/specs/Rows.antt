@@ -2,6 +2,7 @@
 use Rattle.std.specs.Prelude.{ℕ, List, [], ◌∷◌, codes}
 use Rattle.sha2.specs.Sha256.{sha256}
 use Rattle.pol_access.specs.Access.{AccessRows}
+use Rattle.pol_access.specs.declared.access.AccessRoom.{AccessRoom}
 use Rattle.pol_access.specs.declared.rows.PrincipalRoleRow.{PrincipalRoleRow}
 use Rattle.pol_access.specs.declared.rows.PrincipalRow.{PrincipalRow}
 use Rattle.pol_content.specs.Content.{ContentRows, ContentRoom}
@@ -20,6 +21,7 @@ pub record Rows : Type 0 where
 
 -- how many more rows of each layer need no memory
 pub record Room : Type 0 where
+  pub access : AccessRoom
   pub content : ContentRoom
   pub tokens : TokensRoom
 

@@ -3,7 +3,7 @@ use Rattle.std.specs.Prelude.{◌≡◌, ℕ, ◌+◌, ◌^◌, max, Bool, true,
 use Rattle.std.specs.List.{find, list_all, list_any, AllByRecursion}
 use Rattle.std.specs.Option.{option_map, option_or}
 use Rattle.std.specs.Str.{bytes_eq}
-use Rattle.pol_access.specs.Access.{AccessRows, principal_id, is_member}
+use Rattle.pol_access.specs.Access.{AccessRows, has_other_role, principal_id, is_member}
 use Rattle.pol_access.specs.Names.{principal_of_client}
 use Rattle.pol_access.specs.declared.rows.PrincipalRow.{PrincipalRow}
 use Rattle.pol_access.specs.declared.rows.PrincipalRoleRow.{PrincipalRoleRow}
@@ -131,9 +131,10 @@ unfoldable pub namespace_taken : Rows → List (List ℕ) → CatalogRow → Opt
 namespace_taken s levels catalog =
     refuse_if (is_some (namespace_named catalog.id levels s.content)) (NameTaken (dotted levels))
 
--- a catalogue has a namespace, and a namespace a deeper one
+-- a catalogue has a namespace, or a role beside `catalog_admin`, and a namespace has a deeper one
 unfoldable pub catalog_holds : Rows → CatalogRow → Option Refusal
-catalog_holds s catalog = refuse_if (not (catalog_is_empty catalog.id s.content)) (NotEmpty catalog.name)
+catalog_holds s catalog =
+    refuse_if (not (catalog_is_empty catalog.id s.content) || has_other_role catalog.id (codes "catalog_admin") s.access) (NotEmpty catalog.name)
 
 unfoldable pub namespace_holds : Rows → NamespaceRow → Option Refusal
 namespace_holds s namespace = refuse_if (not (is_empty namespace.id s.content)) (NotEmpty (dotted namespace.levels))
@@ -176,6 +177,9 @@ namespace_properties row = length row.properties
 abbrev pub limits : Rows → List (Option Refusal)
 limits rows =
     above quantity.Catalogs 1000 (length rows.content.catalogs)
+    ∷ above quantity.CatalogRoles 10000 (length rows.access.catalog_roles)
+    ∷ above quantity.Joins 100000 (length rows.access.joins)
+    ∷ above quantity.Grants 100000 (length rows.access.grants)
     ∷ above quantity.Namespaces 100000 (length rows.content.namespaces)
     ∷ any_above quantity.AllowedLocations 100 allowed_count rows.content.catalogs
     ∷ any_above quantity.Properties 1000 catalog_properties rows.content.catalogs

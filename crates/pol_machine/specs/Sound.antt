@@ -4,7 +4,7 @@ use Rattle.std.specs.Bool.{⊤}
 use Rattle.std.specs.List.{AllByRecursion}
 pub use Rattle.pol_access.specs.Sound.{HasRootChain, IsCatalogRoleOf, IsGrantOf, IsSecurableGiven, IsSoundAccess}
 use Rattle.pol_content.specs.Sound.{IsSoundContent}
-pub use Rattle.pol_content.specs.Ties.{IdsApart, is_access_id}
+pub use Rattle.pol_content.specs.Ties.{AreTied}
 use Rattle.pol_names.specs.declared.scope.Scope.{Scope}
 use Rattle.pol_names.specs.declared.scope.Scope.TheVariants as scope
 pub use Rattle.pol_tables.specs.Numbered.{AreNumbered, IsGiven}
@@ -33,7 +33,7 @@ pub record IsSoundTokens (next_id next_serial : ℕ) (tokens : TokenRows) : Type
 pub record IsSound (s : Rows) : Type 0 where
   pub access : IsSoundAccess s.next_id s.access
   pub content : IsSoundContent s.next_id s.content
-  pub ids_apart : IdsApart s.access s.content
+  pub ties : AreTied s.access s.content
   pub tokens : IsSoundTokens s.next_id s.next_serial s.tokens
   pub time_bound : s.time ≤ 2 ^ 62
   pub next_id_bound : s.next_id ≤ 2 ^ 62

@@ -1,5 +1,6 @@
-ghost use Rattle.std.specs.Prelude.{◌≡◌, ◌+◌, ◌<◌, ◌^◌, map, Some};
+ghost use Rattle.std.specs.Prelude.{◌≡◌, ◌+◌, ◌<◌, ◌^◌, codes, map, Some};
 ghost use Rattle.std.specs.Bool.{⊤};
+ghost use Rattle.pol_access.specs.Names.{principal_role_named};
 ghost use Rattle.pol_content.specs.Content.{catalog_id, catalog_named};
 ghost use Rattle.pol_tables.specs.Table.{row_of};
 ghost use Rattle.pol_locations.specs.Location.{segments_of};
@@ -9,7 +10,7 @@ ghost use Rattle.pol_machine.specs.Rules.{bad_text, bad_texts, catalog_holds, ca
 ghost use Rattle.pol_machine.specs.Sound.{IsSound};
 
 use crate::rules::{COUNTER_BOUND, Stop, within};
-use crate::{CatalogRow, OptionName, Quantity, Refusal, State};
+use crate::{CatalogRow, OptionName, PrincipalRoleRow, Quantity, Refusal, State};
 use pol_locations::{Location, LocationRefused};
 use pol_names::Plain;
 use pol_types::{Listed, Text};
@@ -20,6 +21,16 @@ const CATALOGS: u64 = 1_000;
 
 /// How many locations a catalogue allows at most beside its base.
 const ALLOWED_LOCATIONS: u64 = 100;
+
+/// How many roles the catalogues have at most, how many joins there are at most, and how many grants.
+const CATALOG_ROLES: u64 = 10_000;
+
+const JOINS: u64 = 100_000;
+
+const GRANTS: u64 = 100_000;
+
+/// The role that each catalogue has from the start.
+pub(crate) const CATALOG_ADMIN: &str = "catalog_admin";
 
 /// How many properties a catalogue has at most, and a namespace.
 pub(crate) const PROPERTIES: u64 = 1_000;
@@ -56,12 +67,14 @@ pub(crate) fn catalog_free(alloc: Global, state: &State, name: &Plain) -> Result
     Ok(())
 }
 
-/// The catalogue has no namespace.
+/// The catalogue has no namespace, and no role beside `catalog_admin`.
 #[tactic(auto, unfolding(crate::specs::Rules::catalog_holds))]
 pub(crate) fn catalog_empty(alloc: Global, state: &State, catalog: &CatalogRow) -> Result<(), Stop>
     ensures { Judges (catalog_holds state.now.rows catalog.now) (λ _. ⊤) result }
 {
-    if !state.content().catalog_is_empty(catalog.id) {
+    if !state.content().catalog_is_empty(catalog.id)
+        || state.access().has_other_role(catalog.id, CATALOG_ADMIN)
+    {
         return Err(Stop::Refused(Refusal::NotEmpty {
             name: Text::from(String::from_str(alloc, catalog.name.as_str())?),
         }));
@@ -111,18 +124,41 @@ pub(crate) fn kept_here(external: bool) -> Result<(), Stop>
     Ok(())
 }
 
-/// No quantity passes its bound where the catalogue is put, and two ids are taken.
+/// The principal role `service_admin`, which is always there.
+pub(crate) fn service_admin(state: &State) -> &PrincipalRoleRow
+    requires { IsSound state.now.rows }
+    ensures { principal_role_named (codes "service_admin") state.now.rows.access ≡ Some result.now }
+{
+    state
+        .access()
+        .principal_role_named("service_admin")
+        .unwrap()
+}
+
+/// No quantity passes its bound where the catalogue is put with its `catalog_admin`, and two ids are taken.
 #[tactic(auto, using(crate::proofs::LimitsLemmas::catalog_limits))]
-pub(crate) fn catalog_within(state: &State, row: &CatalogRow) -> Result<(), Stop>
+pub(crate) fn catalog_within(
+    state: &State,
+    row: &CatalogRow,
+    service: &PrincipalRoleRow,
+) -> Result<(), Stop>
     requires sound { IsSound state.now.rows }
     requires id { row.now.id ≡ state.now.rows.next_id }
-    ensures { Judges (over_limit (with_catalog state.now.rows row.now)) (λ _. state.now.rows.next_id + 1 < 2 ^ 62) result }
+    ensures { Judges (over_limit (with_catalog state.now.rows row.now service.now)) (λ _. state.now.rows.next_id + 1 < 2 ^ 62) result }
 {
+    let access = state.access();
     within(
         Quantity::Catalogs,
         CATALOGS,
         state.content().catalogs().len() as u64 + 1,
     )?;
+    within(
+        Quantity::CatalogRoles,
+        CATALOG_ROLES,
+        access.catalog_roles().len() as u64 + 1,
+    )?;
+    within(Quantity::Joins, JOINS, access.joins().len() as u64 + 1)?;
+    within(Quantity::Grants, GRANTS, access.grants().len() as u64 + 2)?;
     within(
         Quantity::AllowedLocations,
         ALLOWED_LOCATIONS,

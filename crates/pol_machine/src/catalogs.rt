@@ -1,6 +1,7 @@
 ghost use Rattle.std.specs.Prelude.{◌≡◌, ◌<◌, ◌+◌, ◌^◌, map, Some, IfOk};
 ghost use Rattle.pol_content.specs.Content.{catalog_id};
 ghost use Rattle.pol_content.specs.Order.{by_name};
+ghost use Rattle.pol_content.specs.Ties.{admin_grant, admin_of};
 ghost use Rattle.pol_tables.specs.Table.{row_of};
 ghost use Rattle.pol_machine.specs.Catalogs.{create_catalog, drop_catalog, get_catalog, get_config, list_catalogs, with_catalog, without_catalog};
 ghost use Rattle.pol_machine.specs.Changes.{changes_between};
@@ -11,10 +12,18 @@ ghost use Rattle.pol_machine.specs.declared.reply.Answer.TheVariants.{CatalogCre
 
 use crate::callers::signed_in;
 use crate::catalog_rules::{
-    all_located, catalog_empty, catalog_free, catalog_there, catalog_within, kept_here, located,
+    CATALOG_ADMIN, all_located, catalog_empty, catalog_free, catalog_there, catalog_within,
+    kept_here, located, service_admin,
 };
+use crate::drops::{push_grants, push_joins, push_roles};
+use crate::needs::{allowed_on_catalog, allowed_service};
 use crate::rules::{Acted, Stop, time_of, unchanged};
-use crate::{Answer, CatalogRow, Change, Command, State};
+use crate::state::plain;
+use crate::{
+    Answer, CatalogRoleRow, CatalogRow, Change, Command, GrantRow, JoinRow, PrincipalRoleRow,
+    Privilege, Securable, State,
+};
+use pol_access::Referent;
 use pol_names::Plain;
 use pol_properties::Properties;
 use pol_types::{Listed, OutOfMemory, Text};
@@ -44,6 +53,7 @@ pub(crate) fn list_catalogs(alloc: Global, state: &State, command: &Command) -> 
     ensures { let acting = list_catalogs state.now.rows command.now in Acts state.now.rows command.now acting.rules acting.after acting.answer result }
 {
     signed_in(state, command)?;
+    allowed_service(alloc, state, command)?;
     let rows = all_catalogs(alloc, state)?;
     Ok(unchanged(alloc, Answer::CatalogsListed(rows)))
 }
@@ -81,6 +91,7 @@ pub(crate) fn create_catalog(
     ensures { let acting = create_catalog state.now.rows command.now name.now base.now allowed.now properties.now external in Acts state.now.rows command.now acting.rules acting.after acting.answer result }
 {
     signed_in(state, command)?;
+    allowed_service(alloc, state, command)?;
     catalog_free(alloc, state, name)?;
     let base = located(alloc, base)?;
     let allowed = all_located(alloc, allowed.as_slice())?;
@@ -92,32 +103,67 @@ pub(crate) fn create_catalog(
         allowed,
         properties: properties.clone()?,
     };
-    catalog_within(state, &row)?;
-    Ok(created(alloc, state, command, row)?)
+    let service = service_admin(state);
+    catalog_within(state, &row, service)?;
+    Ok(created(alloc, state, command, row, service)?)
 }
 
-/// The catalogue is put, and two ids are taken.
+/// The catalogue is put with its `catalog_admin`, and two ids are taken.
 fn created(
     alloc: Global,
     state: &State,
     command: &Command,
     row: CatalogRow,
+    service: &PrincipalRoleRow,
 ) -> Result<Acted, OutOfMemory>
     requires sound { IsSound state.now.rows }
     requires id { row.id ≡ state.now.rows.next_id }
     requires within { row.id + 1 < 2 ^ 62 }
     ensures answer { IfOk result (λ acted. acted.answer ≡ CatalogCreated row) }
-    ensures changes { IfOk result (λ acted. acted.changes ≡ changes_between state.now.rows (stamped state.now.rows command.now (with_catalog state.now.rows row))) }
+    ensures changes { IfOk result (λ acted. acted.changes ≡ changes_between state.now.rows (stamped state.now.rows command.now (with_catalog state.now.rows row service.now))) }
 {
     let shown = row.clone()?;
+    let admin = catalog_admin(alloc, row.id)?;
+    let (catalog, role) = (row.id, admin.id);
     Ok(Acted {
         answer: Answer::CatalogCreated(shown),
         changes: Listed::from(vec![in alloc;
             Change::Time(time_of(state, command)),
-            Change::NextId(row.id + 2),
+            Change::NextId(catalog + 2),
             Change::PutCatalog(row),
+            Change::PutCatalogRole(admin),
+            Change::PutJoin(JoinRow {
+                principal_role: service.id,
+                catalog_role: role,
+            }),
+            Change::PutGrant(admin_grant(Privilege::CatalogManageAccess, catalog)),
+            Change::PutGrant(admin_grant(Privilege::CatalogManageContent, catalog)),
         ]?),
     })
+}
+
+/// The role `catalog_admin` of a catalogue, named by its id. Its own id is the one after the catalogue's.
+fn catalog_admin(alloc: Global, catalog: u64) -> Result<CatalogRoleRow, OutOfMemory>
+    requires { catalog + 1 < 2 ^ 62 }
+    ensures { IfOk result (λ row. row ≡ admin_of catalog) }
+{
+    Ok(CatalogRoleRow {
+        id: catalog + 1,
+        catalog,
+        name: plain(alloc, CATALOG_ADMIN)?,
+    })
+}
+
+/// The grant of a privilege on a catalogue, named by its id, to its `catalog_admin`.
+fn admin_grant(privilege: Privilege, catalog: u64) -> GrantRow
+    requires { catalog + 1 < 2 ^ 62 }
+    ensures { result ≡ admin_grant privilege catalog }
+{
+    GrantRow {
+        catalog_role: catalog + 1,
+        privilege,
+        securable: Securable::Catalog(catalog),
+    }
 }
 
 /// Shows a catalogue.
@@ -132,7 +178,10 @@ pub(crate) fn get_catalog(
     ensures { let acting = get_catalog state.now.rows command.now name.now in Acts state.now.rows command.now acting.rules acting.after acting.answer result }
 {
     signed_in(state, command)?;
-    let row = catalog_there(alloc, state, name)?.clone()?;
+    let catalog = catalog_there(alloc, state, name)?;
+    let privilege = Privilege::CatalogReadProperties;
+    allowed_on_catalog(alloc, state, command, privilege, catalog)?;
+    let row = catalog.clone()?;
     Ok(unchanged(alloc, Answer::CatalogLoaded(row)))
 }
 
@@ -148,11 +197,12 @@ pub(crate) fn drop_catalog(
 {
     signed_in(state, command)?;
     let row = catalog_there(alloc, state, name)?;
+    allowed_service(alloc, state, command)?;
     catalog_empty(alloc, state, row)?;
     Ok(dropped(alloc, state, command, row)?)
 }
 
-/// The catalogue is taken away.
+/// The catalogue is taken away, with its roles and what names these.
 fn dropped(
     alloc: Global,
     state: &State,
@@ -164,11 +214,15 @@ fn dropped(
     ensures answer { IfOk result (λ acted. acted.answer ≡ CatalogDropped) }
     ensures changes { IfOk result (λ acted. acted.changes ≡ changes_between state.now.rows (stamped state.now.rows command.now (without_catalog state.now.rows row.now))) }
 {
+    let mut changes = vec![in alloc;
+        Change::Time(time_of(state, command)),
+        Change::DropCatalog(row.id),
+    ]?;
+    push_roles(alloc, state, row.id, &mut changes)?;
+    push_joins(alloc, state, Referent::RoleOfCatalog(row.id), &mut changes)?;
+    push_grants(alloc, state, Referent::RoleOfCatalog(row.id), &mut changes)?;
     Ok(Acted {
         answer: Answer::CatalogDropped,
-        changes: Listed::from(vec![in alloc;
-            Change::Time(time_of(state, command)),
-            Change::DropCatalog(row.id),
-        ]?),
+        changes: Listed::from(changes),
     })
 }

@@ -46,8 +46,9 @@ pub enum Action {
     },
     /// Lists all catalogues.
     ListCatalogs,
-    /// Creates a catalogue. Its tables stand below the base, or below one of the locations that are allowed beside
-    /// it. A catalogue that is external is not kept here.
+    /// Creates a catalogue with its role `catalog_admin`, which manages its access and its content and is joined to
+    /// `service_admin`. Its tables stand below the base, or below one of the locations that are allowed beside it. A
+    /// catalogue that is external is not kept here.
     CreateCatalog {
         name: Plain,
         base: Text,
@@ -59,7 +60,7 @@ pub enum Action {
     GetCatalog {
         catalog: Plain,
     },
-    /// Drops a catalogue that has no namespaces.
+    /// Drops a catalogue that has no namespaces and no role beside `catalog_admin`, with that role.
     DropCatalog {
         catalog: Plain,
     },
@@ -84,7 +85,7 @@ pub enum Action {
         catalog: Plain,
         namespace: Namespace,
     },
-    /// Drops a namespace that holds nothing (Iceberg REST OpenAPI, dropNamespace).
+    /// Drops a namespace that holds nothing, with the grants on it (Iceberg REST OpenAPI, dropNamespace).
     DropNamespace {
         catalog: Plain,
         namespace: Namespace,

@@ -6,12 +6,15 @@ mod catalog_rules;
 mod catalogs;
 mod command;
 mod decision;
+mod drops;
 pub mod laws;
 mod namespace_rules;
 mod namespaces;
+mod needs;
 mod reply;
 mod rules;
 mod scopes;
+mod securables;
 mod sessions;
 mod state;
 #[cfg(test)]
@@ -26,4 +29,5 @@ pub use pol_access::{
 pub use pol_content::{CatalogRow, Change, NamespaceRow};
 pub use pol_tokens::SessionRow;
 pub use reply::{Answer, OptionName, Quantity, Refusal, Reply};
+pub use securables::SecurableName;
 pub use state::State;

@@ -11,12 +11,15 @@ ghost use Rattle.pol_machine.specs.declared.reply.Answer.TheVariants.{NamespaceC
 
 use crate::callers::signed_in;
 use crate::catalog_rules::catalog_there;
+use crate::drops::push_grants;
 use crate::namespace_rules::{
     altered_within, keys_apart, levels_free, namespace_empty, namespace_there, namespace_within,
     parent_there,
 };
+use crate::needs::{allowed_on_parent, allowed_on_path};
 use crate::rules::{Acted, Stop, time_of, unchanged};
-use crate::{Answer, CatalogRow, Change, Command, NamespaceRow, State};
+use crate::{Answer, CatalogRow, Change, Command, NamespaceRow, Privilege, Securable, State};
+use pol_access::Referent;
 use pol_names::{Namespace, Plain};
 use pol_properties::Properties;
 use pol_types::{Listed, OutOfMemory, Text};
@@ -36,6 +39,8 @@ pub(crate) fn list_namespaces(
 {
     signed_in(state, command)?;
     let catalog = catalog_there(alloc, state, name)?;
+    let privilege = Privilege::NamespaceList;
+    allowed_on_parent(alloc, state, command, privilege, parent.as_ref(), catalog)?;
     parent_there(alloc, state, catalog.id, parent.as_ref())?;
     let namespaces = children(alloc, state, catalog, parent.as_ref())?;
     Ok(unchanged(alloc, Answer::NamespacesListed(namespaces)))
@@ -80,6 +85,8 @@ pub(crate) fn create_namespace(
     signed_in(state, command)?;
     let catalog = catalog_there(alloc, state, name)?;
     let parent = levels.parent(alloc)?;
+    let privilege = Privilege::NamespaceCreate;
+    allowed_on_parent(alloc, state, command, privilege, parent.as_ref(), catalog)?;
     parent_there(alloc, state, catalog.id, parent.as_ref())?;
     levels_free(alloc, state, catalog, levels)?;
     namespace_within(state, catalog, levels, properties)?;
@@ -134,6 +141,8 @@ pub(crate) fn load_namespace(
 {
     signed_in(state, command)?;
     let catalog = catalog_there(alloc, state, name)?;
+    let privilege = Privilege::NamespaceReadProperties;
+    allowed_on_path(alloc, state, command, privilege, levels, catalog)?;
     let row = namespace_there(alloc, state, catalog.id, levels)?;
     let answer = Answer::NamespaceLoaded {
         namespace: row.levels.clone()?,
@@ -156,6 +165,8 @@ pub(crate) fn head_namespace(
 {
     signed_in(state, command)?;
     let catalog = catalog_there(alloc, state, name)?;
+    let privilege = Privilege::NamespaceReadProperties;
+    allowed_on_path(alloc, state, command, privilege, levels, catalog)?;
     namespace_there(alloc, state, catalog.id, levels)?;
     Ok(unchanged(alloc, Answer::NamespaceThere))
 }
@@ -174,12 +185,14 @@ pub(crate) fn drop_namespace(
 {
     signed_in(state, command)?;
     let catalog = catalog_there(alloc, state, name)?;
+    let privilege = Privilege::NamespaceDrop;
+    allowed_on_path(alloc, state, command, privilege, levels, catalog)?;
     let row = namespace_there(alloc, state, catalog.id, levels)?;
     namespace_empty(alloc, state, row)?;
     Ok(dropped(alloc, state, command, row)?)
 }
 
-/// The namespace is taken away.
+/// The namespace is taken away, with the grants on it.
 fn dropped(
     alloc: Global,
     state: &State,
@@ -191,12 +204,15 @@ fn dropped(
     ensures answer { IfOk result (λ acted. acted.answer ≡ NamespaceDropped) }
     ensures changes { IfOk result (λ acted. acted.changes ≡ changes_between state.now.rows (stamped state.now.rows command.now (without_namespace state.now.rows row.now))) }
 {
+    let mut changes = vec![in alloc;
+        Change::Time(time_of(state, command)),
+        Change::DropNamespace(row.id),
+    ]?;
+    let namespace = Referent::Securable(Securable::Namespace(row.id));
+    push_grants(alloc, state, namespace, &mut changes)?;
     Ok(Acted {
         answer: Answer::NamespaceDropped,
-        changes: Listed::from(vec![in alloc;
-            Change::Time(time_of(state, command)),
-            Change::DropNamespace(row.id),
-        ]?),
+        changes: Listed::from(changes),
     })
 }
 
@@ -216,6 +232,8 @@ pub(crate) fn update_properties(
 {
     signed_in(state, command)?;
     let catalog = catalog_there(alloc, state, name)?;
+    let privilege = Privilege::NamespaceWriteProperties;
+    allowed_on_path(alloc, state, command, privilege, levels, catalog)?;
     let row = namespace_there(alloc, state, catalog.id, levels)?;
     keys_apart(removals, updates)?;
     let altered = with_updates(alloc, row, removals, updates)?;

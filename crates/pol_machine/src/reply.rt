@@ -1,7 +1,7 @@
 ghost use Rattle.std.specs.Prelude.{◌≡◌, Some};
 ghost use Rattle.pol_machine.specs.Reply.{is_run_full, option_text, quantity_text};
 
-use crate::CatalogRow;
+use crate::{CatalogRow, Privilege, SecurableName};
 use pol_locations::LocationRefused;
 use pol_names::{Namespace, Plain};
 use pol_properties::Properties;
@@ -74,7 +74,10 @@ pub enum Answer {
 #[derive(Debug, Drop, PartialEq, Eq)]
 pub enum Refusal {
     /// The run's charges and this command's would be above 2^30 together.
-    RunFull { charged: u64, charge: u64 },
+    RunFull {
+        charged: u64,
+        charge: u64,
+    },
     /// No principal has this client id with this secret.
     InvalidClient,
     /// A scope is neither all roles nor a role of the principal.
@@ -82,21 +85,44 @@ pub enum Refusal {
     /// The bearer is no text of an unexpired session of a principal that is there.
     Unauthenticated,
     /// The named catalogue isn't there.
-    NoCatalogue { name: Plain },
+    NoCatalogue {
+        name: Plain,
+    },
+    /// A need of the action isn't met: the caller may not use the privilege on this.
+    Forbidden {
+        privilege: Privilege,
+        securable: SecurableName,
+    },
     /// A namespace that must be there isn't; this is the first such one on the path.
-    NoNamespace { namespace: Namespace },
+    NoNamespace {
+        namespace: Namespace,
+    },
     /// The new name is taken.
-    NameTaken { name: Text },
+    NameTaken {
+        name: Text,
+    },
     /// What is to be dropped holds something.
-    NotEmpty { name: Text },
+    NotEmpty {
+        name: Text,
+    },
     /// A key is both removed and set.
-    KeyTwice { key: Text },
+    KeyTwice {
+        key: Text,
+    },
     /// A text that is to be a location is none. The table is the place of the table in the request, from 0.
-    BadLocation { table: u64, why: LocationRefused },
+    BadLocation {
+        table: u64,
+        why: LocationRefused,
+    },
     /// The command holds an option that isn't supported.
-    Unsupported { name: OptionName },
+    Unsupported {
+        name: OptionName,
+    },
     /// A quantity would pass its bound.
-    Limit { quantity: Quantity, bound: u64 },
+    Limit {
+        quantity: Quantity,
+        bound: u64,
+    },
 }
 
 /// An option of a request that isn't supported.
@@ -120,6 +146,9 @@ impl fmt::Display for OptionName {
 #[derive(Clone, Copy, Debug, PartialEq, Eq)]
 pub enum Quantity {
     Catalogs,
+    CatalogRoles,
+    Joins,
+    Grants,
     Namespaces,
     AllowedLocations,
     Properties,
@@ -133,6 +162,9 @@ impl fmt::Display for Quantity {
     fn fmt<W: fmt::Write>(&self, f: &mut fmt::Formatter<W>) -> fmt::Result {
         f.write_str(match self {
             Quantity::Catalogs => "catalogues",
+            Quantity::CatalogRoles => "catalogue roles",
+            Quantity::Joins => "joins",
+            Quantity::Grants => "grants",
             Quantity::Namespaces => "namespaces",
             Quantity::AllowedLocations => "allowed locations",
             Quantity::Properties => "properties",

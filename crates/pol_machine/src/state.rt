@@ -1,12 +1,14 @@
 ghost use Rattle.std.specs.Prelude.{◌≡◌, ◌≤◌, ◌+◌, [], ◌∷◌, count_by, IfOk, IsOk, OnOk};
-ghost use Rattle.pol_machine.specs.Applied.{applied, changed, puts_catalog, puts_namespace, puts_session, HasRoom, TakesRoom};
+ghost use Rattle.pol_content.specs.Change.{puts};
+ghost use Rattle.pol_content.specs.declared.change.RowKind.TheVariants as kind;
+ghost use Rattle.pol_machine.specs.Applied.{applied, changed, HasRoom, TakesRoom};
 ghost use Rattle.pol_machine.specs.Rows.{fresh_state, root_row, service_admin_row};
 ghost use Rattle.pol_machine.specs.Sound.{IsSound};
 
 use crate::callers::digest;
 use crate::{Change, MemberRow, PrincipalRoleRow, PrincipalRow};
 use pol_access::{Access, AccessRoom};
-use pol_content::Content;
+use pol_content::{Content, RowKind};
 use pol_names::Plain;
 use pol_tokens::Tokens;
 use pol_types::{OutOfMemory, Text};
@@ -41,7 +43,7 @@ impl Model for State {
 
     ghost Value = { Held };
 
-    ghost view = { λ state. record { rows = record { access = state.access.rows; content = state.content.rows; tokens = state.tokens.rows; time = state.time; next_id = state.next_id; next_serial = state.next_serial; charged = state.charged }; room = record { content = state.content.room; tokens = state.tokens.room } } };
+    ghost view = { λ state. record { rows = record { access = state.access.rows; content = state.content.rows; tokens = state.tokens.rows; time = state.time; next_id = state.next_id; next_serial = state.next_serial; charged = state.charged }; room = record { access = state.access.room; content = state.content.room; tokens = state.tokens.room } } };
 }
 
 impl State {
@@ -110,9 +112,13 @@ impl State {
         ensures reserved { OnOk result (HasRoom changes.now self.new.room) }
         ensures succeeds { HasRoom changes.now self.old.room → IsOk result }
     {
-        self.content.reserve_catalogs(catalogs_put(changes))?;
-        self.content.reserve_namespaces(namespaces_put(changes))?;
-        self.tokens.reserve_sessions(sessions_put(changes))
+        self.access.reserve(&access_room(changes))?;
+        self.content
+            .reserve_catalogs(count_put(changes, RowKind::Catalog))?;
+        self.content
+            .reserve_namespaces(count_put(changes, RowKind::Namespace))?;
+        self.tokens
+            .reserve_sessions(count_put(changes, RowKind::Session))
     }
 
     /// Makes the changes in their order, then takes the time and adds the charge. Takes no memory.
@@ -130,7 +136,6 @@ impl State {
         self.charged += charge;
     }
 
-    #[tactic(auto, unfolding(crate::specs::Applied::puts_catalog, crate::specs::Applied::puts_namespace, crate::specs::Applied::puts_session))]
     fn change(&mut self, change: Change)
         requires { HasRoom (change ∷ []) self.old.room }
         ensures rows { self.new.rows ≡ changed self.old.rows change }
@@ -140,10 +145,28 @@ impl State {
             Change::Time(time) => self.time = time,
             Change::NextId(id) => self.next_id = id,
             Change::NextSerial(serial) => self.next_serial = serial,
+            Change::PutPrincipal(row) => self.access.put_principal(row),
+            Change::DropPrincipal(id) => self.access.drop_principal(id),
+            Change::PutPrincipalRole(row) => self.access.put_principal_role(row),
+            Change::DropPrincipalRole(id) => self.access.drop_principal_role(id),
             Change::PutCatalog(row) => self.content.put_catalog(row),
             Change::DropCatalog(id) => self.content.drop_catalog(id),
+            Change::PutCatalogRole(row) => self.access.put_catalog_role(row),
+            Change::DropCatalogRole(id) => self.access.drop_catalog_role(id),
             Change::PutNamespace(row) => self.content.put_namespace(row),
             Change::DropNamespace(id) => self.content.drop_namespace(id),
+            Change::PutMember(row) => self.access.put_member(row),
+            Change::DropMember(row) => {
+                self.access.drop_member(&row);
+            }
+            Change::PutJoin(row) => self.access.put_join(row),
+            Change::DropJoin(row) => {
+                self.access.drop_join(&row);
+            }
+            Change::PutGrant(row) => self.access.put_grant(row),
+            Change::DropGrant(row) => {
+                self.access.drop_grant(&row);
+            }
             Change::PutSession(row) => self.tokens.put_session(row),
         }
     }
@@ -168,49 +191,35 @@ impl Clone for State {
     }
 }
 
-/// How many of the changes put a catalogue.
-fn catalogs_put(changes: &[Change]) -> usize
-    ensures { result ≡ count_by puts_catalog changes.now }
+/// How many rows of each kind of access the changes put.
+fn access_room(changes: &[Change]) -> AccessRoom
+    ensures { result ≡ record { principals = count_by (puts kind.Principal) changes.now; principal_roles = count_by (puts kind.PrincipalRole) changes.now; catalog_roles = count_by (puts kind.CatalogRole) changes.now; members = count_by (puts kind.Member) changes.now; joins = count_by (puts kind.Join) changes.now; grants = count_by (puts kind.Grant) changes.now } }
 {
-    changes.iter().filter(|change| puts_catalog(change)).count()
+    AccessRoom {
+        principals: count_put(changes, RowKind::Principal),
+        principal_roles: count_put(changes, RowKind::PrincipalRole),
+        catalog_roles: count_put(changes, RowKind::CatalogRole),
+        members: count_put(changes, RowKind::Member),
+        joins: count_put(changes, RowKind::Join),
+        grants: count_put(changes, RowKind::Grant),
+    }
 }
 
-#[tactic(auto, unfolding(crate::specs::Applied::puts_catalog))]
-fn puts_catalog(change: &Change) -> bool
-    ensures { result ≡ puts_catalog change.now }
+/// How many of the changes put a row of the kind.
+fn count_put(changes: &[Change], kind: RowKind) -> usize
+    ensures { result ≡ count_by (puts kind) changes.now }
 {
-    matches!(change, Change::PutCatalog(_))
+    changes.iter().filter(|change| puts(change, kind)).count()
 }
 
-/// How many of the changes put a namespace.
-fn namespaces_put(changes: &[Change]) -> usize
-    ensures { result ≡ count_by puts_namespace changes.now }
+/// Whether the change puts a row of the kind.
+fn puts(change: &Change, kind: RowKind) -> bool
+    ensures { result ≡ puts kind change.now }
 {
-    changes
-        .iter()
-        .filter(|change| puts_namespace(change))
-        .count()
-}
-
-#[tactic(auto, unfolding(crate::specs::Applied::puts_namespace))]
-fn puts_namespace(change: &Change) -> bool
-    ensures { result ≡ puts_namespace change.now }
-{
-    matches!(change, Change::PutNamespace(_))
-}
-
-/// How many of the changes put a session.
-fn sessions_put(changes: &[Change]) -> usize
-    ensures { result ≡ count_by puts_session changes.now }
-{
-    changes.iter().filter(|change| puts_session(change)).count()
-}
-
-#[tactic(auto, unfolding(crate::specs::Applied::puts_session))]
-fn puts_session(change: &Change) -> bool
-    ensures { result ≡ puts_session change.now }
-{
-    matches!(change, Change::PutSession(_))
+    match change.kind_put() {
+        Some(put) => put == kind,
+        None => false,
+    }
 }
 
 /// Principal `root` with this secret, principal role `service_admin`, and root's membership.
@@ -256,7 +265,7 @@ fn service_admin(alloc: Global) -> Result<PrincipalRoleRow, OutOfMemory>
 }
 
 /// The plain name of this text, which is known to be one.
-fn plain(alloc: Global, name: &str) -> Result<Plain, OutOfMemory>
+pub(crate) fn plain(alloc: Global, name: &str) -> Result<Plain, OutOfMemory>
     ensures { IfOk result (λ plain. plain ≡ name.now) }
 {
     match Plain::new(alloc, name) {

@@ -1,0 +1,29 @@
+-- The changes of a state: the kind of the row that one puts.
+use Rattle.std.specs.Prelude.{Bool, false, Option, None, Some}
+use denote.Enum.Bare.{sameb}
+use Rattle.pol_content.specs.contracts.change.RowKind.{the_type}
+use Rattle.pol_content.specs.declared.change.Change.{Change}
+use Rattle.pol_content.specs.declared.change.Change.TheVariants.{PutPrincipal, PutPrincipalRole, PutCatalog, PutCatalogRole, PutNamespace, PutMember, PutJoin, PutGrant, PutSession}
+use Rattle.pol_content.specs.declared.change.RowKind.{RowKind}
+use Rattle.pol_content.specs.declared.change.RowKind.TheVariants as kind
+
+-- the kind of the row that a change puts, where it puts one
+abbrev pub kind_put : Change → Option RowKind
+kind_put (PutPrincipal row) = Some kind.Principal
+kind_put (PutPrincipalRole row) = Some kind.PrincipalRole
+kind_put (PutCatalog row) = Some kind.Catalog
+kind_put (PutCatalogRole row) = Some kind.CatalogRole
+kind_put (PutNamespace row) = Some kind.Namespace
+kind_put (PutMember row) = Some kind.Member
+kind_put (PutJoin row) = Some kind.Join
+kind_put (PutGrant row) = Some kind.Grant
+kind_put (PutSession row) = Some kind.Session
+kind_put other = None
+
+-- whether a change puts a row of a kind
+abbrev pub is_kind : RowKind → Option RowKind → Bool
+is_kind wanted None = false
+is_kind wanted (Some kind) = sameb the_type kind wanted
+
+abbrev pub puts : RowKind → Change → Bool
+puts wanted change = is_kind wanted (kind_put change)

@@ -1,0 +1,18 @@
+use Rattle.std.proofs.Common.{◌∷◌, sym, subst}
+use Rattle.pol_machine.specs.Acting.{Acting}
+use Rattle.pol_machine.specs.Catalogs.{create_catalog}
+use Rattle.pol_machine.specs.Judged.{Acts}
+use Rattle.pol_machine.specs.Machine.{acting}
+use Rattle.pol_machine.specs.Rules.{run_full}
+use Rattle.pol_machine.specs.declared.command.Action.{Action}
+use Rattle.pol_machine.proofs.DecisionLemmas.{acts-past}
+use Rattle.pol_machine.proofs.decision.act.Goals as goal
+
+pub returns-in-CreateCatalog : goal.returns-in-CreateCatalog
+returns-in-CreateCatalog c =
+    let s = c.args.state.now.rows in
+    let command = c.args.command.now in
+    let full = run_full s command.charge in
+    let created : Acting = create_catalog s command c.in-CreateCatalog.name c.in-CreateCatalog.base c.in-CreateCatalog.allowed c.in-CreateCatalog.properties c.in-CreateCatalog.external in
+    subst (λ (action : Action). Acts s command (full ∷ (acting s command action).rules) (acting s command action).after (acting s command action).answer c.create_catalog.result) (sym c.in-CreateCatalog.is)
+    (acts-past s command full created.rules created.after created.answer c.create_catalog.result c.in_ok-run_open.ensures.0 c.create_catalog.ensures)
