@@ -2,8 +2,10 @@
 use Rattle.std.specs.Prelude.{ℕ, List, ◌++◌, Option, Some, None, decimal, codes}
 use Rattle.pol_locations.specs.LocationRefused.{word_of}
 use Rattle.pol_machine.specs.declared.reply.Refusal.{Refusal}
-use Rattle.pol_machine.specs.declared.reply.Refusal.TheVariants.{RunFull, InvalidClient, InvalidScope, Unauthenticated, NoCatalogue, NoNamespace, NameTaken, NotEmpty, KeyTwice, BadLocation, Unsupported, Limit}
+use Rattle.pol_machine.specs.declared.reply.Refusal.TheVariants.{RunFull, InvalidClient, InvalidScope, Unauthenticated, NoCatalogue, Forbidden, NoNamespace, NameTaken, NotEmpty, KeyTwice, BadLocation, Unsupported, Limit}
+use Rattle.pol_access.specs.Privilege.{text_of}
 use Rattle.pol_machine.specs.Reply.{option_text, quantity_text}
+use Rattle.pol_machine.specs.Securables.{securable_text}
 use Rattle.pol_names.specs.Namespace.{dotted}
 
 -- the status of the answer to a refusal
@@ -13,6 +15,7 @@ status_of InvalidClient = 401
 status_of InvalidScope = 400
 status_of Unauthenticated = 401
 status_of (NoCatalogue name) = 404
+status_of (Forbidden privilege securable) = 403
 status_of (NoNamespace namespace) = 404
 status_of (NameTaken name) = 409
 status_of (NotEmpty name) = 409
@@ -28,6 +31,7 @@ kind_of InvalidClient = None
 kind_of InvalidScope = None
 kind_of Unauthenticated = Some (codes "NotAuthorizedException")
 kind_of (NoCatalogue name) = Some (codes "NotFoundException")
+kind_of (Forbidden privilege securable) = Some (codes "ForbiddenException")
 kind_of (NoNamespace namespace) = Some (codes "NoSuchNamespaceException")
 kind_of (NameTaken name) = Some (codes "AlreadyExistsException")
 kind_of (NotEmpty name) = Some (codes "NamespaceNotEmptyException")
@@ -43,6 +47,7 @@ message_of InvalidClient = codes "invalid_client"
 message_of InvalidScope = codes "invalid_scope"
 message_of Unauthenticated = codes "Unauthenticated"
 message_of (NoCatalogue name) = codes "NoCatalogue: " ++ name
+message_of (Forbidden privilege securable) = codes "Forbidden: " ++ (text_of privilege ++ (codes " on " ++ securable_text securable))
 message_of (NoNamespace namespace) = codes "NoNamespace: " ++ dotted namespace
 message_of (NameTaken name) = codes "NameTaken: " ++ name
 message_of (NotEmpty name) = codes "NotEmpty: " ++ name

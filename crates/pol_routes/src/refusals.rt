@@ -15,6 +15,8 @@ pub(crate) const UNSUPPORTED_OPERATION: &str = "UnsupportedOperationException";
 
 const ALREADY_EXISTS: &str = "AlreadyExistsException";
 
+const FORBIDDEN: &str = "ForbiddenException";
+
 const NAMESPACE_NOT_EMPTY: &str = "NamespaceNotEmptyException";
 
 const NO_SUCH_NAMESPACE: &str = "NoSuchNamespaceException";
@@ -30,6 +32,7 @@ pub(crate) fn status_of(refusal: &Refusal) -> u16
     match refusal {
         Refusal::InvalidScope | Refusal::BadLocation { .. } | Refusal::Limit { .. } => 400,
         Refusal::InvalidClient | Refusal::Unauthenticated => 401,
+        Refusal::Forbidden { .. } => 403,
         Refusal::NoCatalogue { .. } | Refusal::NoNamespace { .. } => 404,
         Refusal::Unsupported { .. } => 406,
         Refusal::NameTaken { .. } | Refusal::NotEmpty { .. } => 409,
@@ -46,6 +49,7 @@ pub(crate) fn kind_of(refusal: &Refusal) -> Option<&'static str>
         Refusal::InvalidClient | Refusal::InvalidScope => None,
         Refusal::Unauthenticated => Some(NOT_AUTHORIZED),
         Refusal::NoCatalogue { .. } => Some(NOT_FOUND),
+        Refusal::Forbidden { .. } => Some(FORBIDDEN),
         Refusal::NoNamespace { .. } => Some(NO_SUCH_NAMESPACE),
         Refusal::NameTaken { .. } => Some(ALREADY_EXISTS),
         Refusal::NotEmpty { .. } => Some(NAMESPACE_NOT_EMPTY),
@@ -68,6 +72,10 @@ pub(crate) fn message_of(alloc: Global, refusal: &Refusal) -> Result<String, All
         Refusal::InvalidScope => format!(in alloc; "invalid_scope"),
         Refusal::Unauthenticated => format!(in alloc; "Unauthenticated"),
         Refusal::NoCatalogue { name } => format!(in alloc; "NoCatalogue: {name}"),
+        Refusal::Forbidden {
+            privilege,
+            securable,
+        } => format!(in alloc; "Forbidden: {privilege} on {securable}"),
         Refusal::NoNamespace { namespace } => format!(in alloc; "NoNamespace: {namespace}"),
         Refusal::NameTaken { name } => format!(in alloc; "NameTaken: {name}"),
         Refusal::NotEmpty { name } => format!(in alloc; "NotEmpty: {name}"),

@@ -3,7 +3,7 @@ use super::{answered, expected};
 use crate::answer_of;
 use pol_content::CatalogRow;
 use pol_locations::{Location, LocationRefused};
-use pol_machine::{Answer, OptionName, Quantity, Refusal, Reply};
+use pol_machine::{Answer, OptionName, Privilege, Quantity, Refusal, Reply, SecurableName};
 use pol_names::{Namespace, Plain};
 use pol_properties::{Properties, Property};
 use pol_types::{Listed, Text};
@@ -197,6 +197,17 @@ fn refusals_of_names_are_told(rt: HostRuntime) -> Result<(), Fail> {
         "404 Not Found",
         r#"{"code":404,"message":"NoCatalogue: c","type":"NotFoundException"}"#,
     )?;
+    let catalog = Plain::new(alloc, "c")?;
+    let namespace = Namespace::from_segment(alloc, "a\u{1f}b")?;
+    check_refused(
+        alloc,
+        Refusal::Forbidden {
+            privilege: Privilege::NamespaceCreate,
+            securable: SecurableName::Namespace { catalog, namespace },
+        },
+        "403 Forbidden",
+        r#"{"code":403,"message":"Forbidden: NAMESPACE_CREATE on namespace c/a.b","type":"ForbiddenException"}"#,
+    )?;
     let namespace = Namespace::from_segment(alloc, "a\u{1f}b")?;
     check_refused(
         alloc,
@@ -248,6 +259,14 @@ fn other_refusals_are_told(rt: HostRuntime) -> Result<(), Fail> {
             Refusal::Unauthenticated,
             "401 Unauthorized",
             r#"{"code":401,"message":"Unauthenticated","type":"NotAuthorizedException"}"#,
+        ),
+        (
+            Refusal::Forbidden {
+                privilege: Privilege::ServiceManageAccess,
+                securable: SecurableName::Realm,
+            },
+            "403 Forbidden",
+            r#"{"code":403,"message":"Forbidden: SERVICE_MANAGE_ACCESS on realm","type":"ForbiddenException"}"#,
         ),
         (
             Refusal::RunFull {
