@@ -1,5 +1,5 @@
 use Rattle.std.proofs.Common.{◌≡◌, ◌≤◌, ◌^◌, ℕ, List, [], ◌∷◌, arith, ap, subst, sym, lit≤, ◌∙◌}
-use Rattle.pol_machine.specs.Applied.{applied, puts_catalog, puts_namespace, puts_session, HasRoom}
+use Rattle.pol_machine.specs.Applied.{applied, HasRoom}
 use Rattle.pol_machine.specs.Rows.{fresh_state, Room}
 use Rattle.pol_machine.specs.Sound.{IsSound}
 use Rattle.pol_content.specs.declared.change.Change.{Change}
@@ -12,7 +12,7 @@ unfolding fresh_state
 raised-sound secret serial charged bound within = record {
   access = (fresh-sound secret).access;
   content = (fresh-sound secret).content;
-  ids_apart = (fresh-sound secret).ids_apart;
+  ties = (fresh-sound secret).ties;
   tokens = record { sessions_rise = (fresh-sound secret).tokens.sessions_rise; sessions = tt };
   time_bound = lit≤ tt;
   next_id_bound = lit≤ tt;
@@ -21,8 +21,17 @@ raised-sound secret serial charged bound within = record {
 }
 
 no-room : (serial : ℕ) (room : Room) → HasRoom (NextSerial serial ∷ []) room
-unfolding puts_catalog puts_namespace puts_session
-no-room serial room = record { catalogs = omega arith; namespaces = omega arith; sessions = omega arith }
+no-room serial room = record {
+  principals = omega arith;
+  principal_roles = omega arith;
+  catalogs = omega arith;
+  catalog_roles = omega arith;
+  namespaces = omega arith;
+  members = omega arith;
+  joins = omega arith;
+  grants = omega arith;
+  sessions = omega arith;
+}
 
 pub apply-requires-clause-sound : goal.apply-requires-clause-sound
 apply-requires-clause-sound c =
