@@ -51,10 +51,10 @@ use Rattle.pol_machine.specs.Namespaces.{create_namespace, drop_namespace, in_ca
 use Rattle.pol_machine.specs.Rows.{Rows}
 use Rattle.pol_machine.specs.Rules.{above, catalog_holds, catalog_taken, first_refusal, given, namespace_holds, namespace_taken, no_namespace, no_parent, over_limit, refuse_if, time_of}
 use Rattle.pol_machine.specs.Sound.{IsCatalogRoleOf, IsGiven, IsSound, IsSoundAccess}
-use Rattle.pol_machine.specs.declared.command.Command.{Command}
-use Rattle.pol_machine.specs.declared.reply.Quantity.TheVariants as quantity
-use Rattle.pol_machine.specs.declared.reply.Refusal.{Refusal}
-use Rattle.pol_machine.specs.declared.reply.Refusal.TheVariants.{NoNamespace}
+use Rattle.pol_commands.specs.declared.command.Command.{Command}
+use Rattle.pol_commands.specs.declared.reply.Quantity.TheVariants as quantity
+use Rattle.pol_commands.specs.declared.reply.Refusal.{Refusal}
+use Rattle.pol_commands.specs.declared.reply.Refusal.TheVariants.{NoNamespace}
 use Rattle.pol_machine.proofs.AppliedLemmas.{grants-dropped, joins-dropped, roles-dropped, three-dropped, with_joins, with_roles}
 use Rattle.pol_machine.proofs.ChangesLemmas.{changes-altered, changes-unaltered, changes-with_catalog, changes-with_namespace, changes-without_catalog, changes-without_namespace, filter-twice, no_changes}
 use Rattle.pol_machine.proofs.LimitsLemmas.{above-within, admin-last, altered_limits, catalog_limits, length-facts_with, namespace_limits, unknown-later}

@@ -28,15 +28,15 @@ use Rattle.pol_machine.specs.Rows.{Rows}
 use Rattle.pol_machine.specs.Rules.{bad_text, bad_texts, catalog_holds, catalog_taken, client_of, first_refusal, given, inside, invalid_client, invalid_scope, is_signed_in, key_twice, namespace_holds, namespace_taken, no_catalogue, no_namespace, no_parent, over_limit, refuse_if, run_full, time_of, unauthenticated, unsupported_type}
 use Rattle.pol_machine.specs.Sessions.{opened, scope_of, session_opened, with_session}
 use Rattle.pol_machine.specs.Sound.{IsSound}
-use Rattle.pol_machine.specs.declared.command.Action.{Action}
-use Rattle.pol_machine.specs.declared.command.Action.TheVariants.{OpenSession, GetConfig, ListCatalogs, CreateCatalog, GetCatalog, DropCatalog, ListNamespaces, CreateNamespace, LoadNamespace, HeadNamespace, DropNamespace, UpdateProperties}
-use Rattle.pol_machine.specs.declared.command.Caller.{Caller}
-use Rattle.pol_machine.specs.declared.command.Caller.TheVariants.{Nobody, Bearer, Setup}
-use Rattle.pol_machine.specs.declared.command.Command.{Command}
+use Rattle.pol_commands.specs.declared.command.Action.{Action}
+use Rattle.pol_commands.specs.declared.command.Action.TheVariants.{OpenSession, GetConfig, ListCatalogs, CreateCatalog, GetCatalog, DropCatalog, ListNamespaces, CreateNamespace, LoadNamespace, HeadNamespace, DropNamespace, UpdateProperties}
+use Rattle.pol_commands.specs.declared.command.Caller.{Caller}
+use Rattle.pol_commands.specs.declared.command.Caller.TheVariants.{Nobody, Bearer, Setup}
+use Rattle.pol_commands.specs.declared.command.Command.{Command}
 use Rattle.pol_machine.specs.declared.needs.Need.{Need}
-use Rattle.pol_machine.specs.declared.reply.Answer.{Answer}
-use Rattle.pol_machine.specs.declared.reply.Refusal.{Refusal}
-use Rattle.pol_machine.specs.declared.reply.Refusal.TheVariants.{Forbidden, Unauthenticated}
+use Rattle.pol_commands.specs.declared.reply.Answer.{Answer}
+use Rattle.pol_commands.specs.declared.reply.Refusal.{Refusal}
+use Rattle.pol_commands.specs.declared.reply.Refusal.TheVariants.{Forbidden, Unauthenticated}
 use Rattle.pol_machine.proofs.ChangesLemmas.{changes-opened, changes-timed, sessions-kept}
 use Rattle.pol_machine.proofs.LiveLemmas.{filter-weaker, live-agrees, live-before, session-live}
 use Rattle.pol_machine.proofs.SessionsLemmas.{opened-below}

@@ -48,7 +48,7 @@ use Rattle.pol_machine.specs.Rows.{Rows}
 use Rattle.pol_machine.specs.Rules.{time_of}
 use Rattle.pol_machine.specs.Sessions.{with_session}
 use Rattle.pol_machine.specs.Sound.{IsSound, IsSessionOf}
-use Rattle.pol_machine.specs.declared.command.Command.{Command}
+use Rattle.pol_commands.specs.declared.command.Command.{Command}
 
 -- a number compares as equal to itself
 cmp-same : (n : ℕ) → nat_cmp n n ≡ Equal

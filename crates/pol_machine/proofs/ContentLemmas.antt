@@ -13,7 +13,7 @@ use Rattle.pol_content.specs.Content.{ContentRows, first_missing, is_missing, li
 use Rattle.pol_content.specs.declared.rows.NamespaceRow.{NamespaceRow}
 use Rattle.pol_properties.specs.Properties.{same_pair, same_pair_equiv}
 use Rattle.pol_machine.specs.Rules.{bad_text, bad_texts}
-use Rattle.pol_machine.specs.declared.reply.Refusal.{Refusal}
+use Rattle.pol_commands.specs.declared.reply.Refusal.{Refusal}
 use Rattle.pol_tables.specs.Table.{knows, row_of}
 use Rattle.pol_tables.proofs.TableLemmas.{is_some-row_of}
 

@@ -14,19 +14,19 @@ use Rattle.pol_machine.specs.Changes.{changes_between}
 use Rattle.pol_machine.specs.Needs.{service}
 use Rattle.pol_machine.specs.Judged.{Acts, Judges}
 use Rattle.pol_machine.specs.Machine.{acting, next_by, next_state, reply_by, reply_of, rows_by, rules_of, stamped}
-use Rattle.pol_machine.specs.Reply.{is_run_full}
+use Rattle.pol_commands.specs.Reply.{is_run_full}
 use Rattle.pol_machine.specs.Rows.{Rows}
 use Rattle.pol_machine.specs.Rules.{above, client_of, first_refusal, given, key_twice, namespace_holds, over_limit, run_full, with_serial, time_of}
 use Rattle.pol_machine.specs.Sessions.{open_session, opened, session_opened}
 use Rattle.pol_machine.specs.Sound.{IsSound}
 use Rattle.pol_content.specs.declared.change.Change.{Change}
-use Rattle.pol_machine.specs.declared.command.Action.{Action}
-use Rattle.pol_machine.specs.declared.command.Action.TheVariants.{OpenSession, GetConfig, ListCatalogs, CreateCatalog, GetCatalog, DropCatalog, ListNamespaces, CreateNamespace, LoadNamespace, HeadNamespace, DropNamespace, UpdateProperties}
-use Rattle.pol_machine.specs.declared.command.Command.{Command}
-use Rattle.pol_machine.specs.declared.reply.Answer.{Answer}
-use Rattle.pol_machine.specs.declared.reply.Quantity.TheVariants as quantity
-use Rattle.pol_machine.specs.declared.reply.Refusal.{Refusal}
-use Rattle.pol_machine.specs.declared.reply.Reply.TheVariants.{Answered, Refused}
+use Rattle.pol_commands.specs.declared.command.Action.{Action}
+use Rattle.pol_commands.specs.declared.command.Action.TheVariants.{OpenSession, GetConfig, ListCatalogs, CreateCatalog, GetCatalog, DropCatalog, ListNamespaces, CreateNamespace, LoadNamespace, HeadNamespace, DropNamespace, UpdateProperties}
+use Rattle.pol_commands.specs.declared.command.Command.{Command}
+use Rattle.pol_commands.specs.declared.reply.Answer.{Answer}
+use Rattle.pol_commands.specs.declared.reply.Quantity.TheVariants as quantity
+use Rattle.pol_commands.specs.declared.reply.Refusal.{Refusal}
+use Rattle.pol_commands.specs.declared.reply.Reply.TheVariants.{Answered, Refused}
 use Rattle.pol_machine.specs.declared.rules.Acted.{Acted}
 use Rattle.pol_machine.specs.declared.rules.Stop.{Stop}
 use Rattle.pol_machine.specs.declared.rules.Stop.TheVariants as stop

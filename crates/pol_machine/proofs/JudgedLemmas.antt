@@ -2,7 +2,7 @@
 use Rattle.std.proofs.Common.{◌≡◌, Option, Some, Result, Ok, Err, sym, subst}
 use Rattle.std.specs.Result.{IsErrAnd}
 use Rattle.pol_machine.specs.Judged.{Judges}
-use Rattle.pol_machine.specs.declared.reply.Refusal.{Refusal}
+use Rattle.pol_commands.specs.declared.reply.Refusal.{Refusal}
 use Rattle.pol_machine.specs.declared.rules.Stop.{Stop}
 use Rattle.pol_machine.specs.declared.rules.Stop.TheVariants as stop
 

@@ -25,10 +25,10 @@ use Rattle.pol_machine.specs.Namespaces.{with_altered, with_namespace}
 use Rattle.pol_machine.specs.Rows.{Rows}
 use Rattle.pol_machine.specs.Rules.{above, allowed_count, any_above, catalog_properties, first_refusal, namespace_properties, over_limit, refuse_if, with_serial}
 use Rattle.pol_machine.specs.Sound.{IsSound}
-use Rattle.pol_machine.specs.declared.reply.Quantity.{Quantity}
-use Rattle.pol_machine.specs.declared.reply.Quantity.TheVariants as quantity
-use Rattle.pol_machine.specs.declared.reply.Refusal.{Refusal}
-use Rattle.pol_machine.specs.declared.reply.Refusal.TheVariants.{Limit}
+use Rattle.pol_commands.specs.declared.reply.Quantity.{Quantity}
+use Rattle.pol_commands.specs.declared.reply.Quantity.TheVariants as quantity
+use Rattle.pol_commands.specs.declared.reply.Refusal.{Refusal}
+use Rattle.pol_commands.specs.declared.reply.Refusal.TheVariants.{Limit}
 
 module _ (kind : Quantity) (bound : ℕ) where
   -- a number within its bound

@@ -12,8 +12,8 @@ use Rattle.pol_names.specs.declared.scope.Scope.{Scope}
 use Rattle.pol_machine.specs.Needs.{caller_may, first_unmet}
 use Rattle.pol_machine.specs.Rows.{Rows}
 use Rattle.pol_machine.specs.Rules.{time_of}
-use Rattle.pol_machine.specs.declared.command.Caller.{Caller}
-use Rattle.pol_machine.specs.declared.command.Command.{Command}
+use Rattle.pol_commands.specs.declared.command.Caller.{Caller}
+use Rattle.pol_commands.specs.declared.command.Command.{Command}
 use Rattle.pol_machine.specs.declared.needs.Need.{Need}
 
 pub may_is : (access : AccessRows) (principal : ℕ) (session : Scope) (wanted : Privilege) (chain : List Securable) (told : Bool) → (IsTrue told ↔ May access principal session wanted chain) → told ≡ may access principal session wanted chain

@@ -9,20 +9,20 @@ use Rattle.pol_locations.specs.Location.{parse_refusal}
 use Rattle.pol_names.specs.Namespace.{dotted}
 use Rattle.pol_properties.specs.Properties.{twice}
 use Rattle.pol_properties.specs.declared.property.Property.{Property}
-use Rattle.pol_machine.specs.Reply.{is_full}
+use Rattle.pol_commands.specs.Reply.{is_full}
 use Rattle.pol_machine.specs.Rows.{Rows}
 use Rattle.pol_machine.specs.Namespaces.{on_namespace}
 use Rattle.pol_machine.specs.Needs.{first_unmet, forbidden, on_path, shown}
 use Rattle.pol_machine.specs.declared.needs.Need.{Need}
 use Rattle.pol_access.specs.declared.privilege.Privilege.{Privilege}
 use Rattle.pol_machine.specs.Rules.{bad_text, bad_texts, catalog_holds, catalog_taken, first_refusal, given, invalid_client, invalid_scope, key_twice, limits, namespace_holds, namespace_taken, no_catalogue, no_namespace, no_parent, over_limit, refuse_if, run_full, unauthenticated, unsupported_type, EachPasses}
-use Rattle.pol_machine.specs.declared.command.Command.{Command}
-use Rattle.pol_machine.specs.declared.reply.OptionName.TheVariants as option
+use Rattle.pol_commands.specs.declared.command.Command.{Command}
+use Rattle.pol_commands.specs.declared.reply.OptionName.TheVariants as option
 use Rattle.pol_machine.specs.Machine.{reply_by}
-use Rattle.pol_machine.specs.declared.reply.Answer.{Answer}
-use Rattle.pol_machine.specs.declared.reply.Refusal.{Refusal}
-use Rattle.pol_machine.specs.declared.reply.Refusal.TheVariants.{RunFull, InvalidClient, InvalidScope, Unauthenticated, NoCatalogue, Forbidden, NoNamespace, NameTaken, NotEmpty, KeyTwice, BadLocation, Unsupported}
-use Rattle.pol_machine.specs.declared.reply.Reply.TheVariants.{Answered, Refused}
+use Rattle.pol_commands.specs.declared.reply.Answer.{Answer}
+use Rattle.pol_commands.specs.declared.reply.Refusal.{Refusal}
+use Rattle.pol_commands.specs.declared.reply.Refusal.TheVariants.{RunFull, InvalidClient, InvalidScope, Unauthenticated, NoCatalogue, Forbidden, NoNamespace, NameTaken, NotEmpty, KeyTwice, BadLocation, Unsupported}
+use Rattle.pol_commands.specs.declared.reply.Reply.TheVariants.{Answered, Refused}
 
 -- a rule that fails first is the answer, and one that passes leaves it to those after it
 pub refusal-stops : (rule : Option Refusal) (why : Refusal) (rules : List (Option Refusal)) → rule ≡ Some why → first_refusal (rule ∷ rules) ≡ Some why

@@ -7,7 +7,7 @@ use Rattle.pol_types.specs.Exact.{bytes_tell}
 use Rattle.pol_machine.specs.Rows.{Rows}
 use Rattle.pol_machine.specs.Rules.{all_roles, held_role, invalid_scope, is_scope, role_scope}
 use Rattle.pol_machine.specs.Sessions.{scope_of}
-use Rattle.pol_machine.specs.declared.reply.Refusal.TheVariants.{InvalidScope}
+use Rattle.pol_commands.specs.declared.reply.Refusal.TheVariants.{InvalidScope}
 
 module _ {R : Type 0} (name : R → List ℕ) where
   -- a text that is no role's scope names no role

@@ -12,8 +12,8 @@ use Rattle.pol_machine.specs.Rules.{client_of, first_refusal, given, invalid_cli
 use Rattle.pol_machine.specs.Sessions.{open_session, opened, scope_of, session_opened, with_session}
 use Rattle.pol_machine.specs.Sound.{IsSound}
 use Rattle.pol_content.specs.declared.change.Change.TheVariants.{Time, NextSerial, PutSession}
-use Rattle.pol_machine.specs.declared.command.Command.{Command}
-use Rattle.pol_machine.specs.declared.reply.Refusal.{Refusal}
+use Rattle.pol_commands.specs.declared.command.Command.{Command}
+use Rattle.pol_commands.specs.declared.reply.Refusal.{Refusal}
 use Rattle.pol_machine.proofs.ChangesLemmas.{applied-opened, changes-opened, changes-timed, serials-below}
 use Rattle.pol_machine.proofs.RulesLemmas.{refusal-past, refusal-stops}
 

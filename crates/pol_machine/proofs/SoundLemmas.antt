@@ -23,8 +23,8 @@ use Rattle.pol_machine.specs.Rows.{Rows}
 use Rattle.pol_machine.specs.Rules.{all_roles, client_of, held_role, kept_if, role_of_scope, role_scope, run_full, time_of}
 use Rattle.pol_machine.specs.Sessions.{scope_of, with_session}
 use Rattle.pol_machine.specs.Sound.{AreTied, IsGiven, IsSessionOf, IsSound, IsSoundAccess, IsSoundTokens, NamesGiven}
-use Rattle.pol_machine.specs.declared.command.Command.{Command}
-use Rattle.pol_machine.specs.declared.reply.Refusal.TheVariants.{RunFull}
+use Rattle.pol_commands.specs.declared.command.Command.{Command}
+use Rattle.pol_commands.specs.declared.reply.Refusal.TheVariants.{RunFull}
 use Rattle.pol_machine.proofs.ChangesLemmas.{serials-below}
 
 -- what holds of each row holds of the one that is found

@@ -1,9 +1,9 @@
 -- Actions in a state.
 use Rattle.std.specs.Prelude.{List, Option, Some, None}
 use Rattle.pol_machine.specs.Rows.{Rows}
-use Rattle.pol_machine.specs.declared.reply.Answer.{Answer}
-use Rattle.pol_machine.specs.declared.reply.Answer.TheVariants.{NamespaceThere}
-use Rattle.pol_machine.specs.declared.reply.Refusal.{Refusal}
+use Rattle.pol_commands.specs.declared.reply.Answer.{Answer}
+use Rattle.pol_commands.specs.declared.reply.Answer.TheVariants.{NamespaceThere}
+use Rattle.pol_commands.specs.declared.reply.Refusal.{Refusal}
 
 -- an action in a state: its rules in their order, the rows once it is done, and its answer
 pub record Acting : Type 0 where

@@ -7,7 +7,7 @@ use Rattle.pol_tokens.specs.declared.session.SessionRow.{SessionRow}
 use Rattle.pol_machine.specs.Changes.{changes_between}
 use Rattle.pol_machine.specs.Machine.{next_state, reply_of}
 use Rattle.pol_machine.specs.Rows.{Rows}
-use Rattle.pol_machine.specs.declared.command.Command.{Command}
+use Rattle.pol_commands.specs.declared.command.Command.{Command}
 
 -- whether a session is live: the state's time hasn't reached its expiry, and its principal is there
 abbrev pub is_live : Rows → SessionRow → Bool

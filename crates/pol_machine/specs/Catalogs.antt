@@ -15,8 +15,8 @@ use Rattle.pol_machine.specs.Acting.{Acting, done, reading, told}
 use Rattle.pol_machine.specs.Needs.{forbidden, on_catalog, service}
 use Rattle.pol_machine.specs.Rows.{Rows}
 use Rattle.pol_machine.specs.Rules.{bad_text, bad_texts, catalog_holds, catalog_taken, inside, no_catalogue, over_limit, unauthenticated, unsupported_type}
-use Rattle.pol_machine.specs.declared.command.Command.{Command}
-use Rattle.pol_machine.specs.declared.reply.Answer.TheVariants.{ConfigTold, CatalogsListed, CatalogCreated, CatalogLoaded, CatalogDropped}
+use Rattle.pol_commands.specs.declared.command.Command.{Command}
+use Rattle.pol_commands.specs.declared.reply.Answer.TheVariants.{ConfigTold, CatalogsListed, CatalogCreated, CatalogLoaded, CatalogDropped}
 
 -- telling how a client is to speak to a catalogue
 abbrev pub get_config : Rows → Command → List ℕ → Acting

@@ -5,9 +5,9 @@ use Rattle.pol_machine.specs.Changes.{changes_between}
 use Rattle.pol_machine.specs.Machine.{stamped}
 use Rattle.pol_machine.specs.Rows.{Rows}
 use Rattle.pol_machine.specs.Rules.{first_refusal}
-use Rattle.pol_machine.specs.declared.command.Command.{Command}
-use Rattle.pol_machine.specs.declared.reply.Answer.{Answer}
-use Rattle.pol_machine.specs.declared.reply.Refusal.{Refusal}
+use Rattle.pol_commands.specs.declared.command.Command.{Command}
+use Rattle.pol_commands.specs.declared.reply.Answer.{Answer}
+use Rattle.pol_commands.specs.declared.reply.Refusal.{Refusal}
 use Rattle.pol_machine.specs.declared.rules.Stop.{Stop}
 use Rattle.pol_machine.specs.declared.rules.Stop.TheVariants.{Refused, OutOfMemory}
 use Rattle.pol_machine.specs.declared.rules.Acted.{Acted}

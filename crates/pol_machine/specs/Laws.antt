@@ -4,12 +4,12 @@ use Rattle.pol_machine.specs.Agree.{live_part, Agree, DoesAlike}
 use Rattle.pol_machine.specs.Applied.{applied}
 use Rattle.pol_machine.specs.Changes.{changes_between}
 use Rattle.pol_machine.specs.Machine.{acting, next_state, reply_of, rules_of}
-use Rattle.pol_machine.specs.Reply.{is_run_full}
+use Rattle.pol_commands.specs.Reply.{is_run_full}
 use Rattle.pol_machine.specs.Rows.{Rows}
 use Rattle.pol_machine.specs.Rules.{EachPasses, run_full, time_of}
 use Rattle.pol_machine.specs.Sound.{IsSound}
-use Rattle.pol_machine.specs.declared.command.Command.{Command}
-use Rattle.pol_machine.specs.declared.reply.Reply.TheVariants.{Answered}
+use Rattle.pol_commands.specs.declared.command.Command.{Command}
+use Rattle.pol_commands.specs.declared.reply.Reply.TheVariants.{Answered}
 
 -- the state after a command is sound
 abbrev pub NextStateIsSound : Type 0

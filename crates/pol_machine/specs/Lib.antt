@@ -8,9 +8,7 @@ pub mod Laws
 pub mod Machine
 pub mod Namespaces
 pub mod Needs
-pub mod Reply
 pub mod Rows
 pub mod Rules
-pub mod Securables
 pub mod Sessions
 pub mod Sound

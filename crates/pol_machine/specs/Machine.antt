@@ -6,13 +6,13 @@ use Rattle.pol_machine.specs.Acting.{Acting}
 use Rattle.pol_machine.specs.Catalogs.{create_catalog, drop_catalog, get_catalog, get_config, list_catalogs}
 use Rattle.pol_machine.specs.Namespaces.{create_namespace, drop_namespace, head_namespace, list_namespaces, load_namespace, update_properties}
 use Rattle.pol_machine.specs.Sessions.{open_session}
-use Rattle.pol_machine.specs.declared.command.Action.{Action}
-use Rattle.pol_machine.specs.declared.command.Action.TheVariants.{OpenSession, GetConfig, ListCatalogs, CreateCatalog, GetCatalog, DropCatalog, ListNamespaces, CreateNamespace, LoadNamespace, HeadNamespace, DropNamespace, UpdateProperties}
-use Rattle.pol_machine.specs.declared.command.Command.{Command}
-use Rattle.pol_machine.specs.declared.reply.Answer.{Answer}
-use Rattle.pol_machine.specs.declared.reply.Refusal.{Refusal}
-use Rattle.pol_machine.specs.declared.reply.Reply.{Reply}
-use Rattle.pol_machine.specs.declared.reply.Reply.TheVariants.{Answered, Refused}
+use Rattle.pol_commands.specs.declared.command.Action.{Action}
+use Rattle.pol_commands.specs.declared.command.Action.TheVariants.{OpenSession, GetConfig, ListCatalogs, CreateCatalog, GetCatalog, DropCatalog, ListNamespaces, CreateNamespace, LoadNamespace, HeadNamespace, DropNamespace, UpdateProperties}
+use Rattle.pol_commands.specs.declared.command.Command.{Command}
+use Rattle.pol_commands.specs.declared.reply.Answer.{Answer}
+use Rattle.pol_commands.specs.declared.reply.Refusal.{Refusal}
+use Rattle.pol_commands.specs.declared.reply.Reply.{Reply}
+use Rattle.pol_commands.specs.declared.reply.Reply.TheVariants.{Answered, Refused}
 
 -- the rules, the rows after and the answer of each action
 abbrev pub acting : Rows → Command → Action → Acting

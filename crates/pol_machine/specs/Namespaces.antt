@@ -15,9 +15,9 @@ use Rattle.pol_machine.specs.Acting.{Acting, done, reading, told}
 use Rattle.pol_machine.specs.Needs.{forbidden, on_parent, on_path}
 use Rattle.pol_machine.specs.Rows.{Rows}
 use Rattle.pol_machine.specs.Rules.{given, inside, key_twice, namespace_holds, namespace_taken, no_catalogue, no_namespace, no_parent, over_limit, unauthenticated}
-use Rattle.pol_machine.specs.declared.command.Command.{Command}
-use Rattle.pol_machine.specs.declared.reply.Answer.TheVariants.{NamespacesListed, NamespaceCreated, NamespaceLoaded, NamespaceThere, NamespaceDropped, PropertiesUpdated}
-use Rattle.pol_machine.specs.declared.reply.Refusal.{Refusal}
+use Rattle.pol_commands.specs.declared.command.Command.{Command}
+use Rattle.pol_commands.specs.declared.reply.Answer.TheVariants.{NamespacesListed, NamespaceCreated, NamespaceLoaded, NamespaceThere, NamespaceDropped, PropertiesUpdated}
+use Rattle.pol_commands.specs.declared.reply.Refusal.{Refusal}
 
 -- the namespace of these levels in the catalogue of a name
 abbrev pub in_catalog : Rows → List (List ℕ) → Option CatalogRow → Option NamespaceRow

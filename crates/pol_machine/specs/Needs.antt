@@ -15,14 +15,14 @@ use Rattle.pol_tables.specs.Table.{row_of}
 use Rattle.pol_tokens.specs.declared.session.SessionRow.{SessionRow}
 use Rattle.pol_machine.specs.Rows.{Rows}
 use Rattle.pol_machine.specs.Rules.{session_of, time_of}
-use Rattle.pol_machine.specs.declared.command.Caller.{Caller}
-use Rattle.pol_machine.specs.declared.command.Caller.TheVariants.{Nobody, Bearer, Setup}
-use Rattle.pol_machine.specs.declared.command.Command.{Command}
+use Rattle.pol_commands.specs.declared.command.Caller.{Caller}
+use Rattle.pol_commands.specs.declared.command.Caller.TheVariants.{Nobody, Bearer, Setup}
+use Rattle.pol_commands.specs.declared.command.Command.{Command}
 use Rattle.pol_machine.specs.declared.needs.Need.{Need}
-use Rattle.pol_machine.specs.declared.reply.Refusal.{Refusal}
-use Rattle.pol_machine.specs.declared.reply.Refusal.TheVariants.{Forbidden}
-use Rattle.pol_machine.specs.declared.securables.SecurableName.{SecurableName}
-use Rattle.pol_machine.specs.declared.securables.SecurableName.TheVariants as name
+use Rattle.pol_commands.specs.declared.reply.Refusal.{Refusal}
+use Rattle.pol_commands.specs.declared.reply.Refusal.TheVariants.{Forbidden}
+use Rattle.pol_commands.specs.declared.securables.SecurableName.{SecurableName}
+use Rattle.pol_commands.specs.declared.securables.SecurableName.TheVariants as name
 
 -- whether a caller has what it needs: a session by its roles, and who sets the catalogue up always
 abbrev pub session_may : Rows → Option SessionRow → Need → Bool

@@ -18,14 +18,14 @@ use Rattle.pol_tables.specs.Table.{knows}
 use Rattle.pol_tokens.specs.Tokens.{find_session}
 use Rattle.pol_tokens.specs.declared.session.SessionRow.{SessionRow}
 use Rattle.pol_machine.specs.Rows.{Rows, digest_of}
-use Rattle.pol_machine.specs.declared.command.Caller.{Caller}
-use Rattle.pol_machine.specs.declared.command.Caller.TheVariants.{Nobody, Bearer, Setup}
-use Rattle.pol_machine.specs.declared.command.Command.{Command}
-use Rattle.pol_machine.specs.declared.reply.OptionName.TheVariants as option
-use Rattle.pol_machine.specs.declared.reply.Refusal.{Refusal}
-use Rattle.pol_machine.specs.declared.reply.Refusal.TheVariants.{RunFull, InvalidClient, InvalidScope, Unauthenticated, NoCatalogue, NoNamespace, NameTaken, NotEmpty, KeyTwice, BadLocation, Unsupported, Limit}
-use Rattle.pol_machine.specs.declared.reply.Quantity.TheVariants as quantity
-use Rattle.pol_machine.specs.declared.reply.Quantity.{Quantity}
+use Rattle.pol_commands.specs.declared.command.Caller.{Caller}
+use Rattle.pol_commands.specs.declared.command.Caller.TheVariants.{Nobody, Bearer, Setup}
+use Rattle.pol_commands.specs.declared.command.Command.{Command}
+use Rattle.pol_commands.specs.declared.reply.OptionName.TheVariants as option
+use Rattle.pol_commands.specs.declared.reply.Refusal.{Refusal}
+use Rattle.pol_commands.specs.declared.reply.Refusal.TheVariants.{RunFull, InvalidClient, InvalidScope, Unauthenticated, NoCatalogue, NoNamespace, NameTaken, NotEmpty, KeyTwice, BadLocation, Unsupported, Limit}
+use Rattle.pol_commands.specs.declared.reply.Quantity.TheVariants as quantity
+use Rattle.pol_commands.specs.declared.reply.Quantity.{Quantity}
 
 -- a rule that refuses where the test holds
 abbrev pub refuse_if : Bool → Refusal → Option Refusal

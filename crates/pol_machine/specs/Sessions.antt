@@ -9,8 +9,8 @@ use Rattle.pol_tokens.specs.declared.session.SessionRow.{SessionRow}
 use Rattle.pol_machine.specs.Rows.{Rows}
 use Rattle.pol_machine.specs.Acting.{Acting}
 use Rattle.pol_machine.specs.Rules.{client_of, invalid_client, invalid_scope, over_limit, given, held_role, all_roles, time_of}
-use Rattle.pol_machine.specs.declared.command.Command.{Command}
-use Rattle.pol_machine.specs.declared.reply.Answer.TheVariants.{SessionOpened}
+use Rattle.pol_commands.specs.declared.command.Command.{Command}
+use Rattle.pol_commands.specs.declared.reply.Answer.TheVariants.{SessionOpened}
 
 -- the scope that these words make: all roles where there are none or one of them says so, else the roles that they
 -- name, in their order

@@ -8,7 +8,7 @@ ghost use Rattle.pol_machine.specs.Changes.{changes_between};
 ghost use Rattle.pol_machine.specs.Judged.{Acts};
 ghost use Rattle.pol_machine.specs.Machine.{stamped};
 ghost use Rattle.pol_machine.specs.Sound.{IsSound};
-ghost use Rattle.pol_machine.specs.declared.reply.Answer.TheVariants.{CatalogCreated, CatalogDropped};
+ghost use Rattle.pol_commands.specs.declared.reply.Answer.TheVariants.{CatalogCreated, CatalogDropped};
 
 use crate::callers::signed_in;
 use crate::catalog_rules::{

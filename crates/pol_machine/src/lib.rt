@@ -4,30 +4,27 @@
 mod callers;
 mod catalog_rules;
 mod catalogs;
-mod command;
 mod decision;
 mod drops;
 pub mod laws;
 mod namespace_rules;
 mod namespaces;
 mod needs;
-mod reply;
 mod rules;
 mod scopes;
-mod securables;
 mod sessions;
 mod state;
 #[cfg(test)]
 mod tests;
 
-pub use command::{Action, Caller, Command, Words4};
 pub use decision::{Decision, decide};
 pub use pol_access::{
     CatalogRoleRow, GrantRow, JoinRow, MemberRow, PrincipalRoleRow, PrincipalRow, Privilege,
     RoleIds, Scope, Securable,
 };
+pub use pol_commands::{
+    Action, Answer, Caller, Command, OptionName, Quantity, Refusal, Reply, SecurableName, Words4,
+};
 pub use pol_content::{CatalogRow, Change, NamespaceRow};
 pub use pol_tokens::SessionRow;
-pub use reply::{Answer, OptionName, Quantity, Refusal, Reply};
-pub use securables::SecurableName;
 pub use state::State;

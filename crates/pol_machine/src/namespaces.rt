@@ -7,7 +7,7 @@ ghost use Rattle.pol_machine.specs.Judged.{Acts};
 ghost use Rattle.pol_machine.specs.Machine.{stamped};
 ghost use Rattle.pol_machine.specs.Namespaces.{create_namespace, drop_namespace, head_namespace, list_namespaces, listed, load_namespace, update_properties, with_altered, with_namespace, without_namespace};
 ghost use Rattle.pol_machine.specs.Sound.{IsSound};
-ghost use Rattle.pol_machine.specs.declared.reply.Answer.TheVariants.{NamespaceCreated, NamespaceDropped, PropertiesUpdated};
+ghost use Rattle.pol_commands.specs.declared.reply.Answer.TheVariants.{NamespaceCreated, NamespaceDropped, PropertiesUpdated};
 
 use crate::callers::signed_in;
 use crate::catalog_rules::catalog_there;

@@ -511,16 +511,3 @@ fn quantities_may_reach_their_bounds_and_not_pass_them(rt: HostRuntime) -> Resul
     drop(state);
     checked
 }
-
-#[test]
-fn quantities_print_their_names(rt: HostRuntime) -> Result<(), Fail> {
-    for (quantity, name) in [
-        (Quantity::AllowedLocations, "allowed locations"),
-        (Quantity::Properties, "properties"),
-        (Quantity::NextSerial, "next_serial"),
-    ] {
-        let text = format!(in rt.alloc(); "{quantity}")?;
-        assert_eq!(rt; text.as_str(), name);
-    }
-    Ok(())
-}

@@ -8,7 +8,7 @@ use Rattle.pol_routes.specs.declared.plans.RouteRefused.TheVariants.{InvalidRequ
 use Rattle.pol_routes.specs.declared.token_form.TokenForm.{TokenForm}
 use Rattle.pol_routes.specs.declared.table.Endpoint.{Endpoint}
 use Rattle.pol_routes.specs.declared.table.Endpoint.TheVariants.{OpenSession as OpensSession, GetConfig, ListNamespaces, CreateNamespace, LoadNamespace, HeadNamespace, DropNamespace, UpdateProperties, ListCatalogs, CreateCatalog, GetCatalog, DropCatalog}
-use Rattle.pol_machine.specs.declared.command.Caller.{Caller}
+use Rattle.pol_commands.specs.declared.command.Caller.{Caller}
 use Rattle.pol_readers.specs.Reading.{Reading}
 use Rattle.pol_routes.specs.Query.{query_value, readable}
 use Rattle.pol_routes.specs.Refused.{read_on}

@@ -2,8 +2,8 @@
 use Rattle.std.specs.Prelude.{ℕ, List, take, drop, if◌then◌else◌, Option, Some, None, option_map, option_and_then, find, codes}
 use Rattle.std.specs.Str.{str_eq_ignore_ascii_case}
 use Rattle.pol_http.specs.Fields.{is_named}
-use Rattle.pol_machine.specs.declared.command.Caller.{Caller}
-use Rattle.pol_machine.specs.declared.command.Caller.TheVariants.{Nobody, Bearer}
+use Rattle.pol_commands.specs.declared.command.Caller.{Caller}
+use Rattle.pol_commands.specs.declared.command.Caller.TheVariants.{Nobody, Bearer}
 
 -- the value of the first field of a name
 abbrev pub first_value : List ℕ → List (List ℕ × List ℕ) → Option (List ℕ)

@@ -4,11 +4,11 @@ use Rattle.std.specs.Str.{bytes_eq}
 use Rattle.form_urlencoded.specs.Form.{parse}
 use Rattle.pol_http.specs.Head.{fields_of}
 use Rattle.pol_http.specs.Message.{Message, print_message}
-use Rattle.pol_machine.specs.declared.command.Action.TheVariants.{OpenSession}
-use Rattle.pol_machine.specs.declared.command.Caller.{Caller}
-use Rattle.pol_machine.specs.declared.command.Caller.TheVariants.{Nobody}
-use Rattle.pol_machine.specs.declared.command.Command.{Command}
-use Rattle.pol_machine.specs.declared.command.Words4.{Words4}
+use Rattle.pol_commands.specs.declared.command.Action.TheVariants.{OpenSession}
+use Rattle.pol_commands.specs.declared.command.Caller.{Caller}
+use Rattle.pol_commands.specs.declared.command.Caller.TheVariants.{Nobody}
+use Rattle.pol_commands.specs.declared.command.Command.{Command}
+use Rattle.pol_commands.specs.declared.command.Words4.{Words4}
 use Rattle.pol_routes.specs.declared.plans.Planned.{Planned}
 use Rattle.pol_routes.specs.declared.plans.RouteRefused.{RouteRefused}
 use Rattle.pol_routes.specs.declared.plans.RouteRefused.TheVariants.{InvalidRequest, GrantType}

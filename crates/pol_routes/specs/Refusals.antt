@@ -1,11 +1,11 @@
 -- The status, the message and the type of each refusal of a command.
 use Rattle.std.specs.Prelude.{ℕ, List, ◌++◌, Option, Some, None, decimal, codes}
 use Rattle.pol_locations.specs.LocationRefused.{word_of}
-use Rattle.pol_machine.specs.declared.reply.Refusal.{Refusal}
-use Rattle.pol_machine.specs.declared.reply.Refusal.TheVariants.{RunFull, InvalidClient, InvalidScope, Unauthenticated, NoCatalogue, Forbidden, NoNamespace, NameTaken, NotEmpty, KeyTwice, BadLocation, Unsupported, Limit}
+use Rattle.pol_commands.specs.declared.reply.Refusal.{Refusal}
+use Rattle.pol_commands.specs.declared.reply.Refusal.TheVariants.{RunFull, InvalidClient, InvalidScope, Unauthenticated, NoCatalogue, Forbidden, NoNamespace, NameTaken, NotEmpty, KeyTwice, BadLocation, Unsupported, Limit}
 use Rattle.pol_access.specs.Privilege.{text_of}
-use Rattle.pol_machine.specs.Reply.{option_text, quantity_text}
-use Rattle.pol_machine.specs.Securables.{securable_text}
+use Rattle.pol_commands.specs.Reply.{option_text, quantity_text}
+use Rattle.pol_commands.specs.Securables.{securable_text}
 use Rattle.pol_names.specs.Namespace.{dotted}
 
 -- the status of the answer to a refusal

@@ -1,8 +1,8 @@
 -- What requests ask for, by their paths, queries and bodies.
 use Rattle.std.specs.Prelude.{◌≡◌, ◌⊎◌, ℕ, List, if◌then◌else◌, Option, Some, None, Result, Ok, Err, codes}
 use Rattle.form_urlencoded.specs.Form.{is_nonempty}
-use Rattle.pol_machine.specs.declared.command.Action.{Action}
-use Rattle.pol_machine.specs.declared.command.Action.TheVariants as action
+use Rattle.pol_commands.specs.declared.command.Action.{Action}
+use Rattle.pol_commands.specs.declared.command.Action.TheVariants as action
 use Rattle.pol_readers.specs.declared.error.ReadError.{ReadError}
 use Rattle.pol_readers.specs.declared.error.ReadError.TheVariants as read
 use Rattle.pol_readers.specs.Forms.{body}

@@ -7,11 +7,11 @@ use Rattle.pol_http.specs.declared.answer.Body.{Body}
 use Rattle.pol_http.specs.declared.answer.Body.TheVariants.{Nothing, Json, Token}
 use Rattle.pol_http.specs.declared.head.HeadRefused.{HeadRefused}
 use Rattle.pol_http.specs.declared.head.HeadRefused.TheVariants.{BadHead, LengthNeeded, BodyTooLong}
-use Rattle.pol_machine.specs.declared.reply.Answer.{Answer as Done}
-use Rattle.pol_machine.specs.declared.reply.Answer.TheVariants.{SessionOpened, ConfigTold, CatalogsListed, CatalogCreated, CatalogLoaded, CatalogDropped, NamespacesListed, NamespaceCreated, NamespaceLoaded, NamespaceThere, NamespaceDropped, PropertiesUpdated}
-use Rattle.pol_machine.specs.declared.reply.Refusal.{Refusal}
-use Rattle.pol_machine.specs.declared.reply.Reply.{Reply}
-use Rattle.pol_machine.specs.declared.reply.Reply.TheVariants.{Answered, Refused}
+use Rattle.pol_commands.specs.declared.reply.Answer.{Answer as Done}
+use Rattle.pol_commands.specs.declared.reply.Answer.TheVariants.{SessionOpened, ConfigTold, CatalogsListed, CatalogCreated, CatalogLoaded, CatalogDropped, NamespacesListed, NamespaceCreated, NamespaceLoaded, NamespaceThere, NamespaceDropped, PropertiesUpdated}
+use Rattle.pol_commands.specs.declared.reply.Refusal.{Refusal}
+use Rattle.pol_commands.specs.declared.reply.Reply.{Reply}
+use Rattle.pol_commands.specs.declared.reply.Reply.TheVariants.{Answered, Refused}
 use Rattle.pol_routes.specs.Json.{catalog_json, catalogs_json, config_json, namespace_json, namespaces_json, updated_json}
 use Rattle.pol_routes.specs.Refusals.{kind_of, message_of, status_of}
 use Rattle.pol_routes.specs.declared.plans.RouteRefused.{RouteRefused}

@@ -8,7 +8,7 @@ ghost use Rattle.pol_routes.specs.Bearer as spec;
 
 use httparse::spans::HeaderSpan;
 use pol_http::Head;
-use pol_machine::Caller;
+use pol_commands::Caller;
 use pol_types::{Bytes, OutOfMemory};
 use std::alloc::Global;
 

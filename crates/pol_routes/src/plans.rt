@@ -15,7 +15,7 @@ use crate::target;
 use crate::token_form::{TokenForm, read_token_form};
 use httparse::spans::Span;
 use pol_http::Head;
-use pol_machine::{Action, Caller, Command, Words4};
+use pol_commands::{Action, Caller, Command, Words4};
 use pol_types::{OutOfMemory, Text};
 use std::alloc::Global;
 use std::str;

@@ -2,7 +2,7 @@
 ghost use Rattle.std.specs.Prelude.{◌≡◌, IfOk, option_map, string_bytes};
 ghost use Rattle.pol_routes.specs.Refusals as spec;
 
-use pol_machine::Refusal;
+use pol_commands::Refusal;
 use std::alloc::{AllocError, Global};
 
 pub(crate) const BAD_REQUEST: &str = "BadRequestException";

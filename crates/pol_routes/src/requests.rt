@@ -12,7 +12,7 @@ use crate::segment::{
 };
 use crate::table::Endpoint;
 use crate::target::{path_of, query_of};
-use pol_machine::Action;
+use pol_commands::Action;
 use pol_names::{Namespace, Plain};
 use pol_readers::{Form, ReadError, read_body};
 use pol_types::Text;

@@ -7,7 +7,7 @@ mod routing;
 
 use super::*;
 use pol_http::{Answer, HeadRefused, Next, next_message, write_answer};
-use pol_machine::{Action, Caller, Command, Reply, Words4};
+use pol_commands::{Action, Caller, Command, Reply, Words4};
 use pol_types::Text;
 use std::alloc::{AllocError, Global};
 use std::test::Fail;
@@ -260,7 +260,7 @@ fn answered(alloc: Global, answer: Result<Answer, pol_types::OutOfMemory>) -> Re
 
 #[test]
 fn an_opened_session_answers_its_token(rt: HostRuntime) -> Result<(), Fail> {
-    let reply = Reply::Answered(pol_machine::Answer::SessionOpened {
+    let reply = Reply::Answered(pol_commands::Answer::SessionOpened {
         serial: 0x0123_4567_89ab_cdef,
         word_a: 1,
         word_b: u64::MAX,

@@ -14,7 +14,7 @@ use crate::refusals::{
     status_of,
 };
 use pol_http::{Answer, Body, HeadRefused};
-use pol_machine::{Answer as Done, Refusal, Reply};
+use pol_commands::{Answer as Done, Refusal, Reply};
 use pol_tokens::{SESSION_LIFE, token_text};
 use pol_types::OutOfMemory;
 use serde_json::{Value, json};

@@ -9,7 +9,7 @@ use Rattle.pol_wire.proofs.StreamsLemmas.{IsShifted-kept, IsShifted-trans}
 use Rattle.std.proofs.Math.Seq.{get_or-append_seam}
 use Rattle.std.proofs.lemmas.Bool.{cases_lt}
 use Rattle.std.proofs.lemmas.List.{get_or_append_left, get_or_past, take_all, take-append-drop}
-use Rattle.pol_machine.specs.declared.command.Words4.{Words4}
+use Rattle.pol_commands.specs.declared.command.Words4.{Words4}
 use Rattle.pol_server.specs.Ends.{Draws, Ends, Gives}
 use Rattle.pol_server.specs.Serving.{DrawsWords, GivesAll}
 

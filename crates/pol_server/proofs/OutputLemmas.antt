@@ -18,8 +18,8 @@ use Rattle.pol_machine.specs.Rows.{Rows}
 use Rattle.pol_routes.specs.Plan.{command_of, plan_of}
 use Rattle.pol_routes.specs.Texts.{answer_of, refusal_answer}
 use Rattle.pol_routes.specs.declared.plans.Planned.{Planned}
-use Rattle.pol_machine.specs.declared.reply.Refusal.TheVariants as refusal
-use Rattle.pol_machine.specs.declared.reply.Reply.TheVariants.{Refused}
+use Rattle.pol_commands.specs.declared.reply.Refusal.TheVariants as refusal
+use Rattle.pol_commands.specs.declared.reply.Reply.TheVariants.{Refused}
 use Rattle.pol_shared.specs.History.{state_at}
 use Rattle.pol_shared.specs.declared.entry.Entry.{Entry}
 use Rattle.pol_wire.specs.Streams.{IsShifted}

@@ -8,10 +8,10 @@ use Rattle.pol_http.specs.Message.{HasAskingHead, IsMessage, Message, print_mess
 use Rattle.pol_http.specs.declared.answer.Answer.{Answer}
 use Rattle.pol_http.specs.declared.answer.TheConstants.{CONTINUE, INSUFFICIENT_STORAGE}
 use Rattle.pol_machine.specs.Machine.{reply_of}
-use Rattle.pol_machine.specs.declared.command.Command.{Command}
-use Rattle.pol_machine.specs.declared.command.Words4.{Words4}
-use Rattle.pol_machine.specs.declared.reply.Refusal.TheVariants as refusal
-use Rattle.pol_machine.specs.declared.reply.Reply.TheVariants.{Refused}
+use Rattle.pol_commands.specs.declared.command.Command.{Command}
+use Rattle.pol_commands.specs.declared.command.Words4.{Words4}
+use Rattle.pol_commands.specs.declared.reply.Refusal.TheVariants as refusal
+use Rattle.pol_commands.specs.declared.reply.Reply.TheVariants.{Refused}
 use Rattle.pol_routes.specs.Texts.{answer_of}
 use Rattle.pol_shared.specs.History.{Log, entered, state_of}
 use Rattle.pol_wire.specs.Faults.{Rises}

@@ -9,9 +9,9 @@ use Rattle.pol_http.specs.declared.answer.Answer.{Answer}
 use Rattle.pol_http.specs.declared.answer.TheConstants.{CONTINUE, INSUFFICIENT_STORAGE}
 use Rattle.pol_machine.specs.Machine.{reply_of}
 use Rattle.pol_machine.specs.Rows.{Rows}
-use Rattle.pol_machine.specs.declared.command.Words4.{Words4}
-use Rattle.pol_machine.specs.declared.reply.Refusal.TheVariants as refusal
-use Rattle.pol_machine.specs.declared.reply.Reply.TheVariants.{Refused}
+use Rattle.pol_commands.specs.declared.command.Words4.{Words4}
+use Rattle.pol_commands.specs.declared.reply.Refusal.TheVariants as refusal
+use Rattle.pol_commands.specs.declared.reply.Reply.TheVariants.{Refused}
 use Rattle.pol_routes.specs.Plan.{plan_of, command_of}
 use Rattle.pol_routes.specs.Texts.{answer_of, refusal_answer, draw_fault_answer}
 use Rattle.pol_routes.specs.declared.plans.Planned.{Planned}

@@ -8,7 +8,7 @@ use Rattle.pol_machine.specs.Rows.{Rows}
 use Rattle.pol_machine.specs.Rules.{time_of}
 use Rattle.pol_machine.specs.Sound.{IsSound}
 use Rattle.pol_content.specs.declared.change.Change.{Change}
-use Rattle.pol_machine.specs.declared.command.Command.{Command}
+use Rattle.pol_commands.specs.declared.command.Command.{Command}
 use Rattle.pol_machine.proofs.DecisionLemmas.{changes-lead}
 use Rattle.pol_shared.specs.History.{state_after, state_at}
 use Rattle.pol_shared.specs.declared.entry.Entry.{Entry}

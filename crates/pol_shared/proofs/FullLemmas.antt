@@ -2,13 +2,13 @@
 use Rattle.std.proofs.Common.{◌≡◌, ◌≢◌, ℕ, ◌+◌, ◌<◌, ◌≤◌, ◌^◌, ◌∷◌, None, Some, is_some, ap, sym, ◌∙◌, inl, inr, true≢false}
 use Rattle.std.proofs.lemmas.Bool.{cases_lt, le-ltb, lt-ltb}
 use Rattle.pol_machine.specs.Machine.{acting, reply_by, reply_of}
-use Rattle.pol_machine.specs.Reply.{is_run_full}
+use Rattle.pol_commands.specs.Reply.{is_run_full}
 use Rattle.pol_machine.specs.Rows.{Rows}
 use Rattle.pol_machine.specs.Rules.{first_refusal, refuse_if, run_full}
-use Rattle.pol_machine.specs.declared.command.Command.{Command}
-use Rattle.pol_machine.specs.declared.reply.Refusal.{Refusal}
-use Rattle.pol_machine.specs.declared.reply.Refusal.TheVariants.{RunFull}
-use Rattle.pol_machine.specs.declared.reply.Reply.TheVariants.{Refused}
+use Rattle.pol_commands.specs.declared.command.Command.{Command}
+use Rattle.pol_commands.specs.declared.reply.Refusal.{Refusal}
+use Rattle.pol_commands.specs.declared.reply.Refusal.TheVariants.{RunFull}
+use Rattle.pol_commands.specs.declared.reply.Reply.TheVariants.{Refused}
 use Rattle.pol_machine.proofs.DecisionLemmas.{full-told as run_full-told}
 
 -- the run is full where the charges come to more than its bound, and nowhere else

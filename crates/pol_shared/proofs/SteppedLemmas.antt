@@ -2,10 +2,10 @@
 use Rattle.std.proofs.Common.{◌≡◌, ◌≢◌, ℕ, ◌+◌, ◌≤◌, ◌^◌, length, refl, sym, ap, subst, ◌∙◌, arith}
 use Rattle.pol_machine.specs.Machine.{reply_of}
 use Rattle.pol_machine.specs.Rows.{Rows}
-use Rattle.pol_machine.specs.declared.command.Command.{Command}
-use Rattle.pol_machine.specs.declared.reply.Refusal.TheVariants.{RunFull}
-use Rattle.pol_machine.specs.declared.reply.Reply.{Reply}
-use Rattle.pol_machine.specs.declared.reply.Reply.TheVariants.{Refused}
+use Rattle.pol_commands.specs.declared.command.Command.{Command}
+use Rattle.pol_commands.specs.declared.reply.Refusal.TheVariants.{RunFull}
+use Rattle.pol_commands.specs.declared.reply.Reply.{Reply}
+use Rattle.pol_commands.specs.declared.reply.Reply.TheVariants.{Refused}
 use Rattle.pol_shared.specs.History.{Log, entered, state_of}
 use Rattle.pol_shared.specs.Stepped.{IsDone, IsFull}
 use Rattle.pol_shared.proofs.FullLemmas.{IsFullRun, reply-full, room-open}

@@ -1,10 +1,10 @@
 -- What a step tells.
 use Rattle.std.specs.Prelude.{◌≡◌, ◌<◌, ◌≤◌, ◌+◌, ◌^◌, ℕ, length}
 use Rattle.pol_machine.specs.Machine.{reply_of}
-use Rattle.pol_machine.specs.declared.command.Command.{Command}
-use Rattle.pol_machine.specs.declared.reply.Refusal.TheVariants as refusal
-use Rattle.pol_machine.specs.declared.reply.Reply.{Reply}
-use Rattle.pol_machine.specs.declared.reply.Reply.TheVariants.{Refused}
+use Rattle.pol_commands.specs.declared.command.Command.{Command}
+use Rattle.pol_commands.specs.declared.reply.Refusal.TheVariants as refusal
+use Rattle.pol_commands.specs.declared.reply.Reply.{Reply}
+use Rattle.pol_commands.specs.declared.reply.Reply.TheVariants.{Refused}
 use Rattle.pol_shared.specs.History.{Log, entered, state_of}
 use Rattle.pol_shared.specs.declared.stepped.Stepped.{Stepped}
 use Rattle.pol_shared.specs.declared.stepped.Stepped.TheVariants.{Done, RunFull, OutOfMemory}

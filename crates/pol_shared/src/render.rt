@@ -1,5 +1,5 @@
 ghost use Rattle.std.specs.Prelude.{IfOk};
-ghost use Rattle.pol_machine.specs.declared.reply.Reply.{Reply};
+ghost use Rattle.pol_commands.specs.declared.reply.Reply.{Reply};
 
 use pol_machine::Reply;
 use pol_types::OutOfMemory;

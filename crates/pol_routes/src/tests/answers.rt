@@ -3,7 +3,7 @@ use super::{answered, expected};
 use crate::answer_of;
 use pol_content::CatalogRow;
 use pol_locations::{Location, LocationRefused};
-use pol_machine::{Answer, OptionName, Privilege, Quantity, Refusal, Reply, SecurableName};
+use pol_commands::{Answer, OptionName, Privilege, Quantity, Refusal, Reply, SecurableName};
 use pol_names::{Namespace, Plain};
 use pol_properties::{Properties, Property};
 use pol_types::{Listed, Text};

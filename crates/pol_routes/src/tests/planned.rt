@@ -1,7 +1,7 @@
 //! Requests of catalogues and namespaces: what is read of their paths, queries and bodies.
 use super::{plan_of_request, request};
 use crate::{Planned, RouteRefused, Routes};
-use pol_machine::Action;
+use pol_commands::Action;
 use pol_properties::Properties;
 use pol_types::{Listed, Text};
 use std::alloc::{AllocError, Global};

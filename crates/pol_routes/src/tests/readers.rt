@@ -4,7 +4,7 @@ use crate::{
     segment_at, segment_text,
 };
 use pol_http::{Next, next_message};
-use pol_machine::Caller;
+use pol_commands::Caller;
 use std::alloc::{AllocError, Global};
 use std::test::Fail;
 

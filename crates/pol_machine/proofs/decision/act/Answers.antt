@@ -4,7 +4,7 @@ use Rattle.pol_machine.specs.Catalogs.{create_catalog}
 use Rattle.pol_machine.specs.Judged.{Acts}
 use Rattle.pol_machine.specs.Machine.{acting}
 use Rattle.pol_machine.specs.Rules.{run_full}
-use Rattle.pol_machine.specs.declared.command.Action.{Action}
+use Rattle.pol_commands.specs.declared.command.Action.{Action}
 use Rattle.pol_machine.proofs.DecisionLemmas.{acts-past}
 use Rattle.pol_machine.proofs.decision.act.Goals as goal
 

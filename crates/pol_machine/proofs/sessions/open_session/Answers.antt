@@ -1,7 +1,7 @@
 use Rattle.std.proofs.Common.{◌≡◌, ℕ, ◌+◌, ◌<◌, ◌^◌, ap, sym, ◌∙◌}
 use Rattle.pol_machine.specs.Rules.{over_limit, with_serial}
 use Rattle.pol_machine.specs.Sessions.{open_session}
-use Rattle.pol_machine.specs.declared.reply.Answer.TheVariants.{SessionOpened}
+use Rattle.pol_commands.specs.declared.reply.Answer.TheVariants.{SessionOpened}
 use Rattle.pol_machine.proofs.DecisionLemmas.{acts-stopped}
 use Rattle.pol_machine.proofs.SessionsLemmas.{changes-acting, changes-made, limit-refused, none-refused}
 use Rattle.pol_machine.proofs.sessions.open_session.Goals as goal

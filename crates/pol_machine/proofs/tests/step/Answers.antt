@@ -1,7 +1,7 @@
 use Rattle.std.proofs.Common.{◌≡◌, false, max, ap, sym, ◌∙◌}
 use Rattle.pol_machine.specs.Changes.{changes_between}
 use Rattle.pol_machine.specs.Machine.{next_state, reply_of}
-use Rattle.pol_machine.specs.Reply.{is_run_full}
+use Rattle.pol_commands.specs.Reply.{is_run_full}
 use Rattle.pol_machine.specs.Rows.{Rows}
 use Rattle.pol_machine.proofs.DecisionLemmas.{applied-sound}
 use Rattle.pol_machine.proofs.tests.step.Goals as goal

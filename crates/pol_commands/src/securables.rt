@@ -1,5 +1,5 @@
 ghost use Rattle.std.specs.Prelude.{Some};
-ghost use Rattle.pol_machine.specs.Securables.{securable_text};
+ghost use Rattle.pol_commands.specs.Securables.{securable_text};
 
 use pol_names::{Namespace, Plain};
 use std::fmt;

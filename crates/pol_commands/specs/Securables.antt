@@ -1,8 +1,8 @@
 -- Securables as refusals show them.
 use Rattle.std.specs.Prelude.{ℕ, List, ◌∷◌, ◌++◌, codes}
 use Rattle.pol_names.specs.Namespace.{dotted}
-use Rattle.pol_machine.specs.declared.securables.SecurableName.{SecurableName}
-use Rattle.pol_machine.specs.declared.securables.SecurableName.TheVariants as name
+use Rattle.pol_commands.specs.declared.securables.SecurableName.{SecurableName}
+use Rattle.pol_commands.specs.declared.securables.SecurableName.TheVariants as name
 
 -- the kind of a securable, its catalogue, and its name there
 abbrev pub securable_text : SecurableName → List ℕ

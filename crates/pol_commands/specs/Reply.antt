@@ -1,13 +1,13 @@
 -- What replies say.
 use Rattle.std.specs.Prelude.{ℕ, Bool, true, false, List, codes}
-use Rattle.pol_machine.specs.declared.reply.OptionName.{OptionName}
-use Rattle.pol_machine.specs.declared.reply.OptionName.TheVariants as option
-use Rattle.pol_machine.specs.declared.reply.Quantity.{Quantity}
-use Rattle.pol_machine.specs.declared.reply.Quantity.TheVariants.{Catalogs, CatalogRoles, Joins, Grants, Namespaces, AllowedLocations, Properties, NextId, NextSerial}
-use Rattle.pol_machine.specs.declared.reply.Refusal.{Refusal}
-use Rattle.pol_machine.specs.declared.reply.Refusal.TheVariants.{RunFull}
-use Rattle.pol_machine.specs.declared.reply.Reply.{Reply}
-use Rattle.pol_machine.specs.declared.reply.Reply.TheVariants.{Answered, Refused}
+use Rattle.pol_commands.specs.declared.reply.OptionName.{OptionName}
+use Rattle.pol_commands.specs.declared.reply.OptionName.TheVariants as option
+use Rattle.pol_commands.specs.declared.reply.Quantity.{Quantity}
+use Rattle.pol_commands.specs.declared.reply.Quantity.TheVariants.{Catalogs, CatalogRoles, Joins, Grants, Namespaces, AllowedLocations, Properties, NextId, NextSerial}
+use Rattle.pol_commands.specs.declared.reply.Refusal.{Refusal}
+use Rattle.pol_commands.specs.declared.reply.Refusal.TheVariants.{RunFull}
+use Rattle.pol_commands.specs.declared.reply.Reply.{Reply}
+use Rattle.pol_commands.specs.declared.reply.Reply.TheVariants.{Answered, Refused}
 
 -- the name of an option
 abbrev pub option_text : OptionName → List ℕ

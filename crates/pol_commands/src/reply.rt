@@ -1,7 +1,9 @@
 ghost use Rattle.std.specs.Prelude.{◌≡◌, Some};
-ghost use Rattle.pol_machine.specs.Reply.{is_run_full, option_text, quantity_text};
+ghost use Rattle.pol_commands.specs.Reply.{is_run_full, option_text, quantity_text};
 
-use crate::{CatalogRow, Privilege, SecurableName};
+use crate::SecurableName;
+use pol_access::Privilege;
+use pol_content::CatalogRow;
 use pol_locations::LocationRefused;
 use pol_names::{Namespace, Plain};
 use pol_properties::Properties;

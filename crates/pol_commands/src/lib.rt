@@ -1,0 +1,12 @@
+//! Commands and replies: what the catalogue machine is asked, and what it answers.
+#![tactic(auto)]
+
+mod command;
+mod reply;
+mod securables;
+#[cfg(test)]
+mod tests;
+
+pub use command::{Action, Caller, Command, Words4};
+pub use reply::{Answer, OptionName, Quantity, Refusal, Reply};
+pub use securables::SecurableName;
