@@ -1,3 +1,4 @@
+mod bounds;
 mod catalogs;
 
 use crate::program::{Devices, run};

@@ -1,4 +1,4 @@
-ghost use Rattle.std.specs.Prelude.{◌≡◌, IfOk, ⊤};
+ghost use Rattle.std.specs.Prelude.{◌≡◌, ◌≤◌, ◌^◌, IfOk, ⊤};
 
 use crate::{Closed, Kept, Render, Stepped};
 use pol_machine::{Action, Answer, Caller, Command, Reply, Words4};
@@ -34,13 +34,13 @@ struct Left {
     closed: u64,
 }
 
-/// A command of this charge, which opens a session for root at moment 1,000.
-fn opening(alloc: Global, charge: u64) -> Result<Command, Fail>
-    ensures { IfOk result (λ command. command.moment ≡ 1000) }
+/// A command of this charge, which opens a session for root by this secret at this moment.
+fn opening(alloc: Global, secret: &str, moment: u64, charge: u64) -> Result<Command, Fail>
+    ensures { IfOk result (λ command. command.moment ≡ moment) }
 {
     Ok(Command {
         caller: Caller::Nobody,
-        moment: 1_000,
+        moment,
         words: Words4 {
             a: 1,
             b: 2,
@@ -50,15 +50,24 @@ fn opening(alloc: Global, charge: u64) -> Result<Command, Fail>
         charge,
         action: Action::OpenSession {
             client_id: Text::from(String::from_str(alloc, "root")?),
-            secret: Text::from(String::from_str(alloc, "s3cr3t")?),
+            secret: Text::from(String::from_str(alloc, secret)?),
             scopes: Listed::from(Vec::new(alloc)),
         },
     })
 }
 
-/// Does a command of this charge for the pass of this number.
-fn step(alloc: Global, kept: &mut Kept, number: u64, charge: u64) -> Result<Told, Fail> {
-    let command = opening(alloc, charge)?;
+/// Opens a session for root by this secret at this moment, with this charge, for the pass of this number.
+fn step(
+    alloc: Global,
+    kept: &mut Kept,
+    number: u64,
+    secret: &str,
+    moment: u64,
+    charge: u64,
+) -> Result<Told, Fail>
+    requires { moment ≤ 2 ^ 62 }
+{
+    let command = opening(alloc, secret, moment, charge)?;
     match kept.step(alloc, number, command, &Serial) {
         Stepped::Done { place, out } => Ok(Ok((place, out))),
         Stepped::RunFull {
@@ -71,11 +80,20 @@ fn step(alloc: Global, kept: &mut Kept, number: u64, charge: u64) -> Result<Told
 }
 
 /// Fills the run, goes on above its bound, and then without a charge.
-fn steps(alloc: Global, kept: &mut Kept) -> Result<[Told; 3], Fail> {
+fn full_steps(alloc: Global, kept: &mut Kept) -> Result<[Told; 3], Fail> {
     Ok([
-        step(alloc, kept, 0, 1 << 30)?,
-        step(alloc, kept, 1, 512)?,
-        step(alloc, kept, 2, 0)?,
+        step(alloc, kept, 0, "s3cr3t", 1_000, 1 << 30)?,
+        step(alloc, kept, 1, "s3cr3t", 1_000, 512)?,
+        step(alloc, kept, 2, "s3cr3t", 1_000, 0)?,
+    ])
+}
+
+/// Opens no session, then one, and one more at an earlier moment.
+fn timed_steps(alloc: Global, kept: &mut Kept) -> Result<[Told; 3], Fail> {
+    Ok([
+        step(alloc, kept, 0, "s3cr3u", 2_000, 0)?,
+        step(alloc, kept, 0, "s3cr3t", 5_000, 0)?,
+        step(alloc, kept, 0, "s3cr3t", 1_000, 0)?,
     ])
 }
 
@@ -103,7 +121,7 @@ fn close(alloc: Global, kept: Kept) -> Result<Left, AllocError> {
 fn full_run_makes_no_entry(rt: HostRuntime) -> Result<(), Fail> {
     let alloc = rt.alloc();
     let mut kept = Kept::fresh(alloc, "s3cr3t")?;
-    let told = steps(alloc, &mut kept);
+    let told = full_steps(alloc, &mut kept);
     let left = close(alloc, kept);
     assert_eq!(rt;
         told?,
@@ -116,5 +134,16 @@ fn full_run_makes_no_entry(rt: HostRuntime) -> Result<(), Fail> {
     let left = left?;
     assert_eq!(rt; left.entries.as_slice(), [(0, 1 << 30), (2, 0)].as_slice());
     assert_eq!(rt; (left.opened, left.closed), (0, 1_000));
+    Ok(())
+}
+
+#[test]
+fn serials_rise_by_one_and_time_never_goes_back(rt: HostRuntime) -> Result<(), Fail> {
+    let alloc = rt.alloc();
+    let mut kept = Kept::fresh(alloc, "s3cr3t")?;
+    let told = timed_steps(alloc, &mut kept);
+    let left = close(alloc, kept);
+    assert_eq!(rt; told?, [Ok((0, None)), Ok((1, Some(0))), Ok((2, Some(1)))]);
+    assert_eq!(rt; left?.closed, 5_000);
     Ok(())
 }

@@ -5,13 +5,13 @@ use std::alloc::{AllocError, Global};
 use std::test::Fail;
 
 /// The token of the first session where the words count from 0.
-const TOKEN_TEXT: &str = "000000000000000000000000000000000000000000000001";
+pub(super) const TOKEN_TEXT: &str = "000000000000000000000000000000000000000000000001";
 
 /// A method, a path, a body, and the status and the body of the answer.
-type Case<'a> = (&'a str, &'a str, &'a str, &'a str, &'a str);
+pub(super) type Case<'a> = (&'a str, &'a str, &'a str, &'a str, &'a str);
 
 /// The catalogue that the cases begin with.
-const LAKE: Case<'static> = (
+pub(super) const LAKE: Case<'static> = (
     "POST",
     "/api/management/v1/catalogs",
     r#"{"catalog":{"name":"lake","properties":{"default-base-location":"lake://b"}}}"#,
@@ -446,21 +446,26 @@ const UNREADABLE: &str =
 
 /// An input of requests, and the output that is to come of them.
 #[derive(Drop)]
-struct Script {
-    input: String,
-    output: String,
+pub(super) struct Script {
+    pub(super) input: String,
+    pub(super) output: String,
 }
 
 impl Script {
     /// Root's token request, with its answer.
-    fn new(alloc: Global) -> Result<Script, AllocError> {
+    pub(super) fn new(alloc: Global) -> Result<Script, AllocError> {
         let input = token_request(alloc, FORM)?;
         let output = token_answer(alloc, TOKEN_TEXT)?;
         Ok(Script { input, output })
     }
 
     /// Adds a request with this token.
-    fn ask(&mut self, alloc: Global, case: Case<'_>, token: &str) -> Result<(), AllocError> {
+    pub(super) fn ask(
+        &mut self,
+        alloc: Global,
+        case: Case<'_>,
+        token: &str,
+    ) -> Result<(), AllocError> {
         let (method, path, body, status, answer) = case;
         let length = body.len();
         let request = format!(in alloc;
