@@ -1,5 +1,10 @@
+mod access;
+mod access;
+mod access_cases;
+mod access_cases;
 mod bounds;
 mod catalogs;
+mod privileges;
 
 use crate::program::{Devices, run};
 use crate::words::Words;

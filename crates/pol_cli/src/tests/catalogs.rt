@@ -1,6 +1,6 @@
 //! Catalogues and namespaces over whole links: what each request is answered, and which refusal comes first.
 
-use super::{FORM, check_exec, token_answer, token_request};
+use super::{FORM, INVALID_CLIENT, check_exec, token_answer, token_request};
 use std::alloc::{AllocError, Global};
 use std::test::Fail;
 
@@ -459,6 +459,26 @@ impl Script {
         Ok(Script { input, output })
     }
 
+    /// Adds a token request with this form, which is answered by this token.
+    pub(super) fn open(
+        &mut self,
+        alloc: Global,
+        form: &str,
+        token: &str,
+    ) -> Result<(), AllocError> {
+        let request = token_request(alloc, form)?;
+        self.input.push_str(request.as_str())?;
+        let answer = token_answer(alloc, token)?;
+        self.output.push_str(answer.as_str())
+    }
+
+    /// Adds a token request with this form, whose client isn't known by its secret.
+    pub(super) fn refuse(&mut self, alloc: Global, form: &str) -> Result<(), AllocError> {
+        let request = token_request(alloc, form)?;
+        self.input.push_str(request.as_str())?;
+        self.output.push_str(INVALID_CLIENT)
+    }
+
     /// Adds a request with this token.
     pub(super) fn ask(
         &mut self,
@@ -478,10 +498,15 @@ impl Script {
     }
 }
 
-/// The bytes of an answer; without a body it has its status line alone.
+/// The bytes of an answer; without a body it has its status line alone, and that of 201 the length too.
 fn answered(alloc: Global, status: &str, body: &str) -> Result<String, AllocError> {
     if body.is_empty() {
-        return format!(in alloc; "HTTP/1.1 {status}\r\n\r\n");
+        let length = if status == "201 Created" {
+            "content-length: 0\r\n"
+        } else {
+            ""
+        };
+        return format!(in alloc; "HTTP/1.1 {status}\r\n{length}\r\n");
     }
     let length = body.len();
     format!(in alloc;
