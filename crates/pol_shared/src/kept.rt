@@ -1,4 +1,5 @@
 ghost use Rattle.std.specs.Prelude.{◌≡◌, ◌≤◌, ◌^◌, [], IfOk};
+ghost use Rattle.pol_commands.specs.Proper.{IsProper};
 ghost use Rattle.pol_machine.specs.Rows.{fresh_state};
 ghost use Rattle.pol_machine.specs.Sound.{IsSound};
 ghost use Rattle.pol_shared.specs.History.{state_of};
@@ -59,6 +60,7 @@ impl Kept {
         render: &R,
     ) -> Stepped<R::Out>
         requires moment { command.moment ≤ 2 ^ 62 }
+        requires proper { IsProper command.action }
         ensures { Steps (R.renders render.now) self.old self.new number command result }
     {
         let Ok((decision, out)) = answer(alloc, &self.state, &command, render) else {

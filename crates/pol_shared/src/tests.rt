@@ -1,4 +1,5 @@
 ghost use Rattle.std.specs.Prelude.{◌≡◌, ◌≤◌, ◌^◌, IfOk, ⊤};
+ghost use Rattle.pol_commands.specs.Proper.{IsProper};
 
 use crate::{Closed, Kept, Render, Stepped};
 use pol_machine::{Action, Answer, Caller, Command, Reply, Words4};
@@ -36,7 +37,8 @@ struct Left {
 
 /// A command of this charge, which opens a session for root by this secret at this moment.
 fn opening(alloc: Global, secret: &str, moment: u64, charge: u64) -> Result<Command, Fail>
-    ensures { IfOk result (λ command. command.moment ≡ moment) }
+    ensures moment { IfOk result (λ command. command.moment ≡ moment) }
+    ensures proper { IfOk result (λ command. IsProper command.action) }
 {
     Ok(Command {
         caller: Caller::Nobody,
