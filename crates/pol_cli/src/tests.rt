@@ -1,6 +1,4 @@
 mod access;
-mod access;
-mod access_cases;
 mod access_cases;
 mod bounds;
 mod catalogs;
