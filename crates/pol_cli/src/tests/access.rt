@@ -55,15 +55,18 @@ const READER: [Case<'static>; 4] = [
     ),
 ];
 
+/// Creates namespace `a` of `lake`.
+const NAMESPACE_A: Case<'static> = (
+    "POST",
+    "/api/catalog/v1/lake/namespaces",
+    r#"{"namespace":["a"]}"#,
+    "200 OK",
+    r#"{"namespace":["a"],"properties":{}}"#,
+);
+
 /// Namespaces `a`, `a.b` and `x` of `lake`.
 const NAMESPACES: [Case<'static>; 3] = [
-    (
-        "POST",
-        "/api/catalog/v1/lake/namespaces",
-        r#"{"namespace":["a"]}"#,
-        "200 OK",
-        r#"{"namespace":["a"],"properties":{}}"#,
-    ),
+    NAMESPACE_A,
     (
         "POST",
         "/api/catalog/v1/lake/namespaces",
@@ -208,7 +211,7 @@ const ONE_PRIVILEGE: [Step; 11] = [
             "",
         ),
     ),
-    (TOKEN_TEXT, NAMESPACES[0]),
+    (TOKEN_TEXT, NAMESPACE_A),
     (
         ANN,
         (
