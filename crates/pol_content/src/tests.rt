@@ -9,6 +9,13 @@ use pol_types::Listed;
 use std::alloc::Global;
 use std::test::Fail;
 
+fn check(holds: bool, otherwise: &'static str) -> Result<(), Fail> {
+    if holds {
+        return Ok(());
+    }
+    Err(Fail::new(otherwise))
+}
+
 fn catalog_row(alloc: Global, id: u64, name: Plain) -> Result<CatalogRow, Fail>
     ensures { IfOk result (λ row. row.id ≡ id) }
 {
@@ -90,51 +97,94 @@ fn namespace_named(
     }
 }
 
-fn found_by_name(alloc: Global, content: &mut Content) -> Result<[u64; 9], Fail> {
+/// Checks the ids of the catalogues, or 0, that have these names.
+fn check_catalogs(alloc: Global, content: &Content, cases: &[(&str, u64)]) -> Result<(), Fail> {
+    for (name, id) in cases {
+        let found = catalog_named(alloc, content, name)?;
+        check(found == *id, "another catalogue has the name")?;
+    }
+    Ok(())
+}
+
+/// Checks the ids of the namespaces, or 0, that have these catalogues and levels.
+fn check_namespaces(
+    alloc: Global,
+    content: &Content,
+    cases: &[(u64, &str, u64)],
+) -> Result<(), Fail> {
+    for (catalog, segment, id) in cases {
+        let found = namespace_named(alloc, content, *catalog, segment)?;
+        check(found == *id, "another namespace has the levels")?;
+    }
+    Ok(())
+}
+
+fn check_found_by_name(alloc: Global, content: &mut Content) -> Result<(), Fail> {
     fill(alloc, content)?;
-    let both = namespace_named(alloc, content, 3, "a\u{1f}b")?;
+    check_namespaces(alloc, content, &[(3, "a\u{1f}b", 6)])?;
     content.drop_namespace(6);
-    Ok([
-        catalog_named(alloc, content, "sales")?,
-        catalog_named(alloc, content, "stock")?,
-        catalog_named(alloc, content, "sale")?,
-        both,
-        namespace_named(alloc, content, 3, "a\u{1f}b")?,
-        namespace_named(alloc, content, 4, "a\u{1f}b")?,
-        namespace_named(alloc, content, 3, "a")?,
-        namespace_named(alloc, content, 4, "a")?,
-        namespace_named(alloc, content, 3, "a\u{1f}b\u{1f}c")?,
-    ])
+    check_catalogs(alloc, content, &[("sales", 3), ("stock", 4), ("sale", 0)])?;
+    check_namespaces(
+        alloc,
+        content,
+        &[
+            (3, "a\u{1f}b", 0),
+            (4, "a\u{1f}b", 0),
+            (3, "a", 5),
+            (4, "a", 7),
+            (3, "a\u{1f}b\u{1f}c", 8),
+        ],
+    )
 }
 
 #[test]
 fn rows_are_found_by_their_names(rt: HostRuntime) -> Result<(), Fail> {
-    let ids = {
-        let mut content = Content::new(rt.alloc());
-        found_by_name(rt.alloc(), &mut content)
-    };
-    assert_eq!(rt; ids?, [3, 4, 0, 6, 0, 0, 5, 7, 8]);
-    Ok(())
+    let mut content = Content::new(rt.alloc());
+    let checked = check_found_by_name(rt.alloc(), &mut content);
+    drop(content);
+    checked
+}
+
+/// Whether the namespace has this segment, or there is none where it is empty.
+fn has_segment(alloc: Global, found: &Option<Namespace>, segment: &str) -> Result<bool, Fail> {
+    match found {
+        Some(path) => {
+            let written = path.segment(alloc)?;
+            Ok(written.as_str() == segment)
+        }
+        None => Ok(segment.is_empty()),
+    }
 }
 
 /// Whether the first namespace that is missing on the way to this one has this segment, or none is where it is empty.
-fn is_first_missing(
+fn has_first_missing(
+    alloc: Global,
+    content: &Content,
+    catalog: u64,
+    levels: &Namespace,
+    missing: &str,
+) -> Result<bool, Fail> {
+    let found = content.first_missing(alloc, catalog, levels)?;
+    let has = has_segment(alloc, &found, missing);
+    drop(found);
+    has
+}
+
+fn check_first_missing(
     alloc: Global,
     content: &Content,
     catalog: u64,
     segment: &str,
     missing: &str,
-) -> Result<bool, Fail> {
+) -> Result<(), Fail> {
     let levels = Namespace::from_segment(alloc, segment)?;
-    match content.first_missing(alloc, catalog, &levels)? {
-        Some(path) => Ok(path.segment(alloc)?.as_str() == missing),
-        None => Ok(missing.is_empty()),
-    }
+    let has = has_first_missing(alloc, content, catalog, &levels, missing);
+    drop(levels);
+    check(has?, "another namespace is the first that is missing")
 }
 
-fn finds_first_missing(alloc: Global, content: &mut Content) -> Result<bool, Fail> {
+fn check_missing(alloc: Global, content: &mut Content) -> Result<(), Fail> {
     fill(alloc, content)?;
-    let mut all = true;
     for (catalog, segment, missing) in [
         (3, "a", ""),
         (3, "a\u{1f}b\u{1f}c", ""),
@@ -144,36 +194,46 @@ fn finds_first_missing(alloc: Global, content: &mut Content) -> Result<bool, Fai
         (4, "a\u{1f}b\u{1f}c", "a\u{1f}b"),
         (5, "a", "a"),
     ] {
-        all = all && is_first_missing(alloc, content, catalog, segment, missing)?;
+        check_first_missing(alloc, content, catalog, segment, missing)?;
     }
     content.drop_namespace(6);
-    let past_a_gap = is_first_missing(alloc, content, 3, "a\u{1f}b\u{1f}c", "a\u{1f}b")?;
-    Ok(all && past_a_gap)
+    check_first_missing(alloc, content, 3, "a\u{1f}b\u{1f}c", "a\u{1f}b")
 }
 
 #[test]
 fn the_first_missing_namespace_is_told(rt: HostRuntime) -> Result<(), Fail> {
-    let told = {
-        let mut content = Content::new(rt.alloc());
-        finds_first_missing(rt.alloc(), &mut content)
-    };
-    assert!(rt; told?);
-    Ok(())
+    let mut content = Content::new(rt.alloc());
+    let checked = check_missing(rt.alloc(), &mut content);
+    drop(content);
+    checked
 }
 
-/// Whether these are the ids of the children.
-fn has_children(
+/// Whether these are the ids of the rows.
+fn are_ids(rows: &[&NamespaceRow], ids: &[u64]) -> bool {
+    rows.len() == ids.len() && rows.iter().zip(ids).all(|(row, id)| row.id == *id)
+}
+
+fn check_children(
     alloc: Global,
     content: &Content,
     catalog: u64,
     parent: Option<&Namespace>,
     ids: &[u64],
-) -> Result<bool, Fail> {
+) -> Result<(), Fail> {
     let children = content.children(alloc, catalog, parent)?;
-    Ok(children.len() == ids.len() && children.iter().zip(ids).all(|(row, id)| row.id == *id))
+    let listed = are_ids(children.as_slice(), ids);
+    drop(children);
+    check(listed, "other namespaces stand below")
 }
 
-fn lists_direct_children(alloc: Global, content: &mut Content) -> Result<bool, Fail> {
+fn check_below(alloc: Global, content: &Content, parent: &Namespace) -> Result<(), Fail> {
+    check_children(alloc, content, 3, None, &[10, 5, 11, 9])?;
+    check_children(alloc, content, 4, None, &[7])?;
+    check_children(alloc, content, 3, Some(parent), &[13, 6])?;
+    check_children(alloc, content, 4, Some(parent), &[])
+}
+
+fn check_direct_children(alloc: Global, content: &mut Content) -> Result<(), Fail> {
     fill(alloc, content)?;
     for (id, segment) in [
         (10, "B"),
@@ -184,24 +244,27 @@ fn lists_direct_children(alloc: Global, content: &mut Content) -> Result<bool, F
         put_namespace(alloc, content, id, 3, segment)?;
     }
     let parent = Namespace::from_segment(alloc, "a")?;
-    let of_sales = has_children(alloc, content, 3, None, &[10, 5, 11, 9])?;
-    let of_stock = has_children(alloc, content, 4, None, &[7])?;
-    let below = has_children(alloc, content, 3, Some(&parent), &[13, 6])?;
-    let none = has_children(alloc, content, 4, Some(&parent), &[])?;
-    Ok(of_sales && of_stock && below && none)
+    let checked = check_below(alloc, content, &parent);
+    drop(parent);
+    checked
 }
 
 #[test]
 fn children_stand_directly_below_and_are_listed_in_order(rt: HostRuntime) -> Result<(), Fail> {
-    let listed = {
-        let mut content = Content::new(rt.alloc());
-        lists_direct_children(rt.alloc(), &mut content)
-    };
-    assert!(rt; listed?);
-    Ok(())
+    let mut content = Content::new(rt.alloc());
+    let checked = check_direct_children(rt.alloc(), &mut content);
+    drop(content);
+    checked
 }
 
-fn lists_catalogs(alloc: Global, content: &mut Content) -> Result<bool, Fail> {
+fn check_listed_catalogs(alloc: Global, content: &Content) -> Result<(), Fail> {
+    let listed = content.catalogs_by_name(alloc)?;
+    let in_order = listed.iter().map(|row| row.id).eq([6, 7, 4, 5, 3]);
+    drop(listed);
+    check(in_order, "the catalogues stand in another order")
+}
+
+fn check_order_of_catalogs(alloc: Global, content: &mut Content) -> Result<(), Fail> {
     for (id, name) in [
         (3, "stock"),
         (4, "sales"),
@@ -211,81 +274,79 @@ fn lists_catalogs(alloc: Global, content: &mut Content) -> Result<bool, Fail> {
     ] {
         put_catalog(alloc, content, id, name)?;
     }
-    let listed = content.catalogs_by_name(alloc)?;
-    Ok(listed.iter().map(|row| row.id).eq([6, 7, 4, 5, 3]))
+    check_listed_catalogs(alloc, content)
 }
 
 #[test]
 fn catalogues_are_listed_in_byte_order(rt: HostRuntime) -> Result<(), Fail> {
-    let listed = {
-        let mut content = Content::new(rt.alloc());
-        lists_catalogs(rt.alloc(), &mut content)
-    };
-    assert!(rt; listed?);
-    Ok(())
+    let mut content = Content::new(rt.alloc());
+    let checked = check_order_of_catalogs(rt.alloc(), &mut content);
+    drop(content);
+    checked
 }
 
-fn emptiness(alloc: Global, content: &mut Content) -> Result<[bool; 9], Fail> {
+fn check_empty(content: &Content, namespace: u64, empty: bool) -> Result<(), Fail> {
+    check(
+        content.is_empty(namespace) == empty,
+        "a namespace is told empty or not otherwise",
+    )
+}
+
+fn check_emptiness(alloc: Global, content: &mut Content) -> Result<(), Fail> {
     fill(alloc, content)?;
-    let whole = [5, 6, 7, 8, 10].map(|id| content.is_empty(id));
+    for (namespace, empty) in [(5, false), (6, false), (7, true), (8, true), (10, true)] {
+        check_empty(content, namespace, empty)?;
+    }
     content.drop_namespace(6);
-    let without_child = content.is_empty(5);
+    check_empty(content, 5, false)?;
     content.drop_namespace(8);
-    let without_both = content.is_empty(5);
-    let of_stock = content.catalog_is_empty(4);
+    check_empty(content, 5, true)?;
+    let filled = !content.catalog_is_empty(4);
     content.drop_namespace(7);
-    let [first, second, third, fourth, fifth] = whole;
-    Ok([
-        first,
-        second,
-        third,
-        fourth,
-        fifth,
-        without_child,
-        without_both,
-        of_stock,
-        content.catalog_is_empty(4),
-    ])
+    check(
+        filled && content.catalog_is_empty(4),
+        "a catalogue is told empty or not otherwise",
+    )
 }
 
 #[test]
 fn a_namespace_that_holds_a_deeper_one_is_not_empty(rt: HostRuntime) -> Result<(), Fail> {
-    let empty = {
-        let mut content = Content::new(rt.alloc());
-        emptiness(rt.alloc(), &mut content)
-    };
-    assert!(rt; empty? == [false, false, true, true, true, false, true, false, true]);
-    Ok(())
+    let mut content = Content::new(rt.alloc());
+    let checked = check_emptiness(rt.alloc(), &mut content);
+    drop(content);
+    checked
 }
 
-fn copies_rows(alloc: Global, content: &mut Content) -> Result<bool, Fail> {
+fn check_copy(alloc: Global, content: &mut Content) -> Result<(), Fail> {
     fill(alloc, content)?;
     let copy = content.clone()?;
     content.drop_namespace(7);
-    Ok(content.catalog_is_empty(4) && !copy.catalog_is_empty(4))
+    let stays = content.catalog_is_empty(4) && !copy.catalog_is_empty(4);
+    drop(copy);
+    check(stays, "a copy has the rows of what it was made of")
 }
 
 #[test]
 fn a_copy_has_rows_of_its_own(rt: HostRuntime) -> Result<(), Fail> {
-    let copied = {
-        let mut content = Content::new(rt.alloc());
-        copies_rows(rt.alloc(), &mut content)
-    };
-    assert!(rt; copied?);
-    Ok(())
+    let mut content = Content::new(rt.alloc());
+    let checked = check_copy(rt.alloc(), &mut content);
+    drop(content);
+    checked
 }
 
-/// Whether these are the chain of the securable.
-fn has_chain(
+fn check_chain(
     alloc: Global,
     content: &Content,
     of: Securable,
     chain: &[Securable],
-) -> Result<bool, Fail> {
-    Ok(content.chain(alloc, of)?.as_slice() == chain)
+) -> Result<(), Fail> {
+    let found = content.chain(alloc, of)?;
+    let same = found.as_slice() == chain;
+    drop(found);
+    check(same, "a securable has another chain")
 }
 
-fn chains_go_outwards(alloc: Global, content: &mut Content) -> Result<bool, Fail> {
+fn check_chains(alloc: Global, content: &mut Content) -> Result<(), Fail> {
     fill(alloc, content)?;
     let deep = [
         Securable::Namespace(8),
@@ -294,61 +355,58 @@ fn chains_go_outwards(alloc: Global, content: &mut Content) -> Result<bool, Fail
         Securable::Catalog(3),
     ];
     let of_stock = [Securable::Namespace(7), Securable::Catalog(4)];
-    let mut all = has_chain(alloc, content, Securable::Namespace(8), &deep)?;
-    all = all && has_chain(alloc, content, Securable::Namespace(7), &of_stock)?;
+    check_chain(alloc, content, Securable::Namespace(8), &deep)?;
+    check_chain(alloc, content, Securable::Namespace(7), &of_stock)?;
     for alone in [
         Securable::Realm,
         Securable::Catalog(3),
         Securable::Namespace(10),
         Securable::Table(6),
     ] {
-        all = all && has_chain(alloc, content, alone, &[alone])?;
+        check_chain(alloc, content, alone, &[alone])?;
     }
-    Ok(all)
+    Ok(())
 }
 
 #[test]
 fn a_chain_goes_from_the_securable_out_to_its_catalogue(rt: HostRuntime) -> Result<(), Fail> {
-    let outwards = {
-        let mut content = Content::new(rt.alloc());
-        chains_go_outwards(rt.alloc(), &mut content)
-    };
-    assert!(rt; outwards?);
-    Ok(())
+    let mut content = Content::new(rt.alloc());
+    let checked = check_chains(rt.alloc(), &mut content);
+    drop(content);
+    checked
 }
 
-/// Whether this is the deepest part that is there of the path.
-fn is_deepest(
+/// Checks that this is the deepest part that is there of the path.
+fn check_deepest(
     alloc: Global,
     content: &Content,
     catalog: u64,
     segment: &str,
     part: Securable,
-) -> Result<bool, Fail> {
+) -> Result<(), Fail> {
     let levels = Namespace::from_segment(alloc, segment)?;
-    Ok(content.deepest(alloc, catalog, &levels)? == part)
+    let found = content.deepest(alloc, catalog, &levels);
+    drop(levels);
+    check(found? == part, "another part is the deepest")
 }
 
-fn finds_deepest(alloc: Global, content: &mut Content) -> Result<bool, Fail> {
+fn check_deepest_parts(alloc: Global, content: &mut Content) -> Result<(), Fail> {
     fill(alloc, content)?;
-    let mut all = true;
     for (catalog, segment, part) in [
         (3, "a\u{1f}b\u{1f}c", Securable::Namespace(8)),
         (3, "a\u{1f}b\u{1f}x\u{1f}c", Securable::Namespace(6)),
         (3, "x\u{1f}b", Securable::Catalog(3)),
         (4, "a\u{1f}b", Securable::Namespace(7)),
     ] {
-        all = all && is_deepest(alloc, content, catalog, segment, part)?;
+        check_deepest(alloc, content, catalog, segment, part)?;
     }
-    Ok(all)
+    Ok(())
 }
 
 #[test]
 fn the_deepest_part_that_is_there_is_found(rt: HostRuntime) -> Result<(), Fail> {
-    let found = {
-        let mut content = Content::new(rt.alloc());
-        finds_deepest(rt.alloc(), &mut content)
-    };
-    assert!(rt; found?);
-    Ok(())
+    let mut content = Content::new(rt.alloc());
+    let checked = check_deepest_parts(rt.alloc(), &mut content);
+    drop(content);
+    checked
 }

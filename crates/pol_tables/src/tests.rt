@@ -63,8 +63,25 @@ fn members(alloc: Global, facts: &Facts<Member>) -> Result<Vec<(u64, u64)>, Allo
         .collect(alloc)
 }
 
-#[test]
-fn a_table_keeps_rows_by_id_in_their_order(rt: HostRuntime) -> Result<(), Fail> {
+fn check(holds: bool, otherwise: &'static str) -> Result<(), Fail> {
+    if holds {
+        return Ok(());
+    }
+    Err(Fail::new(otherwise))
+}
+
+fn check_pages(alloc: Global, table: &Table<Page>, rows: &[(u64, u64)]) -> Result<(), Fail> {
+    let held = pages(alloc, table)?;
+    check(held.as_slice() == rows, "the table has other pages")
+}
+
+fn put_page(table: &mut Table<Page>, id: u64, visits: u64) -> Result<(), Fail> {
+    table.reserve(1)?;
+    table.put(Page { id, visits });
+    Ok(())
+}
+
+fn check_page_steps(alloc: Global, table: &mut Table<Page>) -> Result<(), Fail> {
     let steps: [(bool, u64, u64, &[(u64, u64)]); 8] = [
         (true, 5, 1, &[(5, 1)]),
         (true, 2, 1, &[(5, 1), (2, 1)]),
@@ -75,44 +92,75 @@ fn a_table_keeps_rows_by_id_in_their_order(rt: HostRuntime) -> Result<(), Fail> 
         (true, 5, 3, &[(2, 7), (9, 1), (5, 3)]),
         (false, 9, 0, &[(2, 7), (5, 3)]),
     ];
-    let mut table = Table::new(rt.alloc());
     for (puts, id, visits, rows) in steps {
         if puts {
-            table.reserve(1)?;
-            table.put(Page { id, visits });
+            put_page(table, id, visits)?;
         } else {
             table.take(id);
         }
-        assert_eq!(rt; pages(rt.alloc(), &table)?.as_slice(), rows);
+        check_pages(alloc, table, rows)?;
     }
     Ok(())
 }
 
 #[test]
-fn rows_are_found_and_copied(rt: HostRuntime) -> Result<(), Fail> {
+fn a_table_keeps_rows_by_id_in_their_order(rt: HostRuntime) -> Result<(), Fail> {
     let mut table = Table::new(rt.alloc());
-    assert!(rt; table.is_empty());
+    let checked = check_page_steps(rt.alloc(), &mut table);
+    drop(table);
+    checked
+}
+
+fn put_two_pages(table: &mut Table<Page>) -> Result<(), Fail> {
     table.reserve(2)?;
     table.put(Page { id: 4, visits: 1 });
     table.put(Page { id: 3, visits: 2 });
-    assert_eq!(rt; table.len(), 2);
-    assert_eq!(rt; table.find(3), Some(&Page { id: 3, visits: 2 }));
-    assert_eq!(rt; table.find(1), None);
-    let mut copy = table.clone()?;
-    assert!(rt; copy == table);
-    copy.reserve(1)?;
-    copy.put(Page { id: 3, visits: 5 });
-    assert!(rt; copy != table);
-    assert_eq!(rt; copy.take(4), Some(Page { id: 4, visits: 1 }));
-    assert_eq!(rt;
-        pages(rt.alloc(), &table)?.as_slice(),
-        [(4, 1), (3, 2)].as_slice()
-    );
     Ok(())
 }
 
+fn finds_pages(table: &Table<Page>) -> bool {
+    table.len() == 2 && table.find(3) == Some(&Page { id: 3, visits: 2 }) && table.find(1).is_none()
+}
+
+fn check_copy(copy: &mut Table<Page>, table: &Table<Page>) -> Result<(), Fail> {
+    let same = *copy == *table;
+    put_page(copy, 3, 5)?;
+    let other = *copy != *table;
+    let taken = copy.take(4) == Some(Page { id: 4, visits: 1 });
+    check(same && other && taken, "the copy has other pages")
+}
+
+fn check_found_and_copied(alloc: Global, table: &mut Table<Page>) -> Result<(), Fail> {
+    check(table.is_empty(), "a new table has pages")?;
+    put_two_pages(table)?;
+    check(finds_pages(table), "other pages are found")?;
+    let mut copy = table.clone()?;
+    let checked = check_copy(&mut copy, table);
+    drop(copy);
+    checked?;
+    check_pages(alloc, table, &[(4, 1), (3, 2)])
+}
+
 #[test]
-fn facts_stand_once_in_their_order(rt: HostRuntime) -> Result<(), Fail> {
+fn rows_are_found_and_copied(rt: HostRuntime) -> Result<(), Fail> {
+    let mut table = Table::new(rt.alloc());
+    let checked = check_found_and_copied(rt.alloc(), &mut table);
+    drop(table);
+    checked
+}
+
+fn check_members(alloc: Global, facts: &Facts<Member>, held: &[(u64, u64)]) -> Result<(), Fail> {
+    let found = members(alloc, facts)?;
+    check(found.as_slice() == held, "there are other facts")
+}
+
+fn put_member(facts: &mut Facts<Member>, principal: u64, role: u64) -> Result<(), Fail> {
+    facts.reserve(1)?;
+    facts.put(Member { principal, role });
+    Ok(())
+}
+
+fn check_member_steps(alloc: Global, facts: &mut Facts<Member>) -> Result<(), Fail> {
     let steps: [(bool, u64, u64, &[(u64, u64)]); 6] = [
         (true, 2, 1, &[(2, 1)]),
         (true, 1, 1, &[(2, 1), (1, 1)]),
@@ -121,33 +169,36 @@ fn facts_stand_once_in_their_order(rt: HostRuntime) -> Result<(), Fail> {
         (false, 2, 1, &[(1, 1)]),
         (true, 2, 1, &[(1, 1), (2, 1)]),
     ];
-    let mut facts = Facts::new(rt.alloc());
-    assert!(rt; facts.is_empty());
     for (puts, principal, role, held) in steps {
-        let member = Member { principal, role };
         if puts {
-            facts.reserve(1)?;
-            facts.put(member);
+            put_member(facts, principal, role)?;
         } else {
-            facts.take(&member);
+            facts.take(&Member { principal, role });
         }
-        assert_eq!(rt; members(rt.alloc(), &facts)?.as_slice(), held);
+        check_members(alloc, facts, held)?;
     }
-    let copy = facts.clone()?;
-    assert_eq!(rt; copy.len(), 2);
-    assert!(rt;
-        copy.contains(&Member {
-            principal: 2,
-            role: 1
-        })
-    );
-    assert!(rt;
-        !copy.contains(&Member {
-            principal: 2,
-            role: 2
-        })
-    );
     Ok(())
+}
+
+fn has_member(facts: &Facts<Member>, principal: u64, role: u64) -> bool {
+    facts.contains(&Member { principal, role })
+}
+
+fn check_facts(alloc: Global, facts: &mut Facts<Member>) -> Result<(), Fail> {
+    check(facts.is_empty(), "there are facts at first")?;
+    check_member_steps(alloc, facts)?;
+    let copy = facts.clone()?;
+    let copied = copy.len() == 2 && has_member(&copy, 2, 1) && !has_member(&copy, 2, 2);
+    drop(copy);
+    check(copied, "the copy has other facts")
+}
+
+#[test]
+fn facts_stand_once_in_their_order(rt: HostRuntime) -> Result<(), Fail> {
+    let mut facts = Facts::new(rt.alloc());
+    let checked = check_facts(rt.alloc(), &mut facts);
+    drop(facts);
+    checked
 }
 
 #[test]
@@ -231,8 +282,22 @@ fn boxes(alloc: Global, table: &NamedTable<Box>) -> Result<Vec<(u64, u64)>, Allo
     table.rows().map(|row| (row.id, row.label)).collect(alloc)
 }
 
-#[test]
-fn rows_are_found_by_names_that_share_numbers(rt: HostRuntime) -> Result<(), Fail> {
+/// Puts the label under the id, or takes the id where the label is 0. Whether the id that is taken was there.
+fn put_or_take(table: &mut NamedTable<Box>, id: u64, label: u64) -> Result<bool, Fail> {
+    if label == 0 {
+        return Ok(table.take(id).is_some());
+    }
+    table.reserve(1)?;
+    table.put(Box { id, label });
+    Ok(true)
+}
+
+fn check_boxes(alloc: Global, table: &NamedTable<Box>, rows: &[(u64, u64)]) -> Result<(), Fail> {
+    let held = boxes(alloc, table)?;
+    check(held.as_slice() == rows, "the table has other boxes")
+}
+
+fn check_box_steps(alloc: Global, table: &mut NamedTable<Box>) -> Result<(), Fail> {
     // The step (a label is put under an id, or 0: the id is taken), the rows, a label, and the id found.
     let steps: [(u64, u64, &[(u64, u64)], u64, Option<u64>); 9] = [
         (1, 10, &[(1, 10)], 12, None),
@@ -245,22 +310,30 @@ fn rows_are_found_by_names_that_share_numbers(rt: HostRuntime) -> Result<(), Fai
         (3, 16, &[(3, 16), (4, 14)], 16, Some(3)),
         (4, 16, &[(3, 16), (4, 16)], 14, None),
     ];
-    let mut table = NamedTable::new(rt.alloc());
-    assert!(rt; table.is_empty());
     for (id, label, rows, sought, found) in steps {
-        if label == 0 {
-            assert!(rt; table.take(id).is_some());
-        } else {
-            table.reserve(1)?;
-            table.put(Box { id, label });
-        }
-        assert_eq!(rt; boxes(rt.alloc(), &table)?.as_slice(), rows);
-        assert_eq!(rt; id_named(&table, sought), found);
+        let done = put_or_take(table, id, label)?;
+        check(done, "the box that is taken was not there")?;
+        check_boxes(alloc, table, rows)?;
+        check(id_named(table, sought) == found, "another box has the name")?;
     }
-    let copy = table.clone()?;
-    assert_eq!(rt; copy.len(), 2);
-    assert!(rt; copy.find(4).is_some() && id_named(&copy, 12).is_none());
     Ok(())
+}
+
+fn check_named_boxes(alloc: Global, table: &mut NamedTable<Box>) -> Result<(), Fail> {
+    check(table.is_empty(), "a new table has boxes")?;
+    check_box_steps(alloc, table)?;
+    let copy = table.clone()?;
+    let copied = copy.len() == 2 && copy.find(4).is_some() && id_named(&copy, 12).is_none();
+    drop(copy);
+    check(copied, "the copy has other boxes")
+}
+
+#[test]
+fn rows_are_found_by_names_that_share_numbers(rt: HostRuntime) -> Result<(), Fail> {
+    let mut table = NamedTable::new(rt.alloc());
+    let checked = check_named_boxes(rt.alloc(), &mut table);
+    drop(table);
+    checked
 }
 
 #[test]
