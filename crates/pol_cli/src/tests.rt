@@ -1,8 +1,6 @@
 mod access;
-mod access_cases;
 mod bounds;
 mod catalogs;
-mod privileges;
 
 use crate::program::{Devices, run};
 use crate::words::Words;
@@ -104,6 +102,21 @@ const INVALID_CLIENT: &str =
 const TOKEN: &[u8] = b"HTTP/1.1 200 OK";
 
 const DRAW_FAULT: &[u8] = b"HTTP/1.1 503 Service Unavailable";
+
+/// The token of the first session where the words count from 0.
+const TOKEN_TEXT: &str = "000000000000000000000000000000000000000000000001";
+
+/// A method, a path, a body, and the status and the body of the answer.
+type Case<'a> = (&'a str, &'a str, &'a str, &'a str, &'a str);
+
+/// The catalogue that the cases begin with.
+const LAKE: Case<'static> = (
+    "POST",
+    "/api/management/v1/catalogs",
+    r#"{"catalog":{"name":"lake","properties":{"default-base-location":"lake://b"}}}"#,
+    "201 Created",
+    r#"{"name":"lake","properties":{"default-base-location":"lake://b"},"storageConfigInfo":{"allowedLocations":[]},"type":"INTERNAL"}"#,
+);
 
 /// The calls that are to fail, counted from 1; 0 stands for none.
 #[derive(Clone, Copy, Default)]
@@ -210,6 +223,66 @@ fn check(ran: &Ran, status: u8, output: &str) -> Result<(), Fail> {
 fn check_exec(rt: &HostRuntime, input: &str, status: u8, output: &str) -> Result<(), Fail> {
     let ran = exec(rt, input)?;
     check(&ran, status, output)
+}
+
+/// An input of requests, and the output that is to come of them.
+#[derive(Drop)]
+struct Script {
+    input: String,
+    output: String,
+}
+
+impl Script {
+    /// Root's token request, with its answer.
+    fn new(alloc: Global) -> Result<Script, AllocError> {
+        let input = token_request(alloc, FORM)?;
+        let output = token_answer(alloc, TOKEN_TEXT)?;
+        Ok(Script { input, output })
+    }
+
+    /// Adds a token request with this form, which is answered by this token.
+    fn open(&mut self, alloc: Global, form: &str, token: &str) -> Result<(), AllocError> {
+        let request = token_request(alloc, form)?;
+        self.input.push_str(request.as_str())?;
+        let answer = token_answer(alloc, token)?;
+        self.output.push_str(answer.as_str())
+    }
+
+    /// Adds a token request with this form, whose client isn't known by its secret.
+    fn refuse(&mut self, alloc: Global, form: &str) -> Result<(), AllocError> {
+        let request = token_request(alloc, form)?;
+        self.input.push_str(request.as_str())?;
+        self.output.push_str(INVALID_CLIENT)
+    }
+
+    /// Adds a request with this token.
+    fn ask(&mut self, alloc: Global, case: Case<'_>, token: &str) -> Result<(), AllocError> {
+        let (method, path, body, status, answer) = case;
+        let length = body.len();
+        let request = format!(in alloc;
+            "{method} {path} HTTP/1.1\r\nauthorization: Bearer {token}\r\ncontent-length: {length}\r\n\r\n{body}"
+        )?;
+        self.input.push_str(request.as_str())?;
+        let answer = answered(alloc, status, answer)?;
+        self.output.push_str(answer.as_str())?;
+        Ok(())
+    }
+}
+
+/// The bytes of an answer; without a body it has its status line alone, and that of 201 the length too.
+fn answered(alloc: Global, status: &str, body: &str) -> Result<String, AllocError> {
+    if body.is_empty() {
+        let length = if status == "201 Created" {
+            "content-length: 0\r\n"
+        } else {
+            ""
+        };
+        return format!(in alloc; "HTTP/1.1 {status}\r\n{length}\r\n");
+    }
+    let length = body.len();
+    format!(in alloc;
+        "HTTP/1.1 {status}\r\ncontent-type: application/json\r\ncontent-length: {length}\r\n\r\n{body}"
+    )
 }
 
 /// A text with another behind it.

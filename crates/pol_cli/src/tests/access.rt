@@ -1,18 +1,20 @@
 //! Principals, roles and grants over whole links: the worked examples, and what each privilege allows where.
 
-use super::catalogs::{Case, LAKE, Script, TOKEN_TEXT};
-use super::check_exec;
+mod cases;
+mod privileges;
+
+use super::{Case, LAKE, Script, TOKEN_TEXT, check_exec};
 use std::alloc::{AllocError, Global};
 use std::test::Fail;
 
 /// A request with the token of who asks it.
-pub(super) type Step = (&'static str, Case<'static>);
+type Step = (&'static str, Case<'static>);
 
 /// The token of Ann's first session, which is the second of the run and takes the words after those of her credentials.
-pub(super) const ANN: &str = "000000000000000100000000000000050000000000000006";
+const ANN: &str = "000000000000000100000000000000050000000000000006";
 
 /// The form that opens a session for Ann.
-pub(super) const ANN_FORM: &str =
+const ANN_FORM: &str =
     "grant_type=client_credentials&client_id=0000000000000002&client_secret=00000000000000030000000000000004";
 
 const ANN_CREATED: Case<'static> = (
@@ -85,7 +87,7 @@ const NAMESPACES: [Case<'static>; 3] = [
 
 impl Script {
     /// Adds requests with this token.
-    pub(super) fn ask_all(
+    fn ask_all(
         &mut self,
         alloc: Global,
         cases: &[Case<'_>],
@@ -98,7 +100,7 @@ impl Script {
     }
 
     /// Adds requests, each with its own token.
-    pub(super) fn ask_each(&mut self, alloc: Global, steps: &[Step]) -> Result<(), AllocError> {
+    fn ask_each(&mut self, alloc: Global, steps: &[Step]) -> Result<(), AllocError> {
         for (token, case) in steps {
             self.ask(alloc, *case, token)?;
         }
@@ -106,7 +108,7 @@ impl Script {
     }
 
     /// Creates catalogue `lake` and principal Ann, and opens her session.
-    pub(super) fn begin_with_ann(&mut self, alloc: Global) -> Result<(), AllocError> {
+    fn begin_with_ann(&mut self, alloc: Global) -> Result<(), AllocError> {
         self.ask(alloc, LAKE, TOKEN_TEXT)?;
         self.ask(alloc, ANN_CREATED, TOKEN_TEXT)?;
         self.open(alloc, ANN_FORM, ANN)
@@ -114,7 +116,7 @@ impl Script {
 }
 
 /// Root's token request, Ann's session, role `reader` of which she is a member, and three namespaces.
-pub(super) fn with_reader(alloc: Global) -> Result<Script, AllocError> {
+fn with_reader(alloc: Global) -> Result<Script, AllocError> {
     let mut script = Script::new(alloc)?;
     script.begin_with_ann(alloc)?;
     script.ask_all(alloc, READER.as_slice(), TOKEN_TEXT)?;
@@ -123,7 +125,7 @@ pub(super) fn with_reader(alloc: Global) -> Result<Script, AllocError> {
 }
 
 /// Checks what is answered to these requests, once Ann is a member of `reader`.
-pub(super) fn check_steps(rt: &HostRuntime, steps: &[Step]) -> Result<(), Fail> {
+fn check_steps(rt: &HostRuntime, steps: &[Step]) -> Result<(), Fail> {
     let mut script = with_reader(rt.alloc())?;
     script.ask_each(rt.alloc(), steps)?;
     check_exec(rt, script.input.as_str(), 0, script.output.as_str())

@@ -1,8 +1,7 @@
 //! The bounds of a catalogue's locations and of properties over whole links: each may be reached and not passed, and
 //! a rule that comes earlier is told first.
 
-use super::catalogs::{Case, LAKE, Script, TOKEN_TEXT};
-use super::check_exec;
+use super::{Case, LAKE, Script, TOKEN_TEXT, check_exec};
 use std::alloc::{AllocError, Global};
 use std::test::Fail;
 

@@ -1,23 +1,8 @@
 //! Catalogues and namespaces over whole links: what each request is answered, and which refusal comes first.
 
-use super::{FORM, INVALID_CLIENT, check_exec, token_answer, token_request};
+use super::{Case, LAKE, Script, TOKEN_TEXT, check_exec};
 use std::alloc::{AllocError, Global};
 use std::test::Fail;
-
-/// The token of the first session where the words count from 0.
-pub(super) const TOKEN_TEXT: &str = "000000000000000000000000000000000000000000000001";
-
-/// A method, a path, a body, and the status and the body of the answer.
-pub(super) type Case<'a> = (&'a str, &'a str, &'a str, &'a str, &'a str);
-
-/// The catalogue that the cases begin with.
-pub(super) const LAKE: Case<'static> = (
-    "POST",
-    "/api/management/v1/catalogs",
-    r#"{"catalog":{"name":"lake","properties":{"default-base-location":"lake://b"}}}"#,
-    "201 Created",
-    r#"{"name":"lake","properties":{"default-base-location":"lake://b"},"storageConfigInfo":{"allowedLocations":[]},"type":"INTERNAL"}"#,
-);
 
 /// A catalogue that is created and dropped, or not, namespaces that are created, listed, loaded and dropped, or not, and
 /// properties that are updated.
@@ -443,76 +428,6 @@ const UNAUTHENTICATED: [Case<'static>; 11] = [
 /// What a level that is too long, or one too many, is answered.
 const UNREADABLE: &str =
     r#"{"error":{"code":400,"message":"Unreadable: namespace","type":"BadRequestException"}}"#;
-
-/// An input of requests, and the output that is to come of them.
-#[derive(Drop)]
-pub(super) struct Script {
-    pub(super) input: String,
-    pub(super) output: String,
-}
-
-impl Script {
-    /// Root's token request, with its answer.
-    pub(super) fn new(alloc: Global) -> Result<Script, AllocError> {
-        let input = token_request(alloc, FORM)?;
-        let output = token_answer(alloc, TOKEN_TEXT)?;
-        Ok(Script { input, output })
-    }
-
-    /// Adds a token request with this form, which is answered by this token.
-    pub(super) fn open(
-        &mut self,
-        alloc: Global,
-        form: &str,
-        token: &str,
-    ) -> Result<(), AllocError> {
-        let request = token_request(alloc, form)?;
-        self.input.push_str(request.as_str())?;
-        let answer = token_answer(alloc, token)?;
-        self.output.push_str(answer.as_str())
-    }
-
-    /// Adds a token request with this form, whose client isn't known by its secret.
-    pub(super) fn refuse(&mut self, alloc: Global, form: &str) -> Result<(), AllocError> {
-        let request = token_request(alloc, form)?;
-        self.input.push_str(request.as_str())?;
-        self.output.push_str(INVALID_CLIENT)
-    }
-
-    /// Adds a request with this token.
-    pub(super) fn ask(
-        &mut self,
-        alloc: Global,
-        case: Case<'_>,
-        token: &str,
-    ) -> Result<(), AllocError> {
-        let (method, path, body, status, answer) = case;
-        let length = body.len();
-        let request = format!(in alloc;
-            "{method} {path} HTTP/1.1\r\nauthorization: Bearer {token}\r\ncontent-length: {length}\r\n\r\n{body}"
-        )?;
-        self.input.push_str(request.as_str())?;
-        let answer = answered(alloc, status, answer)?;
-        self.output.push_str(answer.as_str())?;
-        Ok(())
-    }
-}
-
-/// The bytes of an answer; without a body it has its status line alone, and that of 201 the length too.
-fn answered(alloc: Global, status: &str, body: &str) -> Result<String, AllocError> {
-    if body.is_empty() {
-        let length = if status == "201 Created" {
-            "content-length: 0\r\n"
-        } else {
-            ""
-        };
-        return format!(in alloc; "HTTP/1.1 {status}\r\n{length}\r\n");
-    }
-    let length = body.len();
-    format!(in alloc;
-        "HTTP/1.1 {status}\r\ncontent-type: application/json\r\ncontent-length: {length}\r\n\r\n{body}"
-    )
-}
 
 /// Checks what is answered to root's token request and then to these requests with this token.
 fn check_cases(rt: &HostRuntime, cases: &[Case<'_>], token: &str) -> Result<(), Fail> {

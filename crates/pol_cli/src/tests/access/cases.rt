@@ -1,9 +1,8 @@
 //! Requests on principals, roles and grants that are refused: by a bearer that no session has, by a principal without a
 //! role, and where what they name isn't there or is taken.
 
-use super::access::{ANN, Step, check_steps, with_reader};
-use super::catalogs::{Script, TOKEN_TEXT};
-use super::check_exec;
+use super::{ANN, Step, check_steps, with_reader};
+use crate::tests::{Script, TOKEN_TEXT, check_exec};
 use std::alloc::{AllocError, Global};
 use std::test::Fail;
 

@@ -1,9 +1,8 @@
 //! What each privilege allows over whole links: on what it is granted and below it, not beside it, not once what it was
 //! granted on is dropped or the membership ends, and only to sessions whose scope has the role.
 
-use super::access::{ANN, ANN_FORM, with_reader};
-use super::catalogs::{Case, Script, TOKEN_TEXT};
-use super::{check_exec, joined};
+use super::{ANN, ANN_FORM, with_reader};
+use crate::tests::{Case, Script, TOKEN_TEXT, check_exec, joined};
 use std::alloc::{AllocError, Global};
 use std::test::Fail;
 
