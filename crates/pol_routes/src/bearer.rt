@@ -7,8 +7,8 @@ ghost use Rattle.pol_http.specs.Head.{IsHeadOf, IsHeadWithin, fields_of};
 ghost use Rattle.pol_routes.specs.Bearer as spec;
 
 use httparse::spans::HeaderSpan;
-use pol_http::Head;
 use pol_commands::Caller;
+use pol_http::Head;
 use pol_types::{Bytes, OutOfMemory};
 use std::alloc::Global;
 

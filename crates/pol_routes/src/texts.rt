@@ -13,8 +13,8 @@ use crate::refusals::{
     BAD_REQUEST, NOT_FOUND, SERVICE_UNAVAILABLE, UNSUPPORTED_OPERATION, kind_of, message_of,
     status_of,
 };
-use pol_http::{Answer, Body, HeadRefused};
 use pol_commands::{Answer as Done, Refusal, Reply};
+use pol_http::{Answer, Body, HeadRefused};
 use pol_tokens::{SESSION_LIFE, token_text};
 use pol_types::OutOfMemory;
 use serde_json::{Value, json};

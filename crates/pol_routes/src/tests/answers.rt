@@ -1,13 +1,14 @@
 //! The answers to replies, by their exact bytes.
-use super::{answered, expected};
+use super::{check_answer, check_text, replied};
 use crate::answer_of;
+use pol_access::Privilege;
+use pol_commands::{Answer, OptionName, Quantity, Refusal, Reply, SecurableName};
 use pol_content::CatalogRow;
 use pol_locations::{Location, LocationRefused};
-use pol_commands::{Answer, OptionName, Privilege, Quantity, Refusal, Reply, SecurableName};
 use pol_names::{Namespace, Plain};
 use pol_properties::{Properties, Property};
-use pol_types::{Listed, Text};
-use std::alloc::Global;
+use pol_types::{Listed, OutOfMemory, Text};
+use std::alloc::{AllocError, Global};
 use std::test::Fail;
 
 /// The JSON that tells how to speak to a catalogue `lake`, with its endpoints in the order of the table of requests.
@@ -22,162 +23,283 @@ const LAKE: &str =
 const BARE: &str =
     r#"{"name":"bare","properties":{"default-base-location":"lake://b/c"},"storageConfigInfo":{"allowedLocations":[]},"type":"INTERNAL"}"#;
 
-fn text(alloc: Global, word: &str) -> Result<Text, Fail> {
+fn text(alloc: Global, word: &str) -> Result<Text, AllocError> {
     Ok(Text::from(String::from_str(alloc, word)?))
 }
 
-/// The texts between commas, or none.
-fn texts(alloc: Global, words: &str) -> Result<Listed<Text>, Fail> {
+fn plain(alloc: Global, word: &str) -> Result<Plain, Fail> {
+    Ok(Plain::new(alloc, word)?)
+}
+
+fn location(alloc: Global, word: &str) -> Result<Location, Fail> {
+    Ok(Location::parse(alloc, word)?)
+}
+
+fn namespace(alloc: Global, segment: &str) -> Result<Namespace, Fail> {
+    Ok(Namespace::from_segment(alloc, segment)?)
+}
+
+/// Adds an item to a list.
+fn add<T: Drop>(list: &mut Vec<T>, item: T) -> Result<(), OutOfMemory> {
+    list.push(item)?;
+    Ok(())
+}
+
+/// Adds a text to a list.
+fn add_text(alloc: Global, list: &mut Vec<Text>, word: &str) -> Result<(), OutOfMemory> {
+    let text = text(alloc, word)?;
+    add(list, text)
+}
+
+/// Adds a location to a list.
+fn add_location(alloc: Global, list: &mut Vec<Location>, word: &str) -> Result<(), Fail> {
+    let location = location(alloc, word)?;
+    Ok(add(list, location)?)
+}
+
+/// Adds a namespace to a list.
+fn add_namespace(alloc: Global, list: &mut Vec<Namespace>, word: &str) -> Result<(), Fail> {
+    let namespace = namespace(alloc, word)?;
+    Ok(add(list, namespace)?)
+}
+
+/// The texts of these words.
+fn texts(alloc: Global, words: &[&str]) -> Result<Listed<Text>, OutOfMemory> {
     let mut list = Vec::new(alloc);
-    for word in words.split(',') {
-        if !word.is_empty() {
-            list.push(text(alloc, word)?)?;
-        }
+    for word in words {
+        add_text(alloc, &mut list, word)?;
     }
     Ok(Listed::from(list))
 }
 
-/// The locations between commas, or none.
-fn locations(alloc: Global, words: &str) -> Result<Listed<Location>, Fail> {
+/// The locations of these words.
+fn locations(alloc: Global, words: &[&str]) -> Result<Listed<Location>, Fail> {
     let mut list = Vec::new(alloc);
-    for word in words.split(',') {
-        if !word.is_empty() {
-            list.push(Location::parse(alloc, word)?)?;
-        }
+    for word in words {
+        add_location(alloc, &mut list, word)?;
     }
     Ok(Listed::from(list))
 }
 
-/// The namespaces between commas, or none.
-fn namespaces(alloc: Global, words: &str) -> Result<Listed<Namespace>, Fail> {
+/// The namespaces of these segments.
+fn namespaces(alloc: Global, segments: &[&str]) -> Result<Listed<Namespace>, Fail> {
     let mut list = Vec::new(alloc);
-    for word in words.split(',') {
-        if !word.is_empty() {
-            list.push(Namespace::from_segment(alloc, word)?)?;
-        }
+    for segment in segments {
+        add_namespace(alloc, &mut list, segment)?;
     }
     Ok(Listed::from(list))
 }
 
-/// The properties `a` and `z`, or none.
-fn properties(alloc: Global, some: bool) -> Result<Properties, Fail> {
-    let mut pairs = Vec::new(alloc);
-    if some {
-        pairs.push(Property {
-            key: text(alloc, "z")?,
-            value: text(alloc, "\"\u{e9}\"")?,
-        })?;
-        pairs.push(Property {
-            key: text(alloc, "a")?,
-            value: text(alloc, "1")?,
-        })?;
-    }
-    Ok(Properties::of_pairs(alloc, pairs)?)
+fn property(alloc: Global, key: &str, value: &str) -> Result<Property, AllocError> {
+    let key = text(alloc, key)?;
+    let value = text(alloc, value)?;
+    Ok(Property { key, value })
 }
 
-fn catalog(alloc: Global, name: &str, allowed: &str, some: bool) -> Result<CatalogRow, Fail> {
-    let name = Plain::new(alloc, name)?;
-    let base = Location::parse(alloc, "lake://b/c/")?;
+/// Adds a property to a list.
+fn add_property(
+    alloc: Global,
+    list: &mut Vec<Property>,
+    key: &str,
+    value: &str,
+) -> Result<(), OutOfMemory> {
+    let pair = property(alloc, key, value)?;
+    add(list, pair)
+}
+
+/// The properties of these keys and values.
+fn properties(alloc: Global, pairs: &[(&str, &str)]) -> Result<Properties, OutOfMemory> {
+    let mut list = Vec::new(alloc);
+    for (key, value) in pairs {
+        add_property(alloc, &mut list, key, value)?;
+    }
+    Properties::of_pairs(alloc, list)
+}
+
+/// The properties `z` and `a`, in this order.
+const TWO_PROPERTIES: [(&str, &str); 2] = [("z", "\"\u{e9}\""), ("a", "1")];
+
+fn catalog(
+    alloc: Global,
+    name: &str,
+    allowed: &[&str],
+    pairs: &[(&str, &str)],
+) -> Result<CatalogRow, Fail> {
+    let name = plain(alloc, name)?;
+    let base = location(alloc, "lake://b/c/")?;
     let allowed = locations(alloc, allowed)?;
+    let properties = properties(alloc, pairs)?;
     Ok(CatalogRow {
         id: 3,
         name,
         base,
         allowed,
-        properties: properties(alloc, some)?,
+        properties,
     })
 }
 
 fn lake(alloc: Global) -> Result<CatalogRow, Fail> {
-    catalog(alloc, "lake", "lake://x,lake://y/z", true)
+    catalog(alloc, "lake", &["lake://x", "lake://y/z"], &TWO_PROPERTIES)
 }
 
-/// Checks the bytes of the answer to a reply.
+fn bare(alloc: Global) -> Result<CatalogRow, Fail> {
+    catalog(alloc, "bare", &[], &[])
+}
+
+/// The catalogues `bare` and `lake`.
+fn two_catalogs(alloc: Global) -> Result<Listed<CatalogRow>, Fail> {
+    let mut rows = Vec::new(alloc);
+    let row = bare(alloc)?;
+    add(&mut rows, row)?;
+    let row = lake(alloc)?;
+    add(&mut rows, row)?;
+    Ok(Listed::from(rows))
+}
+
+/// Fails unless the answer to a reply has that status line and that JSON.
 fn check(alloc: Global, reply: &Reply, status: &str, json: &str) -> Result<(), Fail> {
-    let text = answered(alloc, answer_of(alloc, reply))?;
-    let told = expected(alloc, status, json)?;
-    if text.as_str() != told.as_str() {
-        return Err(Fail::new("the answer is another"));
-    }
-    Ok(())
+    check_answer(alloc, answer_of(alloc, reply), status, json)
 }
 
 /// The same of an answer of a command that is done.
 fn check_done(alloc: Global, answer: Answer, status: &str, json: &str) -> Result<(), Fail> {
-    check(alloc, &Reply::Answered(answer), status, json)
+    let reply = Reply::Answered(answer);
+    check(alloc, &reply, status, json)
 }
 
 /// The same of a refusal, with what its error's object holds.
-fn check_refused(alloc: Global, why: Refusal, status: &str, error: &str) -> Result<(), Fail> {
+fn check_error(alloc: Global, reply: &Reply, status: &str, error: &str) -> Result<(), Fail> {
     let json = format!(in alloc; "{{\"error\":{error}}}")?;
-    check(alloc, &Reply::Refused(why), status, json.as_str())
+    check(alloc, reply, status, json.as_str())
+}
+
+/// The same by the cause of the refusal.
+fn check_refused(alloc: Global, why: Refusal, status: &str, error: &str) -> Result<(), Fail> {
+    let reply = Reply::Refused(why);
+    check_error(alloc, &reply, status, error)
+}
+
+/// Fails unless a config is answered.
+fn check_config(alloc: Global) -> Result<(), Fail> {
+    let catalog = plain(alloc, "lake")?;
+    check_done(alloc, Answer::ConfigTold { catalog }, "200 OK", CONFIG)
+}
+
+/// Fails unless a new catalogue is answered.
+fn check_new_catalog(alloc: Global) -> Result<(), Fail> {
+    let row = lake(alloc)?;
+    check_done(alloc, Answer::CatalogCreated(row), "201 Created", LAKE)
+}
+
+/// Fails unless a catalogue is answered.
+fn check_catalog(alloc: Global) -> Result<(), Fail> {
+    let row = lake(alloc)?;
+    check_done(alloc, Answer::CatalogLoaded(row), "200 OK", LAKE)
+}
+
+/// Fails unless two catalogues are answered.
+fn check_catalogs(alloc: Global) -> Result<(), Fail> {
+    let json = format!(in alloc; "{{\"catalogs\":[{BARE},{LAKE}]}}")?;
+    let rows = two_catalogs(alloc)?;
+    check_done(alloc, Answer::CatalogsListed(rows), "200 OK", json.as_str())
+}
+
+/// Fails unless no catalogues are answered.
+fn check_no_catalogs(alloc: Global) -> Result<(), Fail> {
+    let none = Listed::from(Vec::new(alloc));
+    check_done(
+        alloc,
+        Answer::CatalogsListed(none),
+        "200 OK",
+        "{\"catalogs\":[]}",
+    )
 }
 
 #[test]
 fn catalogues_are_answered(rt: HostRuntime) -> Result<(), Fail> {
-    let alloc = rt.alloc();
-    let name = Plain::new(alloc, "lake")?;
+    check_config(rt.alloc())?;
+    check_new_catalog(rt.alloc())?;
+    check_catalog(rt.alloc())?;
+    check_catalogs(rt.alloc())?;
+    check_no_catalogs(rt.alloc())
+}
+
+/// Fails unless three namespaces are answered.
+fn check_namespaces(alloc: Global) -> Result<(), Fail> {
+    let listed = namespaces(alloc, &["a", "a\u{1f}b c", "d"])?;
     check_done(
         alloc,
-        Answer::ConfigTold { catalog: name },
+        Answer::NamespacesListed(listed),
         "200 OK",
-        CONFIG,
-    )?;
+        r#"{"namespaces":[["a"],["a","b c"],["d"]]}"#,
+    )
+}
+
+/// Fails unless no namespaces are answered.
+fn check_no_namespaces(alloc: Global) -> Result<(), Fail> {
+    let none = namespaces(alloc, &[])?;
     check_done(
         alloc,
-        Answer::CatalogCreated(lake(alloc)?),
-        "201 Created",
-        LAKE,
-    )?;
-    check_done(alloc, Answer::CatalogLoaded(lake(alloc)?), "200 OK", LAKE)?;
-    let rows = vec![in alloc; catalog(alloc, "bare", "", false)?, lake(alloc)?]?;
-    let listed = Answer::CatalogsListed(Listed::from(rows));
-    let json = format!(in alloc; "{{\"catalogs\":[{BARE},{LAKE}]}}")?;
-    check_done(alloc, listed, "200 OK", json.as_str())?;
-    let none = Answer::CatalogsListed(Listed::from(Vec::new(alloc)));
-    check_done(alloc, none, "200 OK", "{\"catalogs\":[]}")
+        Answer::NamespacesListed(none),
+        "200 OK",
+        "{\"namespaces\":[]}",
+    )
+}
+
+/// Fails unless a new namespace is answered.
+fn check_new_namespace(alloc: Global) -> Result<(), Fail> {
+    let namespace = namespace(alloc, "a\u{1f}b")?;
+    let properties = properties(alloc, &TWO_PROPERTIES)?;
+    let created = Answer::NamespaceCreated {
+        namespace,
+        properties,
+    };
+    let json = r#"{"namespace":["a","b"],"properties":{"a":"1","z":"\"é\""}}"#;
+    check_done(alloc, created, "200 OK", json)
+}
+
+/// Fails unless a namespace is answered.
+fn check_namespace(alloc: Global) -> Result<(), Fail> {
+    let namespace = namespace(alloc, "a")?;
+    let properties = properties(alloc, &[])?;
+    let loaded = Answer::NamespaceLoaded {
+        namespace,
+        properties,
+    };
+    let json = r#"{"namespace":["a"],"properties":{}}"#;
+    check_done(alloc, loaded, "200 OK", json)
+}
+
+/// Fails unless changed properties are answered.
+fn check_changed_properties(alloc: Global) -> Result<(), Fail> {
+    let missing = texts(alloc, &["m"])?;
+    let removed = texts(alloc, &["r", "s"])?;
+    let updated = texts(alloc, &[])?;
+    let changed = Answer::PropertiesUpdated {
+        missing,
+        removed,
+        updated,
+    };
+    let json = r#"{"missing":["m"],"removed":["r","s"],"updated":[]}"#;
+    check_done(alloc, changed, "200 OK", json)
 }
 
 #[test]
 fn namespaces_are_answered(rt: HostRuntime) -> Result<(), Fail> {
-    let alloc = rt.alloc();
-    let listed = Answer::NamespacesListed(namespaces(alloc, "a,a\u{1f}b c,d")?);
-    let json = r#"{"namespaces":[["a"],["a","b c"],["d"]]}"#;
-    check_done(alloc, listed, "200 OK", json)?;
-    let none = Answer::NamespacesListed(namespaces(alloc, "")?);
-    check_done(alloc, none, "200 OK", "{\"namespaces\":[]}")?;
-    let created = Answer::NamespaceCreated {
-        namespace: Namespace::from_segment(alloc, "a\u{1f}b")?,
-        properties: properties(alloc, true)?,
-    };
-    let json = r#"{"namespace":["a","b"],"properties":{"a":"1","z":"\"é\""}}"#;
-    check_done(alloc, created, "200 OK", json)?;
-    let loaded = Answer::NamespaceLoaded {
-        namespace: Namespace::from_segment(alloc, "a")?,
-        properties: properties(alloc, false)?,
-    };
-    check_done(
-        alloc,
-        loaded,
-        "200 OK",
-        r#"{"namespace":["a"],"properties":{}}"#,
-    )?;
-    let updated = Answer::PropertiesUpdated {
-        missing: texts(alloc, "m")?,
-        removed: texts(alloc, "r,s")?,
-        updated: texts(alloc, "")?,
-    };
-    let json = r#"{"missing":["m"],"removed":["r","s"],"updated":[]}"#;
-    check_done(alloc, updated, "200 OK", json)
+    check_namespaces(rt.alloc())?;
+    check_no_namespaces(rt.alloc())?;
+    check_new_namespace(rt.alloc())?;
+    check_namespace(rt.alloc())?;
+    check_changed_properties(rt.alloc())
 }
 
-/// Checks that a command which is done is answered without a body.
+/// Fails unless a command that is done is answered without a body.
 fn check_empty(alloc: Global, answer: Answer) -> Result<(), Fail> {
-    let text = answered(alloc, answer_of(alloc, &Reply::Answered(answer)))?;
-    if text.as_str() != "HTTP/1.1 204 No Content\r\n\r\n" {
-        return Err(Fail::new("the answer is another"));
-    }
-    Ok(())
+    let reply = Reply::Answered(answer);
+    let text = replied(alloc, &reply);
+    drop(reply);
+    let text = text?;
+    check_text(text.as_str(), "HTTP/1.1 204 No Content\r\n\r\n", "no body")
 }
 
 #[test]
@@ -187,48 +309,69 @@ fn what_is_dropped_or_there_is_answered_without_a_body(rt: HostRuntime) -> Resul
     check_empty(rt.alloc(), Answer::NamespaceDropped)
 }
 
-#[test]
-fn refusals_of_names_are_told(rt: HostRuntime) -> Result<(), Fail> {
-    let alloc = rt.alloc();
-    let name = Plain::new(alloc, "c")?;
+/// Fails unless a catalogue that isn't there is told.
+fn check_missing_catalog(alloc: Global) -> Result<(), Fail> {
+    let name = plain(alloc, "c")?;
     check_refused(
         alloc,
         Refusal::NoCatalogue { name },
         "404 Not Found",
         r#"{"code":404,"message":"NoCatalogue: c","type":"NotFoundException"}"#,
-    )?;
-    let catalog = Plain::new(alloc, "c")?;
-    let namespace = Namespace::from_segment(alloc, "a\u{1f}b")?;
+    )
+}
+
+/// Fails unless a need that isn't met is told.
+fn check_forbidden(alloc: Global) -> Result<(), Fail> {
+    let catalog = plain(alloc, "c")?;
+    let namespace = namespace(alloc, "a\u{1f}b")?;
+    let securable = SecurableName::Namespace { catalog, namespace };
+    let privilege = Privilege::NamespaceCreate;
     check_refused(
         alloc,
         Refusal::Forbidden {
-            privilege: Privilege::NamespaceCreate,
-            securable: SecurableName::Namespace { catalog, namespace },
+            privilege,
+            securable,
         },
         "403 Forbidden",
         r#"{"code":403,"message":"Forbidden: NAMESPACE_CREATE on namespace c/a.b","type":"ForbiddenException"}"#,
-    )?;
-    let namespace = Namespace::from_segment(alloc, "a\u{1f}b")?;
+    )
+}
+
+/// Fails unless a namespace that isn't there is told.
+fn check_missing_namespace(alloc: Global) -> Result<(), Fail> {
+    let namespace = namespace(alloc, "a\u{1f}b")?;
     check_refused(
         alloc,
         Refusal::NoNamespace { namespace },
         "404 Not Found",
         r#"{"code":404,"message":"NoNamespace: a.b","type":"NoSuchNamespaceException"}"#,
-    )?;
+    )
+}
+
+/// Fails unless a taken name is told.
+fn check_taken_name(alloc: Global) -> Result<(), Fail> {
     let name = text(alloc, "t")?;
     check_refused(
         alloc,
         Refusal::NameTaken { name },
         "409 Conflict",
         r#"{"code":409,"message":"NameTaken: t","type":"AlreadyExistsException"}"#,
-    )?;
+    )
+}
+
+/// Fails unless what isn't empty is told.
+fn check_not_empty(alloc: Global) -> Result<(), Fail> {
     let name = text(alloc, "a.b")?;
     check_refused(
         alloc,
         Refusal::NotEmpty { name },
         "409 Conflict",
         r#"{"code":409,"message":"NotEmpty: a.b","type":"NamespaceNotEmptyException"}"#,
-    )?;
+    )
+}
+
+/// Fails unless a key that is removed and set is told.
+fn check_key_twice(alloc: Global) -> Result<(), Fail> {
     let key = text(alloc, "k")?;
     check_refused(
         alloc,
@@ -238,56 +381,74 @@ fn refusals_of_names_are_told(rt: HostRuntime) -> Result<(), Fail> {
     )
 }
 
-fn limit(quantity: Quantity, bound: u64) -> Refusal {
-    Refusal::Limit { quantity, bound }
+#[test]
+fn refusals_of_names_are_told(rt: HostRuntime) -> Result<(), Fail> {
+    check_missing_catalog(rt.alloc())?;
+    check_forbidden(rt.alloc())?;
+    check_missing_namespace(rt.alloc())?;
+    check_taken_name(rt.alloc())?;
+    check_not_empty(rt.alloc())?;
+    check_key_twice(rt.alloc())
+}
+
+fn limit(quantity: Quantity, bound: u64) -> Reply {
+    Reply::Refused(Refusal::Limit { quantity, bound })
+}
+
+/// Fails unless the answer to each refusal has the status line and the error's object that stand beside it.
+fn check_errors(alloc: Global, cases: &[(Reply, &str, &str)]) -> Result<(), Fail> {
+    for (reply, status, error) in cases {
+        check_error(alloc, reply, status, error)?;
+    }
+    Ok(())
 }
 
 #[test]
 fn other_refusals_are_told(rt: HostRuntime) -> Result<(), Fail> {
     let cases = [
         (
-            Refusal::InvalidClient,
+            Reply::Refused(Refusal::InvalidClient),
             "401 Unauthorized",
             "\"invalid_client\"",
         ),
         (
-            Refusal::InvalidScope,
+            Reply::Refused(Refusal::InvalidScope),
             "400 Bad Request",
             "\"invalid_scope\"",
         ),
         (
-            Refusal::Unauthenticated,
+            Reply::Refused(Refusal::Unauthenticated),
             "401 Unauthorized",
             r#"{"code":401,"message":"Unauthenticated","type":"NotAuthorizedException"}"#,
         ),
         (
-            Refusal::Forbidden {
+            Reply::Refused(Refusal::Forbidden {
                 privilege: Privilege::ServiceManageAccess,
                 securable: SecurableName::Realm,
-            },
+            }),
             "403 Forbidden",
             r#"{"code":403,"message":"Forbidden: SERVICE_MANAGE_ACCESS on realm","type":"ForbiddenException"}"#,
         ),
         (
-            Refusal::RunFull {
+            Reply::Refused(Refusal::RunFull {
                 charged: 1_073_741_824,
                 charge: 512,
-            },
+            }),
             "503 Service Unavailable",
             r#"{"code":503,"message":"RunFull: 1073741824 and 512","type":"ServiceUnavailableException"}"#,
         ),
         (
-            Refusal::BadLocation {
+            Reply::Refused(Refusal::BadLocation {
                 table: 0,
                 why: LocationRefused::DotSegment,
-            },
+            }),
             "400 Bad Request",
             r#"{"code":400,"message":"BadLocation of table 0: DotSegment","type":"BadRequestException"}"#,
         ),
         (
-            Refusal::Unsupported {
+            Reply::Refused(Refusal::Unsupported {
                 name: OptionName::Type,
-            },
+            }),
             "406 Not Acceptable",
             r#"{"code":406,"message":"Unsupported: type","type":"UnsupportedOperationException"}"#,
         ),
@@ -307,8 +468,5 @@ fn other_refusals_are_told(rt: HostRuntime) -> Result<(), Fail> {
             r#"{"code":400,"message":"Limit: allowed locations 100","type":"BadRequestException"}"#,
         ),
     ];
-    for (refusal, status, error) in cases {
-        check_refused(rt.alloc(), refusal, status, error)?;
-    }
-    Ok(())
+    check_errors(rt.alloc(), &cases)
 }

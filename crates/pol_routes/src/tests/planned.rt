@@ -1,9 +1,10 @@
 //! Requests of catalogues and namespaces: what is read of their paths, queries and bodies.
-use super::{plan_of_request, request};
+use super::{check_text, plan_of_request, refusal_text, request_of};
 use crate::{Planned, RouteRefused, Routes};
 use pol_commands::Action;
-use pol_properties::Properties;
-use pol_types::{Listed, Text};
+use pol_names::{Namespace, Plain};
+use pol_properties::{Properties, Property};
+use pol_types::Text;
 use std::alloc::{AllocError, Global};
 use std::test::Fail;
 
@@ -192,13 +193,21 @@ const NEW_CATALOGS: [(&str, &str); 22] = [
 ];
 
 /// The texts of a list, each with a comma behind it.
-fn texts(alloc: Global, list: &Listed<Text>) -> Result<String, AllocError> {
+fn texts(alloc: Global, list: &[Text]) -> Result<String, AllocError> {
     let mut shown = String::new(alloc);
-    for text in list.as_slice() {
+    for text in list {
         shown.push_str(text.as_str())?;
         shown.push_str(",")?;
     }
     Ok(shown)
+}
+
+/// Puts a property behind a text, with a comma behind it.
+fn push_pair(shown: &mut String, pair: &Property) -> Result<(), AllocError> {
+    shown.push_str(pair.key.as_str())?;
+    shown.push_str("=")?;
+    shown.push_str(pair.value.as_str())?;
+    shown.push_str(",")
 }
 
 /// Properties, each with a comma behind it.
@@ -206,12 +215,60 @@ fn pairs(alloc: Global, properties: &Properties) -> Result<String, AllocError> {
     let mut shown = String::new(alloc);
     let pairs = properties.iter();
     for pair in pairs.as_slice() {
-        shown.push_str(pair.key.as_str())?;
-        shown.push_str("=")?;
-        shown.push_str(pair.value.as_str())?;
-        shown.push_str(",")?;
+        push_pair(&mut shown, pair)?;
     }
     Ok(shown)
+}
+
+/// What lists the namespaces below a parent, or those of one level.
+fn listing(
+    alloc: Global,
+    catalog: &Plain,
+    parent: &Option<Namespace>,
+) -> Result<String, AllocError> {
+    match parent {
+        Some(parent) => format!(in alloc; "namespaces {catalog} {parent}"),
+        None => format!(in alloc; "namespaces {catalog} -"),
+    }
+}
+
+/// What creates a namespace.
+fn creation(
+    alloc: Global,
+    catalog: &Plain,
+    namespace: &Namespace,
+    properties: &Properties,
+) -> Result<String, AllocError> {
+    let properties = pairs(alloc, properties)?;
+    format!(in alloc; "create {catalog} {namespace} ({properties})")
+}
+
+/// What changes the properties of a namespace.
+fn update(
+    alloc: Global,
+    catalog: &Plain,
+    namespace: &Namespace,
+    removals: &[Text],
+    updates: &Properties,
+) -> Result<String, AllocError> {
+    let removals = texts(alloc, removals)?;
+    let updates = pairs(alloc, updates)?;
+    format!(in alloc; "update {catalog} {namespace} [{removals}] ({updates})")
+}
+
+/// What creates a catalogue.
+fn catalog_creation(
+    alloc: Global,
+    name: &Plain,
+    base: &Text,
+    allowed: &[Text],
+    properties: &Properties,
+    external: bool,
+) -> Result<String, AllocError> {
+    let kind = if external { "external" } else { "internal" };
+    let allowed = texts(alloc, allowed)?;
+    let properties = pairs(alloc, properties)?;
+    format!(in alloc; "new {name} {base} [{allowed}] ({properties}) {kind}")
 }
 
 /// What an action is.
@@ -226,30 +283,15 @@ fn shown(alloc: Global, action: &Action) -> Result<String, AllocError> {
             allowed,
             properties,
             external,
-        } => {
-            let allowed = texts(alloc, allowed)?;
-            let properties = pairs(alloc, properties)?;
-            let kind = if *external { "external" } else { "internal" };
-            format!(in alloc; "new {name} {base} [{allowed}] ({properties}) {kind}")
-        }
+        } => catalog_creation(alloc, name, base, allowed.as_slice(), properties, *external),
         Action::GetCatalog { catalog } => format!(in alloc; "catalog {catalog}"),
         Action::DropCatalog { catalog } => format!(in alloc; "drop catalog {catalog}"),
-        Action::ListNamespaces {
-            catalog,
-            parent: Some(parent),
-        } => format!(in alloc; "namespaces {catalog} {parent}"),
-        Action::ListNamespaces {
-            catalog,
-            parent: None,
-        } => format!(in alloc; "namespaces {catalog} -"),
+        Action::ListNamespaces { catalog, parent } => listing(alloc, catalog, parent),
         Action::CreateNamespace {
             catalog,
             namespace,
             properties,
-        } => {
-            let properties = pairs(alloc, properties)?;
-            format!(in alloc; "create {catalog} {namespace} ({properties})")
-        }
+        } => creation(alloc, catalog, namespace, properties),
         Action::LoadNamespace { catalog, namespace } => {
             format!(in alloc; "load {catalog} {namespace}")
         }
@@ -264,66 +306,90 @@ fn shown(alloc: Global, action: &Action) -> Result<String, AllocError> {
             namespace,
             removals,
             updates,
-        } => {
-            let removals = texts(alloc, removals)?;
-            let updates = pairs(alloc, updates)?;
-            format!(in alloc; "update {catalog} {namespace} [{removals}] ({updates})")
-        }
+        } => update(alloc, catalog, namespace, removals.as_slice(), updates),
     }
 }
 
-/// What a plan does.
-fn planned_text(alloc: Global, planned: Planned) -> Result<String, AllocError> {
-    shown(alloc, &planned.action)
-}
-
-/// Why a request has no plan: `!` and the field that can't be read, or another cause.
-fn refusal_text(alloc: Global, why: RouteRefused) -> Result<String, AllocError> {
-    match why {
-        RouteRefused::Unreadable { field } => format!(in alloc; "!{field}"),
-        why => format!(in alloc; "{why:?}"),
+/// What a plan does, or `!` and the field that can't be read, or another cause.
+fn plan_text(
+    alloc: Global,
+    planned: &Option<Result<Planned, RouteRefused>>,
+) -> Result<String, AllocError> {
+    match planned {
+        Some(Ok(planned)) => shown(alloc, &planned.action),
+        Some(Err(why)) => refusal_text(alloc, why),
+        None => String::from_str(alloc, "no request"),
     }
 }
 
 /// What a request of this method and target asks for, or why it asks for nothing.
-fn told(alloc: Global, routes: &Routes, line: &str, body: &str) -> Result<String, Fail> {
-    let line = format!(in alloc; "{line} HTTP/1.1")?;
-    let bytes = request(alloc, line.as_str(), body.as_bytes())?;
-    match plan_of_request(alloc, routes, bytes.as_slice()) {
-        Some(Ok(planned)) => Ok(planned_text(alloc, planned)?),
-        Some(Err(why)) => Ok(refusal_text(alloc, why)?),
-        None => Ok(String::from_str(alloc, "no request")?),
+fn told(alloc: Global, routes: &Routes, line: &str, body: &str) -> Result<String, AllocError> {
+    let bytes = request_of(alloc, line, body.as_bytes())?;
+    let planned = plan_of_request(alloc, routes, bytes.as_slice());
+    plan_text(alloc, &planned)
+}
+
+/// Fails unless a request without a body asks for this.
+fn check_path(alloc: Global, routes: &Routes, line: &str, expected: &str) -> Result<(), Fail> {
+    let text = told(alloc, routes, line, "")?;
+    check_text(text.as_str(), expected, line)
+}
+
+/// Fails unless each request, without a body, asks for what stands beside it.
+fn check_paths(alloc: Global, routes: &Routes, rows: &[(&str, &str)]) -> Result<(), Fail> {
+    for (line, expected) in rows {
+        check_path(alloc, routes, line, expected)?;
     }
+    Ok(())
 }
 
 #[test]
 fn paths_and_queries_are_read(rt: HostRuntime) -> Result<(), Fail> {
     let routes = Routes::new(rt.alloc())?;
-    for (line, expected) in PATHS {
-        let text = told(rt.alloc(), &routes, line, "")?;
-        assert_eq!(rt; text.as_str(), expected, "at {line}");
+    check_paths(rt.alloc(), &routes, &PATHS)
+}
+
+/// Fails unless a request with a body asks for this.
+fn check_body(
+    alloc: Global,
+    routes: &Routes,
+    line: &str,
+    body: &str,
+    expected: &str,
+) -> Result<(), Fail> {
+    let text = told(alloc, routes, line, body)?;
+    check_text(text.as_str(), expected, body)
+}
+
+/// Fails unless a request with each body asks for what stands beside it.
+fn check_bodies(
+    alloc: Global,
+    routes: &Routes,
+    line: &str,
+    rows: &[(&str, &str)],
+) -> Result<(), Fail> {
+    for (body, expected) in rows {
+        check_body(alloc, routes, line, body, expected)?;
     }
     Ok(())
+}
+
+/// Fails unless bodies are read, and paths before them.
+fn check_all_bodies(alloc: Global, routes: &Routes) -> Result<(), Fail> {
+    let line = "POST /api/catalog/v1/c/namespaces";
+    check_bodies(alloc, routes, line, &NEW_NAMESPACES)?;
+    let line = "POST /api/catalog/v1/c/namespaces/a/properties";
+    check_bodies(alloc, routes, line, &UPDATES)?;
+    let line = "POST /api/management/v1/catalogs";
+    check_bodies(alloc, routes, line, &NEW_CATALOGS)?;
+    let line = "POST /api/catalog/v1/c%20d/namespaces";
+    check_body(alloc, routes, line, "", "!path")?;
+    let line = "POST /api/catalog/v1/c/namespaces/%zz/properties";
+    check_body(alloc, routes, line, "[]", "!path")
 }
 
 #[test]
 fn bodies_are_read(rt: HostRuntime) -> Result<(), Fail> {
     let routes = Routes::new(rt.alloc())?;
-    let tables: [(&str, &[(&str, &str)]); 5] = [
-        ("POST /api/catalog/v1/c/namespaces", &NEW_NAMESPACES),
-        ("POST /api/catalog/v1/c/namespaces/a/properties", &UPDATES),
-        ("POST /api/management/v1/catalogs", &NEW_CATALOGS),
-        ("POST /api/catalog/v1/c%20d/namespaces", &[("", "!path")]),
-        (
-            "POST /api/catalog/v1/c/namespaces/%zz/properties",
-            &[("[]", "!path")],
-        ),
-    ];
-    for (line, rows) in tables {
-        for (body, expected) in rows {
-            let text = told(rt.alloc(), &routes, line, body)?;
-            assert_eq!(rt; text.as_str(), *expected, "at {line} with {body}");
-        }
-    }
-    Ok(())
+    check_all_bodies(rt.alloc(), &routes)
 }

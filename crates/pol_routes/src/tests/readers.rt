@@ -1,11 +1,14 @@
 //! The readers of segments, queries and bearers.
+use super::{check_text, refusal_text};
 use crate::{
     RouteRefused, caller_of, name_segment, namespace_segment, plain_segment, query_of, query_value,
     segment_at, segment_text,
 };
-use pol_http::{Next, next_message};
 use pol_commands::Caller;
+use pol_http::{Next, next_message};
+use pol_types::{OutOfMemory, Text};
 use std::alloc::{AllocError, Global};
+use std::fmt;
 use std::test::Fail;
 
 /// Segments with their texts, or `!path` where they are unreadable.
@@ -89,63 +92,125 @@ const BEARERS: [(&str, &str); 14] = [
 ];
 
 /// What was read, or `!` and the field that can't be.
-fn shown<T: std::fmt::Display + Drop>(
+fn shown<T: fmt::Display>(
     alloc: Global,
-    read: Result<T, RouteRefused>,
+    read: &Result<T, RouteRefused>,
 ) -> Result<String, AllocError> {
     match read {
         Ok(found) => format!(in alloc; "{found}"),
-        Err(RouteRefused::Unreadable { field }) => format!(in alloc; "!{field}"),
-        Err(why) => format!(in alloc; "{why:?}"),
+        Err(why) => refusal_text(alloc, why),
     }
+}
+
+fn shown_text(alloc: Global, segment: &[u8]) -> Result<String, AllocError> {
+    let read = segment_text(alloc, segment);
+    shown(alloc, &read)
+}
+
+fn shown_plain(alloc: Global, segment: &str) -> Result<String, AllocError> {
+    let read = plain_segment(alloc, segment.as_bytes());
+    shown(alloc, &read)
+}
+
+fn shown_name(alloc: Global, segment: &str) -> Result<String, AllocError> {
+    let read = name_segment(alloc, segment.as_bytes());
+    shown(alloc, &read)
+}
+
+fn shown_namespace(alloc: Global, segment: &str) -> Result<String, AllocError> {
+    let read = namespace_segment(alloc, segment.as_bytes());
+    shown(alloc, &read)
+}
+
+/// Fails unless a segment is read as this text.
+fn check_segment(alloc: Global, segment: &[u8], expected: &str) -> Result<(), Fail> {
+    let text = shown_text(alloc, segment)?;
+    check_text(text.as_str(), expected, "a segment")
+}
+
+/// Fails unless each segment is read as the text that stands beside it.
+fn check_segments(alloc: Global, rows: &[(&[u8], &str)]) -> Result<(), Fail> {
+    for (segment, expected) in rows {
+        check_segment(alloc, segment, expected)?;
+    }
+    Ok(())
 }
 
 #[test]
 fn segments_are_read_as_texts(rt: HostRuntime) -> Result<(), Fail> {
-    for (segment, expected) in SEGMENTS {
-        let text = shown(rt.alloc(), segment_text(rt.alloc(), segment))?;
-        assert_eq!(rt; text.as_str(), expected);
+    check_segments(rt.alloc(), &SEGMENTS)
+}
+
+/// Fails unless a segment is read as this plain name.
+fn check_plain(alloc: Global, segment: &str, expected: &str) -> Result<(), Fail> {
+    let text = shown_plain(alloc, segment)?;
+    check_text(text.as_str(), expected, segment)
+}
+
+/// Fails unless a segment is read as this name.
+fn check_name(alloc: Global, segment: &str, expected: &str) -> Result<(), Fail> {
+    let text = shown_name(alloc, segment)?;
+    check_text(text.as_str(), expected, segment)
+}
+
+/// Fails unless a segment is read as this namespace.
+fn check_namespace(alloc: Global, segment: &str, expected: &str) -> Result<(), Fail> {
+    let text = shown_namespace(alloc, segment)?;
+    check_text(text.as_str(), expected, segment)
+}
+
+/// Fails unless each segment is read as the plain name, the name and the namespace that stand beside it.
+fn check_names(alloc: Global, rows: &[(&str, &str, &str, &str)]) -> Result<(), Fail> {
+    for (segment, plain, name, namespace) in rows {
+        check_plain(alloc, segment, plain)?;
+        check_name(alloc, segment, name)?;
+        check_namespace(alloc, segment, namespace)?;
     }
     Ok(())
 }
 
 #[test]
 fn segments_are_read_as_names(rt: HostRuntime) -> Result<(), Fail> {
-    for (segment, plain, name, namespace) in NAMES {
-        let text = shown(rt.alloc(), plain_segment(rt.alloc(), segment.as_bytes()))?;
-        assert_eq!(rt; text.as_str(), plain, "at {segment}");
-        let text = shown(rt.alloc(), name_segment(rt.alloc(), segment.as_bytes()))?;
-        assert_eq!(rt; text.as_str(), name, "at {segment}");
-        let text = shown(
-            rt.alloc(),
-            namespace_segment(rt.alloc(), segment.as_bytes()),
-        )?;
-        assert_eq!(rt; text.as_str(), namespace, "at {segment}");
+    check_names(rt.alloc(), &NAMES)
+}
+
+/// A text with so many others behind it.
+fn followed(alloc: Global, first: &str, more: &str, count: usize) -> Result<String, AllocError> {
+    let mut text = String::from_str(alloc, first)?;
+    for _ in 0..count {
+        text.push_str(more)?;
     }
-    Ok(())
+    Ok(text)
+}
+
+/// Fails unless a name of 128 bytes is read as itself.
+fn check_longest_name(alloc: Global) -> Result<(), Fail> {
+    let name = followed(alloc, "", "a", 128)?;
+    check_plain(alloc, name.as_str(), name.as_str())
+}
+
+/// Fails unless a name of 129 bytes is refused.
+fn check_longer_name(alloc: Global) -> Result<(), Fail> {
+    let name = followed(alloc, "", "a", 129)?;
+    check_plain(alloc, name.as_str(), "!path")
 }
 
 #[test]
-fn names_and_namespaces_have_bounds(rt: HostRuntime) -> Result<(), Fail> {
-    let mut name = String::new(rt.alloc());
-    for _ in 0..128 {
-        name.push_str("a")?;
-    }
-    let text = shown(rt.alloc(), plain_segment(rt.alloc(), name.as_bytes()))?;
-    assert_eq!(rt; text.as_str(), name.as_str());
-    name.push_str("a")?;
-    let text = shown(rt.alloc(), plain_segment(rt.alloc(), name.as_bytes()))?;
-    assert_eq!(rt; text.as_str(), "!path");
-    let mut levels = String::from_str(rt.alloc(), "1")?;
-    for _ in 1..16 {
-        levels.push_str("%1F1")?;
-    }
-    let text = shown(rt.alloc(), namespace_segment(rt.alloc(), levels.as_bytes()))?;
-    assert_eq!(rt; text.as_str(), "1.1.1.1.1.1.1.1.1.1.1.1.1.1.1.1");
-    levels.push_str("%1F1")?;
-    let text = shown(rt.alloc(), namespace_segment(rt.alloc(), levels.as_bytes()))?;
-    assert_eq!(rt; text.as_str(), "!path");
-    Ok(())
+fn names_have_a_bound(rt: HostRuntime) -> Result<(), Fail> {
+    check_longest_name(rt.alloc())?;
+    check_longer_name(rt.alloc())
+}
+
+/// Fails unless the namespace with one level and so many more is read as this.
+fn check_levels(alloc: Global, more: usize, expected: &str) -> Result<(), Fail> {
+    let levels = followed(alloc, "1", "%1F1", more)?;
+    check_namespace(alloc, levels.as_str(), expected)
+}
+
+#[test]
+fn namespaces_have_a_bound(rt: HostRuntime) -> Result<(), Fail> {
+    check_levels(rt.alloc(), 15, "1.1.1.1.1.1.1.1.1.1.1.1.1.1.1.1")?;
+    check_levels(rt.alloc(), 16, "!path")
 }
 
 #[test]
@@ -167,22 +232,45 @@ fn segments_are_counted_by_slashes(rt: HostRuntime) {
     }
 }
 
-/// The value of a key of a query, `-` where there is none.
-fn shown_value(alloc: Global, query: &str, key: &str) -> Result<String, AllocError> {
-    match query_value(alloc, query.as_bytes(), key) {
+/// The value that was read, `-` where there is none, or `!` and the field that can't be read.
+fn shown_value(
+    alloc: Global,
+    read: &Result<Option<Text>, RouteRefused>,
+) -> Result<String, AllocError> {
+    match read {
         Ok(Some(value)) => format!(in alloc; "{value}"),
         Ok(None) => String::from_str(alloc, "-"),
-        Err(RouteRefused::Unreadable { field }) => format!(in alloc; "!{field}"),
-        Err(why) => format!(in alloc; "{why:?}"),
+        Err(why) => refusal_text(alloc, why),
     }
+}
+
+/// The value of a key of a query, as it is shown.
+fn value_of(alloc: Global, query: &str, key: &str) -> Result<String, AllocError> {
+    let read = query_value(alloc, query.as_bytes(), key);
+    shown_value(alloc, &read)
+}
+
+/// Fails unless a key of a query has this value.
+fn check_value(alloc: Global, query: &str, key: &str, expected: &str) -> Result<(), Fail> {
+    let text = value_of(alloc, query, key)?;
+    check_text(text.as_str(), expected, query)
+}
+
+/// Fails unless each key of a query has the value that stands beside it.
+fn check_values(alloc: Global, rows: &[(&str, &str, &str)]) -> Result<(), Fail> {
+    for (query, key, expected) in rows {
+        check_value(alloc, query, key, expected)?;
+    }
+    Ok(())
 }
 
 #[test]
 fn queries_are_read_by_their_keys(rt: HostRuntime) -> Result<(), Fail> {
-    for (query, key, expected) in QUERIES {
-        let text = shown_value(rt.alloc(), query, key)?;
-        assert_eq!(rt; text.as_str(), expected, "at {key} of {query}");
-    }
+    check_values(rt.alloc(), &QUERIES)
+}
+
+#[test]
+fn queries_stand_behind_the_first_question_mark(rt: HostRuntime) {
     let targets: [(&[u8], &[u8]); 4] = [
         (b"/x", b""),
         (b"/x?", b""),
@@ -192,13 +280,12 @@ fn queries_are_read_by_their_keys(rt: HostRuntime) -> Result<(), Fail> {
     for (target, expected) in targets {
         assert!(rt; query_of(target) == expected);
     }
-    Ok(())
 }
 
 /// The caller of the request that the bytes begin with.
-fn caller_of_request(alloc: Global, bytes: &[u8]) -> Result<Caller, Fail> {
+fn caller_of_request(alloc: Global, bytes: &[u8]) -> Result<Caller, OutOfMemory> {
     match next_message(bytes) {
-        Next::Whole { head, .. } => Ok(caller_of(alloc, bytes, &head)?),
+        Next::Whole { head, .. } => caller_of(alloc, bytes, &head),
         Next::Continue { .. } | Next::Partial | Next::Refused(_) => Ok(Caller::Setup),
     }
 }
@@ -212,13 +299,30 @@ fn shown_caller(alloc: Global, caller: &Caller) -> Result<String, AllocError> {
     }
 }
 
-#[test]
-fn callers_are_read_by_the_first_authorization_field(rt: HostRuntime) -> Result<(), Fail> {
-    for (fields, expected) in BEARERS {
-        let bytes = format!(in rt.alloc(); "GET / HTTP/1.1\r\n{fields}\r\n")?;
-        let caller = caller_of_request(rt.alloc(), bytes.as_bytes())?;
-        let text = shown_caller(rt.alloc(), &caller)?;
-        assert_eq!(rt; text.as_str(), expected, "at {fields}");
+/// The text of the bearer of a request with these field lines, as it is shown.
+fn bearer_of(alloc: Global, fields: &str) -> Result<String, Fail> {
+    let bytes = format!(in alloc; "GET / HTTP/1.1\r\n{fields}\r\n")?;
+    let caller = caller_of_request(alloc, bytes.as_bytes())?;
+    let text = shown_caller(alloc, &caller);
+    drop(caller);
+    Ok(text?)
+}
+
+/// Fails unless a request with these field lines has that bearer.
+fn check_bearer(alloc: Global, fields: &str, expected: &str) -> Result<(), Fail> {
+    let text = bearer_of(alloc, fields)?;
+    check_text(text.as_str(), expected, fields)
+}
+
+/// Fails unless a request with each of the field lines has the bearer that stands beside them.
+fn check_bearers(alloc: Global, rows: &[(&str, &str)]) -> Result<(), Fail> {
+    for (fields, expected) in rows {
+        check_bearer(alloc, fields, expected)?;
     }
     Ok(())
+}
+
+#[test]
+fn callers_are_read_by_the_first_authorization_field(rt: HostRuntime) -> Result<(), Fail> {
+    check_bearers(rt.alloc(), &BEARERS)
 }

@@ -1,7 +1,8 @@
 //! Requests of each method and path, and of others.
-use super::{plan_of_request, request};
-use crate::{Routes, refusal_answer};
-use std::alloc::Global;
+use super::{check_text, plan_of_request, refusal_text, request_of};
+use crate::{Endpoint, Planned, RouteRefused, Routes, refusal_answer};
+use pol_types::OutOfMemory;
+use std::alloc::{AllocError, Global};
 use std::test::Fail;
 
 /// A request of each row of the table, without a body, what it asks for, and the status of the answer to it, or 0
@@ -293,35 +294,84 @@ const STATUSES: [(&str, u16); 65] = [
     ),
 ];
 
-/// The status of the answer to a request of this method and target, or 0 where it has a plan.
-fn status(alloc: Global, routes: &Routes, line: &str) -> Result<u16, Fail> {
-    let line = format!(in alloc; "{line} HTTP/1.1")?;
-    let bytes = request(alloc, line.as_str(), b"")?;
-    match plan_of_request(alloc, routes, bytes.as_slice()) {
-        Some(Err(why)) => Ok(refusal_answer(alloc, &why)?.status),
+/// The status of the answer to a refused request.
+fn refused_status(alloc: Global, why: &RouteRefused) -> Result<u16, OutOfMemory> {
+    let answer = refusal_answer(alloc, why)?;
+    Ok(answer.status)
+}
+
+/// The status of the answer where there is no plan, or 0.
+fn status_told(
+    alloc: Global,
+    planned: &Option<Result<Planned, RouteRefused>>,
+) -> Result<u16, OutOfMemory> {
+    match planned {
+        Some(Err(why)) => refused_status(alloc, why),
         Some(Ok(_)) | None => Ok(0),
     }
 }
 
+/// The status of the answer to a request of this method and target, or 0 where it has a plan.
+fn status(alloc: Global, routes: &Routes, line: &str) -> Result<u16, OutOfMemory> {
+    let bytes = request_of(alloc, line, b"")?;
+    let planned = plan_of_request(alloc, routes, bytes.as_slice());
+    status_told(alloc, &planned)
+}
+
+/// Fails unless the answer to a request has this status, or it has a plan and the status is 0.
+fn check_status(alloc: Global, routes: &Routes, line: &str, expected: u16) -> Result<(), Fail> {
+    let status = status(alloc, routes, line)?;
+    if status == expected {
+        return Ok(());
+    }
+    Err(Fail::new(format_args!("{status} in the place of {expected}, at {line}")))
+}
+
+/// What is asked for, or why nothing is.
+fn endpoint_text(
+    alloc: Global,
+    found: &Result<Endpoint, RouteRefused>,
+) -> Result<String, AllocError> {
+    match found {
+        Ok(endpoint) => format!(in alloc; "{endpoint:?}"),
+        Err(why) => refusal_text(alloc, why),
+    }
+}
+
 /// What a request of this method and target asks for, or why it asks for nothing.
-fn endpoint(alloc: Global, routes: &Routes, line: &str) -> Result<String, Fail> {
+fn endpoint(alloc: Global, routes: &Routes, line: &str) -> Result<String, AllocError> {
     let Some((method, target)) = line.split_once(" ") else {
         return Ok(String::new(alloc));
     };
-    match routes.endpoint(method.as_bytes(), target) {
-        Ok(endpoint) => Ok(format!(in alloc; "{endpoint:?}")?),
-        Err(why) => Ok(format!(in alloc; "{why:?}")?),
+    let found = routes.endpoint(method.as_bytes(), target);
+    endpoint_text(alloc, &found)
+}
+
+/// Fails unless a request asks for this.
+fn check_endpoint(alloc: Global, routes: &Routes, line: &str, expected: &str) -> Result<(), Fail> {
+    let text = endpoint(alloc, routes, line)?;
+    check_text(text.as_str(), expected, line)
+}
+
+/// Fails unless each request asks for what stands beside it, and has the status of its answer.
+fn check_asked(alloc: Global, routes: &Routes, rows: &[(&str, &str, u16)]) -> Result<(), Fail> {
+    for (line, asked, expected) in rows {
+        check_endpoint(alloc, routes, line, asked)?;
+        check_status(alloc, routes, line, *expected)?;
     }
+    Ok(())
 }
 
 #[test]
 fn each_method_of_each_path_is_asked_for(rt: HostRuntime) -> Result<(), Fail> {
     let routes = Routes::new(rt.alloc())?;
-    for (line, asked, expected) in ASKED {
-        let text = endpoint(rt.alloc(), &routes, line)?;
-        assert_eq!(rt; text.as_str(), asked, "at {line}");
-        let status = status(rt.alloc(), &routes, line)?;
-        assert_eq!(rt; status, expected, "at {line}");
+    check_asked(rt.alloc(), &routes, &ASKED)
+}
+
+/// Fails unless the answer to each request has the status that stands beside it.
+fn check_statuses(alloc: Global, routes: &Routes, rows: &[(&str, u16)]) -> Result<(), Fail> {
+    for (line, expected) in rows {
+        check_status(alloc, routes, line, *expected)?;
     }
     Ok(())
 }
@@ -329,9 +379,5 @@ fn each_method_of_each_path_is_asked_for(rt: HostRuntime) -> Result<(), Fail> {
 #[test]
 fn other_requests_are_told_apart(rt: HostRuntime) -> Result<(), Fail> {
     let routes = Routes::new(rt.alloc())?;
-    for (line, expected) in STATUSES {
-        let status = status(rt.alloc(), &routes, line)?;
-        assert_eq!(rt; status, expected, "at {line}");
-    }
-    Ok(())
+    check_statuses(rt.alloc(), &routes, &STATUSES)
 }
