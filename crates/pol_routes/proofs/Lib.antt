@@ -2,12 +2,16 @@ pub mod BodyLemmas
 pub mod FieldLemmas
 pub mod HeadLemmas
 pub mod JsonLemmas
+pub mod ManagementBodyLemmas
+pub mod ManagementLemmas
 pub mod PlanLemmas
+pub mod ProperLemmas
 pub mod QueryLemmas
 pub mod RefusedLemmas
-pub mod RequestLemmas
 pub mod RouteLemmas
 pub mod ScopeLemmas
 pub mod SegmentLemmas
 pub mod TargetLemmas
 pub mod TokenLemmas
+pub mod ToldLemmas
+pub mod UnreadLemmas
