@@ -3,6 +3,7 @@ pub mod FieldLemmas
 pub mod HeadLemmas
 pub mod JsonLemmas
 pub mod ManagementBodyLemmas
+pub mod ManagementJsonLemmas
 pub mod ManagementLemmas
 pub mod PlanLemmas
 pub mod ProperLemmas

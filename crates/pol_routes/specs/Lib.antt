@@ -8,6 +8,7 @@ pub mod Laws
 pub mod Management
 pub mod ManagementBodies
 pub mod ManagementGrammars
+pub mod ManagementJson
 pub mod Plan
 pub mod Query
 pub mod Refusals

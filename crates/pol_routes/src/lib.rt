@@ -10,6 +10,7 @@ mod json;
 pub mod laws;
 mod management;
 mod management_bodies;
+mod management_json;
 mod plans;
 mod query;
 mod refusals;
