@@ -3,7 +3,7 @@ use Rattle.std.specs.Prelude.{ℕ, Bool, true, false, List, codes}
 use Rattle.pol_commands.specs.declared.reply.OptionName.{OptionName}
 use Rattle.pol_commands.specs.declared.reply.OptionName.TheVariants as option
 use Rattle.pol_commands.specs.declared.reply.Quantity.{Quantity}
-use Rattle.pol_commands.specs.declared.reply.Quantity.TheVariants.{Catalogs, CatalogRoles, Joins, Grants, Namespaces, AllowedLocations, Properties, NextId, NextSerial}
+use Rattle.pol_commands.specs.declared.reply.Quantity.TheVariants.{Catalogs, Principals, PrincipalRoles, CatalogRoles, Members, Joins, Grants, Namespaces, AllowedLocations, Properties, NextId, NextSerial}
 use Rattle.pol_commands.specs.declared.reply.Refusal.{Refusal}
 use Rattle.pol_commands.specs.declared.reply.Refusal.TheVariants.{RunFull}
 use Rattle.pol_commands.specs.declared.reply.Reply.{Reply}
@@ -16,7 +16,10 @@ option_text option.Type = codes "type"
 -- the name of a quantity
 abbrev pub quantity_text : Quantity → List ℕ
 quantity_text Catalogs = codes "catalogues"
+quantity_text Principals = codes "principals"
+quantity_text PrincipalRoles = codes "principal roles"
 quantity_text CatalogRoles = codes "catalogue roles"
+quantity_text Members = codes "members"
 quantity_text Joins = codes "joins"
 quantity_text Grants = codes "grants"
 quantity_text Namespaces = codes "namespaces"

@@ -1,3 +1,4 @@
+use crate::Grant;
 use pol_names::{Namespace, Plain};
 use pol_properties::Properties;
 use pol_types::{Bytes, Listed, Text};
@@ -30,7 +31,8 @@ pub struct Words4 {
     pub d: u64,
 }
 
-/// What is to be done. A catalogue is named by its name, a namespace by its levels within its catalogue.
+/// What is to be done. Catalogues, principals and roles are named by their names, a namespace by its levels within its
+/// catalogue.
 #[derive(Debug, Drop)]
 pub enum Action {
     /// Opens a session for the principal of a client id, by its secret. A scope is `PRINCIPAL_ROLE:ALL`, or
@@ -96,5 +98,108 @@ pub enum Action {
         namespace: Namespace,
         removals: Listed<Text>,
         updates: Properties,
+    },
+    /// Lists all principals.
+    ListPrincipals,
+    /// Creates a principal with a client id and a secret. Where one isn't given, it is drawn: a client id is the 16
+    /// hexadecimal digits of the first word, and a secret the 32 of the two words after it.
+    CreatePrincipal {
+        name: Plain,
+        client_id: Option<Text>,
+        secret: Option<Text>,
+    },
+    /// Shows a principal.
+    GetPrincipal {
+        name: Plain,
+    },
+    /// Drops a principal with its memberships.
+    DropPrincipal {
+        name: Plain,
+    },
+    /// Gives a principal another secret. Where none is given, it is the 32 hexadecimal digits of the first two words.
+    Rotate {
+        name: Plain,
+        secret: Option<Text>,
+    },
+    /// Lists the principal roles of which a principal is a member.
+    ListMembers {
+        principal: Plain,
+    },
+    /// Makes a principal a member of a principal role.
+    AddMember {
+        principal: Plain,
+        role: Plain,
+    },
+    /// Ends a principal's membership in a principal role.
+    EndMember {
+        principal: Plain,
+        role: Plain,
+    },
+    /// Lists all principal roles.
+    ListPrincipalRoles,
+    /// Creates a principal role.
+    CreatePrincipalRole {
+        name: Plain,
+    },
+    /// Shows a principal role.
+    GetPrincipalRole {
+        name: Plain,
+    },
+    /// Drops a principal role with its members and joins.
+    DropPrincipalRole {
+        name: Plain,
+    },
+    /// Lists the roles of a catalogue to which a principal role is joined.
+    ListJoins {
+        catalog: Plain,
+        role: Plain,
+    },
+    /// Joins a principal role to a role of a catalogue.
+    AddJoin {
+        catalog: Plain,
+        role: Plain,
+        catalog_role: Plain,
+    },
+    /// Ends the join of a principal role to a role of a catalogue.
+    EndJoin {
+        catalog: Plain,
+        role: Plain,
+        catalog_role: Plain,
+    },
+    /// Lists the roles of a catalogue.
+    ListCatalogRoles {
+        catalog: Plain,
+    },
+    /// Creates a role of a catalogue.
+    CreateCatalogRole {
+        catalog: Plain,
+        name: Plain,
+    },
+    /// Shows a role of a catalogue.
+    GetCatalogRole {
+        catalog: Plain,
+        name: Plain,
+    },
+    /// Drops a role of a catalogue with its joins and grants.
+    DropCatalogRole {
+        catalog: Plain,
+        name: Plain,
+    },
+    /// Lists the grants of a catalogue's role.
+    ListGrants {
+        catalog: Plain,
+        role: Plain,
+    },
+    /// Grants a privilege on a securable of a catalogue to one of its roles.
+    AddGrant {
+        catalog: Plain,
+        role: Plain,
+        grant: Grant,
+    },
+    /// Revokes such a grant.
+    Revoke {
+        catalog: Plain,
+        role: Plain,
+        grant: Grant,
     },
 }

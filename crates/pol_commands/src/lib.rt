@@ -2,11 +2,13 @@
 #![tactic(auto)]
 
 mod command;
+mod grants;
 mod reply;
 mod securables;
 #[cfg(test)]
 mod tests;
 
 pub use command::{Action, Caller, Command, Words4};
+pub use grants::{Grant, GrantedOn};
 pub use reply::{Answer, OptionName, Quantity, Refusal, Reply};
 pub use securables::SecurableName;

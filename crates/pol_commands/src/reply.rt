@@ -1,11 +1,11 @@
 ghost use Rattle.std.specs.Prelude.{◌≡◌, Some};
 ghost use Rattle.pol_commands.specs.Reply.{is_run_full, option_text, quantity_text};
 
-use crate::SecurableName;
-use pol_access::Privilege;
+use crate::{Grant, SecurableName};
+use pol_access::{PrincipalRow, Privilege};
 use pol_content::CatalogRow;
 use pol_locations::LocationRefused;
-use pol_names::{Namespace, Plain};
+use pol_names::{Identifier, Namespace, Plain};
 use pol_properties::Properties;
 use pol_types::{Listed, Text};
 use std::fmt;
@@ -70,6 +70,48 @@ pub enum Answer {
         removed: Listed<Text>,
         updated: Listed<Text>,
     },
+    /// All principals, in byte order of their names.
+    PrincipalsListed(Listed<PrincipalRow>),
+    /// This principal was created, with this secret.
+    PrincipalCreated {
+        name: Plain,
+        client_id: Text,
+        secret: Text,
+    },
+    /// This principal was asked for.
+    PrincipalLoaded(PrincipalRow),
+    /// A principal was dropped.
+    PrincipalDropped,
+    /// This principal has this secret from now on.
+    SecretRotated {
+        name: Plain,
+        client_id: Text,
+        secret: Text,
+    },
+    /// The names of the roles that were asked for, in byte order: principal roles or roles of a catalogue.
+    RolesListed(Listed<Plain>),
+    /// A role was created.
+    RoleCreated,
+    /// The role of this name was asked for.
+    RoleLoaded {
+        name: Plain,
+    },
+    /// A role was dropped.
+    RoleDropped,
+    /// A principal is a member of a role.
+    MemberAdded,
+    /// A principal's membership in a role has ended.
+    MemberEnded,
+    /// A principal role is joined to a role of a catalogue.
+    JoinAdded,
+    /// A join has ended.
+    JoinEnded,
+    /// The grants of a role, in the order of their rows.
+    GrantsListed(Listed<Grant>),
+    /// A role has a grant.
+    GrantAdded,
+    /// A grant was revoked.
+    GrantRevoked,
 }
 
 /// Why a command is refused.
@@ -99,7 +141,20 @@ pub enum Refusal {
     NoNamespace {
         namespace: Namespace,
     },
-    /// The new name is taken.
+    /// The named table isn't there.
+    NoTable {
+        identifier: Identifier,
+    },
+    /// The named view isn't there.
+    NoView {
+        identifier: Identifier,
+    },
+    /// A principal or a role of this name that must be there isn't; or the role to which a membership or a join that
+    /// is to end would lead, or the privilege of a grant that is to be revoked, where there is no such row.
+    NoSuchRole {
+        name: Text,
+    },
+    /// The new name, or the new client id, is taken.
     NameTaken {
         name: Text,
     },
@@ -125,6 +180,10 @@ pub enum Refusal {
         quantity: Quantity,
         bound: u64,
     },
+    /// The change would break the access that `root` always has; it is told by the name of what is kept.
+    Reserved {
+        name: Text,
+    },
 }
 
 /// An option of a request that isn't supported.
@@ -148,7 +207,10 @@ impl fmt::Display for OptionName {
 #[derive(Clone, Copy, Debug, PartialEq, Eq)]
 pub enum Quantity {
     Catalogs,
+    Principals,
+    PrincipalRoles,
     CatalogRoles,
+    Members,
     Joins,
     Grants,
     Namespaces,
@@ -164,7 +226,10 @@ impl fmt::Display for Quantity {
     fn fmt<W: fmt::Write>(&self, f: &mut fmt::Formatter<W>) -> fmt::Result {
         f.write_str(match self {
             Quantity::Catalogs => "catalogues",
+            Quantity::Principals => "principals",
+            Quantity::PrincipalRoles => "principal roles",
             Quantity::CatalogRoles => "catalogue roles",
+            Quantity::Members => "members",
             Quantity::Joins => "joins",
             Quantity::Grants => "grants",
             Quantity::Namespaces => "namespaces",

@@ -13,11 +13,11 @@ use Rattle.pol_routes.specs.Bodies as form
 use Rattle.pol_routes.specs.Bodies.{base_key, given, listed, is_external, allowed_by, properties_of}
 use Rattle.pol_routes.specs.BodyGrammars.{IsPlainText, IsLevels, IsTextMap, IsNewNamespace, IsPropertyUpdates, IsBasedProperties, IsStorage, IsNewCatalog, IsCatalogBody}
 
-none_told : {A : Type 0} (o : Option A) → is_none o ≡ true → o ≡ None
+pub none_told : {A : Type 0} (o : Option A) → is_none o ≡ true → o ≡ None
 none_told None is = refl
 none_told (Some value) is = absurd (cc)
 
-none_is : {A : Type 0} (o : Option A) → o ≡ None → is_none o ≡ true
+pub none_is : {A : Type 0} (o : Option A) → o ≡ None → is_none o ≡ true
 none_is o is = rw is refl
 
 pub plain_names_exact : Exact form.plain_name IsPlainText

@@ -1,28 +1,23 @@
 -- No plan is want of memory.
-use Rattle.std.proofs.Common.{◌≢◌, ℕ, List, Bool, true, false, cond, Option, Some, None, Result, Ok, Err, codes}
+use Rattle.std.proofs.Common.{◌≢◌, ℕ, List, Bool, true, false, cond, Option, Some, None, Result, Ok, Err}
 use Rattle.form_urlencoded.specs.Form.{parse}
 use Rattle.pol_http.specs.Message.{Message}
 use Rattle.pol_routes.specs.declared.plans.Planned.{Planned}
 use Rattle.pol_routes.specs.declared.plans.RouteRefused.{RouteRefused}
-use Rattle.pol_routes.specs.declared.plans.RouteRefused.TheVariants.{InvalidRequest, GrantType, Unreadable, OutOfMemory}
+use Rattle.pol_routes.specs.declared.plans.RouteRefused.TheVariants.{InvalidRequest, GrantType, OutOfMemory}
 use Rattle.pol_routes.specs.declared.token_form.TokenForm.{TokenForm}
 use Rattle.pol_routes.specs.declared.table.Endpoint.{Endpoint}
 use Rattle.pol_routes.specs.declared.table.Endpoint.TheVariants.{OpenSession as OpensSession, GetConfig, ListNamespaces, CreateNamespace, LoadNamespace, HeadNamespace, DropNamespace, UpdateProperties, ListCatalogs, CreateCatalog, GetCatalog, DropCatalog}
 use Rattle.pol_commands.specs.declared.command.Caller.{Caller}
-use Rattle.pol_readers.specs.Reading.{Reading}
+use Rattle.pol_routes.proofs.ManagementLemmas.{management_told}
+use Rattle.pol_routes.proofs.ToldLemmas.{IsTold, body_told, done_told, if_told, namespace_segment_told, namespace_told, plain_segment_told, plain_told, read_told, unreadable_told}
 use Rattle.pol_routes.specs.Query.{query_value, readable}
-use Rattle.pol_routes.specs.Refused.{read_on}
-use Rattle.pol_routes.specs.Requests.{action_of, body_of, warehouse_of, parent_of, namespace_path, get_config, list_namespaces, create_namespace, load_namespace, head_namespace, drop_namespace, update_properties, create_catalog, get_catalog, drop_catalog}
-use Rattle.pol_routes.specs.Segment.{segment_text, plain_of, namespace_of, plain_segment, namespace_segment}
+use Rattle.pol_routes.specs.Requests.{action_of, warehouse_of, parent_of, namespace_path, get_config, list_namespaces, create_namespace, load_namespace, head_namespace, drop_namespace, update_properties, create_catalog, get_catalog, drop_catalog}
 use Rattle.pol_routes.specs.Plan.{plan_of_form, action_plan, token_plan, endpoint_plan, plan_by, plan_of}
 use Rattle.pol_routes.specs.Route.{of_method, of_path, path_found, endpoint_at, endpoint_of}
 use Rattle.pol_routes.specs.Table.{table}
 use Rattle.pol_routes.specs.Target.{path_of}
 use Rattle.pol_routes.specs.TokenForm.{token_form}
-
--- the result is no want of memory
-abbrev IsTold : {A : Type 0} → Result A RouteRefused → Type 0
-IsTold result = result ≢ Err OutOfMemory
 
 either_told : (b : Bool) (first second : Result Planned RouteRefused) → IsTold first → IsTold second → IsTold (cond b first second)
 either_told true first second told other = told
@@ -51,39 +46,6 @@ route_told method path = path_found_told (path_found path)
     path_found_told None is = absurd (cc)
     path_found_told (Some place) is = method_told (endpoint_at method place table) is
 
-read_told : {A B : Type 0} (next : A → Result B RouteRefused) (expected : Result A RouteRefused) → ((found : A) → next found ≢ Err OutOfMemory) → expected ≢ Err OutOfMemory → read_on next expected ≢ Err OutOfMemory
-read_told next (Ok found) nexts told is = nexts found is
-read_told next (Err why) nexts told is = told (cc)
-
-done_told : {A : Type 0} (found : A) → IsTold (Ok found)
-done_told found is = absurd (cc)
-
-unreadable_told : {A : Type 0} (field : List ℕ) → IsTold {A = A} (Err (Unreadable field))
-unreadable_told field is = absurd (cc)
-
-if_told : {A : Type 0} (b : Bool) (first second : Result A RouteRefused) → first ≢ Err OutOfMemory → second ≢ Err OutOfMemory → cond b first second ≢ Err OutOfMemory
-if_told true first second told other = told
-if_told false first second told other = other
-
--- no segment, value of a query and body is want of memory
-segment_told : (segment : List ℕ) → segment_text segment ≢ Err OutOfMemory
-unfolding segment_text
-segment_told segment = if_told _ _ _ (done_told _) (unreadable_told _)
-
-plain_told : (field text : List ℕ) → plain_of field text ≢ Err OutOfMemory
-unfolding plain_of
-plain_told field text = if_told _ _ _ (done_told _) (unreadable_told _)
-
-namespace_told : (field text : List ℕ) → namespace_of field text ≢ Err OutOfMemory
-unfolding namespace_of
-namespace_told field text = if_told _ _ _ (done_told _) (unreadable_told _)
-
-plain_segment_told : (segment : List ℕ) → plain_segment segment ≢ Err OutOfMemory
-plain_segment_told segment = read_told _ _ (plain_told (codes "path")) (segment_told segment)
-
-namespace_segment_told : (segment : List ℕ) → namespace_segment segment ≢ Err OutOfMemory
-namespace_segment_told segment = read_told _ _ (namespace_told (codes "path")) (segment_told segment)
-
 value_told : (key : List ℕ) (value : Option (List ℕ)) → readable key value ≢ Err OutOfMemory
 unfolding readable
 value_told key None = done_told _
@@ -91,11 +53,6 @@ value_told key (Some value) = if_told _ _ _ (done_told _) (unreadable_told _)
 
 query_told : (key query : List ℕ) → query_value key query ≢ Err OutOfMemory
 query_told key query = value_told key _
-
-body_told : {A : Type 0} (reading : Reading A) → body_of reading ≢ Err OutOfMemory
-unfolding body_of
-body_told (Ok read) = done_told _
-body_told (Err path) = unreadable_told _
 
 warehouse_told : (value : Option (List ℕ)) → warehouse_of value ≢ Err OutOfMemory
 unfolding warehouse_of
@@ -126,7 +83,7 @@ action_told target bytes ListCatalogs = done_told _
 action_told target bytes CreateCatalog = read_told _ _ (λ read. done_told _) (body_told _)
 action_told target bytes GetCatalog = read_told _ _ (λ catalog. done_told _) (plain_segment_told _)
 action_told target bytes DropCatalog = read_told _ _ (λ catalog. done_told _) (plain_segment_told _)
-action_told target bytes _ = λ is. absurd (cc)
+action_told target bytes endpoint = management_told (path_of target) bytes endpoint
 
 planned_action_told : (charge : ℕ) (caller : Caller) (target body : List ℕ) (endpoint : Endpoint) → IsTold (action_plan charge caller target body endpoint)
 unfolding action_plan

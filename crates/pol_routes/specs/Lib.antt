@@ -1,9 +1,14 @@
 pub mod Bearer
 pub mod Bodies
+pub mod Body
 pub mod BodyGrammars
 pub mod Form
 pub mod Json
 pub mod Laws
+pub mod Management
+pub mod ManagementBodies
+pub mod ManagementGrammars
+pub mod ManagementJson
 pub mod Plan
 pub mod Query
 pub mod Refusals

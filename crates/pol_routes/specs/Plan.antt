@@ -14,7 +14,7 @@ use Rattle.pol_routes.specs.declared.plans.RouteRefused.{RouteRefused}
 use Rattle.pol_routes.specs.declared.plans.RouteRefused.TheVariants.{InvalidRequest, GrantType}
 use Rattle.pol_routes.specs.declared.plans.TheConstants.{REQUEST_CHARGE}
 use Rattle.pol_routes.specs.declared.table.Endpoint.{Endpoint}
-use Rattle.pol_routes.specs.declared.table.Endpoint.TheVariants.{OpenSession as OpensSession}
+use Rattle.pol_routes.specs.declared.table.Endpoint.TheVariants.{OpenSession as OpensSession, CreatePrincipal, Rotate}
 use Rattle.pol_routes.specs.declared.token_form.TokenForm.{TokenForm}
 use Rattle.pol_routes.specs.Bearer.{caller_of}
 use Rattle.pol_routes.specs.Refused.{read_on}
@@ -44,10 +44,17 @@ plan_of_form charge (Some form) = session_plan charge form
 unfoldable pub token_plan : ℕ → List ℕ → Result Planned RouteRefused
 token_plan charge body = plan_of_form charge (token_form (parse body))
 
--- the plan of a request that needs no random words
+-- how many random words a request needs: a new principal's client id is made of one and its secret of two, as is
+-- another secret
+abbrev pub words_of : Endpoint → ℕ
+words_of CreatePrincipal = 3
+words_of Rotate = 2
+words_of other = 0
+
+-- the plan of a request for an action other than opening a session
 unfoldable pub action_plan : ℕ → Caller → List ℕ → List ℕ → Endpoint → Result Planned RouteRefused
 action_plan charge caller target body endpoint =
-    read_on (λ action. Ok (record { caller = caller; action = action; words = 0; charge = charge })) (action_of target body endpoint)
+    read_on (λ action. Ok (record { caller = caller; action = action; words = words_of endpoint; charge = charge })) (action_of target body endpoint)
 
 -- the plan of a request with that charge, caller, target and body, by what it asks for; a token request is nobody's
 abbrev pub endpoint_plan : ℕ → Caller → List ℕ → List ℕ → Endpoint → Result Planned RouteRefused

@@ -1,12 +1,13 @@
 -- The status, the message and the type of each refusal of a command.
-use Rattle.std.specs.Prelude.{ℕ, List, ◌++◌, Option, Some, None, decimal, codes}
+use Rattle.std.specs.Prelude.{ℕ, List, ◌∷◌, ◌++◌, Option, Some, None, decimal, codes}
 use Rattle.pol_locations.specs.LocationRefused.{word_of}
 use Rattle.pol_commands.specs.declared.reply.Refusal.{Refusal}
-use Rattle.pol_commands.specs.declared.reply.Refusal.TheVariants.{RunFull, InvalidClient, InvalidScope, Unauthenticated, NoCatalogue, Forbidden, NoNamespace, NameTaken, NotEmpty, KeyTwice, BadLocation, Unsupported, Limit}
+use Rattle.pol_commands.specs.declared.reply.Refusal.TheVariants.{RunFull, InvalidClient, InvalidScope, Unauthenticated, NoCatalogue, Forbidden, NoNamespace, NoTable, NoView, NoSuchRole, NameTaken, NotEmpty, KeyTwice, BadLocation, Unsupported, Limit, Reserved}
 use Rattle.pol_access.specs.Privilege.{text_of}
 use Rattle.pol_commands.specs.Reply.{option_text, quantity_text}
 use Rattle.pol_commands.specs.Securables.{securable_text}
 use Rattle.pol_names.specs.Namespace.{dotted}
+use Rattle.pol_names.specs.declared.identifier.Identifier.{Identifier}
 
 -- the status of the answer to a refusal
 abbrev pub status_of : Refusal → ℕ
@@ -17,12 +18,16 @@ status_of Unauthenticated = 401
 status_of (NoCatalogue name) = 404
 status_of (Forbidden privilege securable) = 403
 status_of (NoNamespace namespace) = 404
+status_of (NoTable identifier) = 404
+status_of (NoView identifier) = 404
+status_of (NoSuchRole name) = 404
 status_of (NameTaken name) = 409
 status_of (NotEmpty name) = 409
 status_of (KeyTwice key) = 422
 status_of (BadLocation place why) = 400
 status_of (Unsupported name) = 406
 status_of (Limit quantity bound) = 400
+status_of (Reserved name) = 400
 
 -- the type of the error (Iceberg REST OpenAPI, ErrorModel), unless a token request is refused
 abbrev pub kind_of : Refusal → Option (List ℕ)
@@ -33,12 +38,20 @@ kind_of Unauthenticated = Some (codes "NotAuthorizedException")
 kind_of (NoCatalogue name) = Some (codes "NotFoundException")
 kind_of (Forbidden privilege securable) = Some (codes "ForbiddenException")
 kind_of (NoNamespace namespace) = Some (codes "NoSuchNamespaceException")
+kind_of (NoTable identifier) = Some (codes "NoSuchTableException")
+kind_of (NoView identifier) = Some (codes "NoSuchViewException")
+kind_of (NoSuchRole name) = Some (codes "NotFoundException")
 kind_of (NameTaken name) = Some (codes "AlreadyExistsException")
 kind_of (NotEmpty name) = Some (codes "NamespaceNotEmptyException")
 kind_of (KeyTwice key) = Some (codes "UnprocessableEntityException")
 kind_of (BadLocation place why) = Some (codes "BadRequestException")
 kind_of (Unsupported name) = Some (codes "UnsupportedOperationException")
 kind_of (Limit quantity bound) = Some (codes "BadRequestException")
+kind_of (Reserved name) = Some (codes "BadRequestException")
+
+-- an identifier as it is shown: its namespace, a dot, and its name
+abbrev pub identifier_text : Identifier → List ℕ
+identifier_text identifier = dotted identifier.namespace ++ 0x2E ∷ identifier.name
 
 -- the message that tells a refusal
 abbrev pub message_of : Refusal → List ℕ
@@ -49,9 +62,13 @@ message_of Unauthenticated = codes "Unauthenticated"
 message_of (NoCatalogue name) = codes "NoCatalogue: " ++ name
 message_of (Forbidden privilege securable) = codes "Forbidden: " ++ (text_of privilege ++ (codes " on " ++ securable_text securable))
 message_of (NoNamespace namespace) = codes "NoNamespace: " ++ dotted namespace
+message_of (NoTable identifier) = codes "NoTable: " ++ identifier_text identifier
+message_of (NoView identifier) = codes "NoView: " ++ identifier_text identifier
+message_of (NoSuchRole name) = codes "NoSuchRole: " ++ name
 message_of (NameTaken name) = codes "NameTaken: " ++ name
 message_of (NotEmpty name) = codes "NotEmpty: " ++ name
 message_of (KeyTwice key) = codes "KeyTwice: " ++ key
 message_of (BadLocation place why) = codes "BadLocation of table " ++ (decimal place ++ (codes ": " ++ word_of why))
 message_of (Unsupported name) = codes "Unsupported: " ++ option_text name
 message_of (Limit quantity bound) = codes "Limit: " ++ (quantity_text quantity ++ (codes " " ++ decimal bound))
+message_of (Reserved name) = codes "Reserved: " ++ name

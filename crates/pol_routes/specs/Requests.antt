@@ -1,33 +1,21 @@
 -- What requests ask for, by their paths, queries and bodies.
-use Rattle.std.specs.Prelude.{◌≡◌, ◌⊎◌, ℕ, List, if◌then◌else◌, Option, Some, None, Result, Ok, Err, codes}
+use Rattle.std.specs.Prelude.{ℕ, List, if◌then◌else◌, Option, Some, None, Result, Ok, Err, codes}
 use Rattle.form_urlencoded.specs.Form.{is_nonempty}
 use Rattle.pol_commands.specs.declared.command.Action.{Action}
 use Rattle.pol_commands.specs.declared.command.Action.TheVariants as action
-use Rattle.pol_readers.specs.declared.error.ReadError.{ReadError}
-use Rattle.pol_readers.specs.declared.error.ReadError.TheVariants as read
 use Rattle.pol_readers.specs.Forms.{body}
-use Rattle.pol_readers.specs.Path.{path_text}
-use Rattle.pol_readers.specs.Reading.{Reading}
 use Rattle.pol_routes.specs.declared.bodies.NewCatalog.{NewCatalog}
 use Rattle.pol_routes.specs.declared.plans.RouteRefused.{RouteRefused}
-use Rattle.pol_routes.specs.declared.plans.RouteRefused.TheVariants.{NotBuilt, Unreadable, OutOfMemory}
+use Rattle.pol_routes.specs.declared.plans.RouteRefused.TheVariants.{Unreadable}
 use Rattle.pol_routes.specs.declared.table.Endpoint.{Endpoint}
 use Rattle.pol_routes.specs.declared.table.Endpoint.TheVariants.{GetConfig, ListNamespaces, CreateNamespace, LoadNamespace, HeadNamespace, DropNamespace, UpdateProperties, ListCatalogs, CreateCatalog, GetCatalog, DropCatalog}
 use Rattle.pol_routes.specs.Bodies.{catalog_body, new_namespace, property_updates}
+use Rattle.pol_routes.specs.Body.{body_of}
+use Rattle.pol_routes.specs.Management.{management_of}
 use Rattle.pol_routes.specs.Query.{query_value}
 use Rattle.pol_routes.specs.Refused.{read_on}
 use Rattle.pol_routes.specs.Segment.{segment_at, plain_of, namespace_of, plain_segment, namespace_segment}
 use Rattle.pol_routes.specs.Target.{path_of, query_of}
-
--- what a body is read as; its first bad field is told by the text of its path
-unfoldable pub body_of : {A : Type 0} → Reading A → Result A RouteRefused
-body_of (Ok read) = Ok read
-body_of (Err path) = Err (Unreadable (path_text path))
-
--- why a body isn't read, or memory was wanting
-abbrev pub IsUnread : ReadError → RouteRefused → Type 0
-IsUnread (read.Field path) why = (why ≡ Unreadable (path_text path)) ⊎ (why ≡ OutOfMemory)
-IsUnread read.OutOfMemory why = why ≡ OutOfMemory
 
 -- the catalogue and the namespace that a path of the catalogue API names, each behind so many slashes, and the
 -- catalogue of a path of the management API
@@ -90,7 +78,7 @@ get_catalog path = read_on (λ catalog. Ok (action.GetCatalog catalog)) (catalog
 unfoldable pub drop_catalog : List ℕ → Result Action RouteRefused
 drop_catalog path = read_on (λ catalog. Ok (action.DropCatalog catalog)) (catalog_path path)
 
--- the action that a request with that target and body asks for; what has no line of its own isn't built yet
+-- the action that a request with that target and body asks for
 abbrev pub action_of : List ℕ → List ℕ → Endpoint → Result Action RouteRefused
 action_of target bytes GetConfig = get_config (query_of target)
 action_of target bytes ListNamespaces = list_namespaces (path_of target) (query_of target)
@@ -103,4 +91,4 @@ action_of target bytes ListCatalogs = Ok action.ListCatalogs
 action_of target bytes CreateCatalog = create_catalog bytes
 action_of target bytes GetCatalog = get_catalog (path_of target)
 action_of target bytes DropCatalog = drop_catalog (path_of target)
-action_of target bytes _ = Err NotBuilt
+action_of target bytes endpoint = management_of (path_of target) bytes endpoint

@@ -3,10 +3,14 @@
 
 mod bearer;
 mod bodies;
+mod body;
 mod error_body;
 mod form;
 mod json;
 pub mod laws;
+mod management;
+mod management_bodies;
+mod management_json;
 mod plans;
 mod query;
 mod refusals;

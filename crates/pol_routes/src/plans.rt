@@ -1,7 +1,8 @@
 //! What a message asks of the catalogue, and the command of such a plan.
-ghost use Rattle.std.specs.Prelude.{◌≡◌, IsUtf8};
+ghost use Rattle.std.specs.Prelude.{◌≡◌, IfOk, IsUtf8};
 ghost use Rattle.pol_http.specs.Message.{Message};
 ghost use Rattle.pol_http.specs.Next.{IsMessageAt, LiesWithin};
+ghost use Rattle.pol_commands.specs.Proper.{IsProper};
 ghost use Rattle.pol_routes.specs.Plan as spec;
 ghost use Rattle.pol_routes.specs.Refused.{Gives};
 ghost use Rattle.pol_routes.specs.Route as route;
@@ -64,7 +65,7 @@ impl From<OutOfMemory> for RouteRefused {
 }
 
 /// The plan of the message of which these are the ranges: its route, its method, whether such requests are served
-/// yet, and then what it holds, in this order.
+/// yet, and then what it holds, in this order. A privilege that is granted or revoked may be granted on what it is on.
 #[tactic(auto, unfolding(crate::specs::Plan::plan_of))]
 pub fn plan(
     alloc: Global,
@@ -74,8 +75,9 @@ pub fn plan(
     body: Span,
 ) -> Result<Planned, RouteRefused>
     requires { LiesWithin bytes.now head.now body body.end }
-    ensures { (message : Message) → IsMessageAt bytes.now head.now body body.end message
+    ensures exact { (message : Message) → IsMessageAt bytes.now head.now body body.end message
         → Gives (spec.plan_of message) result }
+    ensures proper { IfOk result (λ planned. IsProper planned.action) }
 {
     let target = head.target.of(bytes);
     let endpoint = endpoint_of(routes, head.method.of(bytes), target)?;
@@ -111,7 +113,7 @@ fn endpoint_plan(
     }
 }
 
-/// The plan of a request that needs no random words.
+/// The plan of a request for an action other than opening a session.
 #[tactic(auto, using(crate::proofs::RefusedLemmas::read_on_refused, crate::proofs::RefusedLemmas::read_on_read), unfolding(crate::specs::Plan::action_plan))]
 fn action_plan(
     alloc: Global,
@@ -127,9 +129,21 @@ fn action_plan(
     Ok(Planned {
         caller,
         action,
-        words: 0,
+        words: words_of(endpoint),
         charge,
     })
+}
+
+/// How many random words a request needs: a new principal's client id is made of one and its secret of two, as is
+/// another secret.
+fn words_of(endpoint: Endpoint) -> u8
+    ensures { result ≡ spec.words_of endpoint }
+{
+    match endpoint {
+        Endpoint::CreatePrincipal => 3,
+        Endpoint::Rotate => 2,
+        _ => 0,
+    }
 }
 
 /// The plan of a token request (RFC 6749, section 4.4.2).

@@ -21,6 +21,10 @@ const NAMESPACE_NOT_EMPTY: &str = "NamespaceNotEmptyException";
 
 const NO_SUCH_NAMESPACE: &str = "NoSuchNamespaceException";
 
+const NO_SUCH_TABLE: &str = "NoSuchTableException";
+
+const NO_SUCH_VIEW: &str = "NoSuchViewException";
+
 const NOT_AUTHORIZED: &str = "NotAuthorizedException";
 
 const UNPROCESSABLE_ENTITY: &str = "UnprocessableEntityException";
@@ -30,10 +34,17 @@ pub(crate) fn status_of(refusal: &Refusal) -> u16
     ensures { result ≡ spec.status_of refusal.now }
 {
     match refusal {
-        Refusal::InvalidScope | Refusal::BadLocation { .. } | Refusal::Limit { .. } => 400,
+        Refusal::InvalidScope
+        | Refusal::BadLocation { .. }
+        | Refusal::Limit { .. }
+        | Refusal::Reserved { .. } => 400,
         Refusal::InvalidClient | Refusal::Unauthenticated => 401,
         Refusal::Forbidden { .. } => 403,
-        Refusal::NoCatalogue { .. } | Refusal::NoNamespace { .. } => 404,
+        Refusal::NoCatalogue { .. }
+        | Refusal::NoNamespace { .. }
+        | Refusal::NoTable { .. }
+        | Refusal::NoView { .. }
+        | Refusal::NoSuchRole { .. } => 404,
         Refusal::Unsupported { .. } => 406,
         Refusal::NameTaken { .. } | Refusal::NotEmpty { .. } => 409,
         Refusal::KeyTwice { .. } => 422,
@@ -51,10 +62,15 @@ pub(crate) fn kind_of(refusal: &Refusal) -> Option<&'static str>
         Refusal::NoCatalogue { .. } => Some(NOT_FOUND),
         Refusal::Forbidden { .. } => Some(FORBIDDEN),
         Refusal::NoNamespace { .. } => Some(NO_SUCH_NAMESPACE),
+        Refusal::NoTable { .. } => Some(NO_SUCH_TABLE),
+        Refusal::NoView { .. } => Some(NO_SUCH_VIEW),
+        Refusal::NoSuchRole { .. } => Some(NOT_FOUND),
         Refusal::NameTaken { .. } => Some(ALREADY_EXISTS),
         Refusal::NotEmpty { .. } => Some(NAMESPACE_NOT_EMPTY),
         Refusal::KeyTwice { .. } => Some(UNPROCESSABLE_ENTITY),
-        Refusal::BadLocation { .. } | Refusal::Limit { .. } => Some(BAD_REQUEST),
+        Refusal::BadLocation { .. } | Refusal::Limit { .. } | Refusal::Reserved { .. } => {
+            Some(BAD_REQUEST)
+        }
         Refusal::Unsupported { .. } => Some(UNSUPPORTED_OPERATION),
         Refusal::RunFull { .. } => Some(SERVICE_UNAVAILABLE),
     }
@@ -77,6 +93,9 @@ pub(crate) fn message_of(alloc: Global, refusal: &Refusal) -> Result<String, All
             securable,
         } => format!(in alloc; "Forbidden: {privilege} on {securable}"),
         Refusal::NoNamespace { namespace } => format!(in alloc; "NoNamespace: {namespace}"),
+        Refusal::NoTable { identifier } => format!(in alloc; "NoTable: {identifier}"),
+        Refusal::NoView { identifier } => format!(in alloc; "NoView: {identifier}"),
+        Refusal::NoSuchRole { name } => format!(in alloc; "NoSuchRole: {name}"),
         Refusal::NameTaken { name } => format!(in alloc; "NameTaken: {name}"),
         Refusal::NotEmpty { name } => format!(in alloc; "NotEmpty: {name}"),
         Refusal::KeyTwice { key } => format!(in alloc; "KeyTwice: {key}"),
@@ -85,5 +104,6 @@ pub(crate) fn message_of(alloc: Global, refusal: &Refusal) -> Result<String, All
         ),
         Refusal::Unsupported { name } => format!(in alloc; "Unsupported: {name}"),
         Refusal::Limit { quantity, bound } => format!(in alloc; "Limit: {quantity} {bound}"),
+        Refusal::Reserved { name } => format!(in alloc; "Reserved: {name}"),
     }
 }

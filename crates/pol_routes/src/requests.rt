@@ -1,10 +1,11 @@
 //! What requests ask for, by their paths, queries and bodies.
 ghost use Rattle.std.specs.Prelude.{◌≡◌};
-ghost use Rattle.pol_readers.specs.Forms.{body};
 ghost use Rattle.pol_routes.specs.Refused.{Gives};
 ghost use Rattle.pol_routes.specs.Requests as spec;
 
 use crate::bodies::{CatalogBody, NewCatalog, NewNamespace, PropertyUpdates};
+use crate::body::body_of;
+use crate::management::management_of;
 use crate::plans::RouteRefused;
 use crate::query::query_value;
 use crate::segment::{
@@ -14,7 +15,6 @@ use crate::table::Endpoint;
 use crate::target::{path_of, query_of};
 use pol_commands::Action;
 use pol_names::{Namespace, Plain};
-use pol_readers::{Form, ReadError, read_body};
 use pol_types::Text;
 use std::alloc::Global;
 
@@ -27,8 +27,7 @@ const NAMESPACE_PLACE: usize = 6;
 /// The place of the catalogue's name in a path of the management API.
 const CATALOG_PLACE: usize = 5;
 
-/// The action that a request asks for. Its path is read first, then its query, then its body. What has no arm of its
-/// own isn't built yet.
+/// The action that a request asks for. Its path is read first, then its query, then its body.
 pub(crate) fn action_of(
     alloc: Global,
     endpoint: Endpoint,
@@ -50,7 +49,7 @@ pub(crate) fn action_of(
         Endpoint::CreateCatalog => create_catalog(alloc, body),
         Endpoint::GetCatalog => get_catalog(alloc, path),
         Endpoint::DropCatalog => drop_catalog(alloc, path),
-        _ => Err(RouteRefused::NotBuilt),
+        _ => management_of(alloc, endpoint, path, body),
     }
 }
 
@@ -205,30 +204,4 @@ fn drop_catalog(alloc: Global, path: &[u8]) -> Result<Action, RouteRefused>
 {
     let catalog = plain_segment(alloc, segment_at(path, CATALOG_PLACE))?;
     Ok(Action::DropCatalog { catalog })
-}
-
-/// What a body is read as. Its first bad field is told by its path.
-#[tactic(auto, using(crate::proofs::RequestLemmas::read_body, crate::proofs::RequestLemmas::unread_body))]
-fn body_of<F: Form>(alloc: Global, bytes: &[u8]) -> Result<F, RouteRefused>
-    ensures { Gives (spec.body_of (body F.form bytes.now)) result }
-{
-    match read_body(alloc, bytes) {
-        Ok(read) => Ok(read),
-        Err(error) => Err(unread(alloc, error)),
-    }
-}
-
-/// Why a body isn't read.
-fn unread(alloc: Global, error: ReadError) -> RouteRefused
-    ensures { spec.IsUnread error result }
-{
-    match error {
-        ReadError::Field(path) => match path.to_string(alloc) {
-            Ok(field) => RouteRefused::Unreadable {
-                field: Text::from(field),
-            },
-            Err(_) => RouteRefused::OutOfMemory,
-        },
-        ReadError::OutOfMemory => RouteRefused::OutOfMemory,
-    }
 }

@@ -1,6 +1,8 @@
 ghost use Rattle.std.specs.Prelude.{◌≤◌, length, vec_len, IfOk};
 
 mod answers;
+mod management;
+mod management_answers;
 mod planned;
 mod readers;
 mod routing;

@@ -2,12 +2,14 @@
 ghost use Rattle.std.specs.Prelude.{◌≡◌, IfOk, IsErr, string_bytes};
 ghost use Rattle.serde_json.specs.View.{view};
 ghost use Rattle.pol_tokens.specs.Text.{text_of_token};
+ghost use Rattle.pol_routes.specs.ManagementJson.{credentials_json};
 ghost use Rattle.pol_routes.specs.Texts as spec;
 
 use crate::error_body::{answer_with, error_answer, json_answer, text_of, token_error};
 use crate::json::{
     Shown, catalogs_json, config_json, namespace_json, namespaces_json, updated_json,
 };
+use crate::management_json::{credentials_json, grants_json, principals_json, roles_json};
 use crate::plans::RouteRefused;
 use crate::refusals::{
     BAD_REQUEST, NOT_FOUND, SERVICE_UNAVAILABLE, UNSUPPORTED_OPERATION, kind_of, message_of,
@@ -15,8 +17,9 @@ use crate::refusals::{
 };
 use pol_commands::{Answer as Done, Refusal, Reply};
 use pol_http::{Answer, Body, HeadRefused};
+use pol_names::Plain;
 use pol_tokens::{SESSION_LIFE, token_text};
-use pol_types::OutOfMemory;
+use pol_types::{OutOfMemory, Text};
 use serde_json::{Value, json};
 use std::alloc::{AllocError, Global};
 
@@ -62,10 +65,54 @@ fn done_answer(alloc: Global, done: &Done) -> Result<Answer, OutOfMemory>
             removed,
             updated,
         } => json_answer(alloc, 200, updated_json(alloc, missing, removed, updated)?),
-        Done::CatalogDropped | Done::NamespaceThere | Done::NamespaceDropped => {
-            Ok(answer_with(204, Body::Nothing))
-        }
+        _ => management_answer(alloc, done),
     }
+}
+
+/// The answer to a management command that is done. What has no arm of its own has ended or is there, of which nothing
+/// is told.
+#[tactic(auto, using(crate::proofs::ManagementJsonLemmas::principal_whole, crate::proofs::ManagementJsonLemmas::principals_whole, crate::proofs::ManagementJsonLemmas::credentials_whole, crate::proofs::ManagementJsonLemmas::role_whole, crate::proofs::ManagementJsonLemmas::roles_whole, crate::proofs::ManagementJsonLemmas::grants_whole), unfolding(crate::specs::Texts::management_answer))]
+fn management_answer(alloc: Global, done: &Done) -> Result<Answer, OutOfMemory>
+    ensures { IfOk result (λ answer. answer ≡ spec.management_answer done.now) }
+{
+    match done {
+        Done::PrincipalsListed(rows) => json_answer(alloc, 200, principals_json(alloc, rows)?),
+        Done::PrincipalCreated {
+            name,
+            client_id,
+            secret,
+        } => credentials_answer(alloc, 201, client_id, secret, name),
+        Done::PrincipalLoaded(row) => json_answer(alloc, 200, row.shown(alloc)?),
+        Done::SecretRotated {
+            name,
+            client_id,
+            secret,
+        } => credentials_answer(alloc, 200, client_id, secret, name),
+        Done::RolesListed(names) => json_answer(alloc, 200, roles_json(alloc, names)?),
+        Done::RoleLoaded { name } => json_answer(alloc, 200, name.shown(alloc)?),
+        Done::GrantsListed(grants) => json_answer(alloc, 200, grants_json(alloc, grants)?),
+        Done::RoleCreated
+        | Done::MemberAdded
+        | Done::JoinAdded
+        | Done::GrantAdded
+        | Done::GrantRevoked => Ok(answer_with(201, Body::Nothing)),
+        _ => Ok(answer_with(204, Body::Nothing)),
+    }
+}
+
+/// The answer that gives a principal's credentials.
+#[tactic(auto, using(crate::proofs::ManagementJsonLemmas::credentials_whole))]
+fn credentials_answer(
+    alloc: Global,
+    code: u16,
+    client_id: &Text,
+    secret: &Text,
+    name: &Plain,
+) -> Result<Answer, OutOfMemory>
+    ensures { IfOk result (λ answer. answer ≡ spec.json_answer code (credentials_json client_id.now secret.now name.now)) }
+{
+    let json = credentials_json(alloc, client_id.as_str(), secret.as_str(), name.as_str())?;
+    json_answer(alloc, code, json)
 }
 
 /// The answer that gives a session's token (RFC 6749, section 5.1).

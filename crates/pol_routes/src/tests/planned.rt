@@ -307,6 +307,7 @@ fn shown(alloc: Global, action: &Action) -> Result<String, AllocError> {
             removals,
             updates,
         } => update(alloc, catalog, namespace, removals.as_slice(), updates),
+        _ => String::from_str(alloc, "another action"),
     }
 }
 

@@ -5,7 +5,7 @@ use Rattle.pol_readers.specs.declared.error.ReadError.TheVariants as read
 use Rattle.pol_readers.specs.Reading.{Reading, Gives as GivesReading}
 use Rattle.pol_routes.specs.declared.plans.RouteRefused.{RouteRefused}
 use Rattle.pol_routes.specs.Refused.{Gives}
-use Rattle.pol_routes.specs.Requests.{body_of, IsUnread}
+use Rattle.pol_routes.specs.Body.{body_of, IsUnread}
 
 pub unread_body : {A : Type 0} (reading : Reading A) (error : ReadError) (why : RouteRefused) → GivesReading {A = A} (Err error) reading → IsUnread error why → Gives (body_of reading) (Err why)
 unfolding body_of
