@@ -76,11 +76,11 @@ knows-last key row [] = ap (λ b. b || false) (eq-eqb (key row) (key row) refl)
 knows-last key row (first ∷ rows) = ap (λ b. has_id key (key row) first || b) (knows-last key row rows) ∙ or_true (has_id key (key row) first)
 
 -- a rule that passes
-refused-not : (test : Bool) (why : Refusal) → refuse_if test why ≡ None → test ≡ false
+pub refused-not : (test : Bool) (why : Refusal) → refuse_if test why ≡ None → test ≡ false
 refused-not true why passes = let contrary : Some why ≡ None = passes in cc
 refused-not false why passes = refl
 
-nothing : {X : Type 0} (found : Option X) → is_some found ≡ false → found ≡ None
+pub nothing : {X : Type 0} (found : Option X) → is_some found ≡ false → found ≡ None
 nothing None none = refl
 nothing (Some x) some = cc
 
@@ -124,7 +124,7 @@ module _ (s : Rows) (command : Command) where
   abbrev pub Leads : Rows → Type 0
   Leads after = applied (changes_between s (stamped s command after)) (time_of s command) command.charge s ≡ stamped s command after
 
-  leads-same : Leads s
+  pub leads-same : Leads s
   leads-same = ap (λ changes. applied changes (time_of s command) command.charge s) (no_changes s command)
 
   pub leads-first : (first : Option Refusal) (after : Rows) → Leads after → Leads (rows_by first s after)
@@ -134,7 +134,7 @@ module _ (s : Rows) (command : Command) where
   pub leads-reading : (first : Option Refusal) → Leads (rows_by first s s)
   leads-reading first = leads-first first s leads-same
 
-  leads-by : (after : Rows) (changes : List Change) → changes_between s (stamped s command after) ≡ changes → applied changes (time_of s command) command.charge s ≡ stamped s command after → Leads after
+  pub leads-by : (after : Rows) (changes : List Change) → changes_between s (stamped s command after) ≡ changes → applied changes (time_of s command) command.charge s ≡ stamped s command after → Leads after
   leads-by after changes is so = ap (λ made. applied made (time_of s command) command.charge s) is ∙ so
 
   module _ (sound : IsSound s) where
@@ -145,7 +145,7 @@ module _ (s : Rows) (command : Command) where
     namespaces-differ = IdsDiffer-rising namespace_id s.content.namespaces sound.content.namespaces.rise
 
     -- what is found by its name is the row of its id
-    catalog-own : (name : List ℕ) (row : CatalogRow) → catalog_named name s.content ≡ Some row → row_of catalog_id row.id s.content.catalogs ≡ Some row
+    pub catalog-own : (name : List ℕ) (row : CatalogRow) → catalog_named name s.content ≡ Some row → row_of catalog_id row.id s.content.catalogs ≡ Some row
     catalog-own name row found =
         found-holds (λ one. row_of catalog_id (catalog_id one) s.content.catalogs ≡ Some one) (is_catalog_named name) s.content.catalogs row (each-own catalog_id s.content.catalogs catalogs-differ) found
 

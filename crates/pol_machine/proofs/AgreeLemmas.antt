@@ -1,35 +1,44 @@
 -- A command does the same in a state and in its live part, and so in states that agree.
-use Rattle.std.proofs.Common.{◌≡◌, ℕ, ◌+◌, true, not, cond, codes, is_some, List, [], ◌∷◌, ◌++◌, filter, Option, None, Some, nat_lt, refl, sym, ap, subst, ◌∙◌, arith}
+use Rattle.std.proofs.Common.{◌≡◌, ℕ, ◌+◌, Bool, true, false, true≢false, inl, inr, not, cond, codes, is_some, List, [], ◌∷◌, ◌++◌, filter, Option, None, Some, nat_lt, refl, sym, ap, subst, ◌∙◌, arith}
 use Rattle.std.specs.List.{AllByRecursion}
 use Rattle.std.specs.Option.{option_map}
-use Rattle.std.proofs.lemmas.Bool.{and_parts}
+use Rattle.std.proofs.lemmas.Bool.{and_parts, cases_Bool, eqb-true}
 use Rattle.std.proofs.lemmas.List.Elements.{filter-append}
-use Rattle.pol_access.specs.Access.{principal_id}
-use Rattle.pol_access.specs.Names.{principal_role_named}
+use Rattle.pol_access.specs.Access.{principal_dropped, principal_id}
+use Rattle.pol_access.specs.Names.{principal_named, principal_role_named}
 use Rattle.pol_access.specs.declared.privilege.Privilege.{Privilege}
-use Rattle.pol_access.specs.declared.privilege.Privilege.TheVariants.{CatalogReadProperties, NamespaceCreate, NamespaceDrop, NamespaceList, NamespaceReadProperties, NamespaceWriteProperties}
+use Rattle.pol_access.specs.declared.privilege.Privilege.TheVariants.{CatalogManageAccess, CatalogReadProperties, NamespaceCreate, NamespaceDrop, NamespaceList, NamespaceReadProperties, NamespaceWriteProperties}
+use Rattle.pol_access.specs.declared.rows.PrincipalRoleRow.{PrincipalRoleRow}
 use Rattle.pol_access.specs.declared.rows.PrincipalRow.{PrincipalRow}
 use Rattle.pol_content.specs.Content.{catalog_named}
 use Rattle.pol_names.specs.Namespace.{parent_of}
 use Rattle.pol_tables.specs.Rising.{KeysBelow}
-use Rattle.pol_tables.specs.Table.{knows}
+use Rattle.pol_content.proofs.TiesLemmas.{unknown-put, unknown-without}
+use Rattle.pol_tables.specs.Table.{has_id, knows, rows_without}
 use Rattle.pol_tables.proofs.ListLemmas.{each-all, each-weaken}
 use Rattle.pol_tables.proofs.RisingLemmas.{KeysBelow-filter}
 use Rattle.pol_tokens.specs.Tokens.{TokenRows, serial_of}
 use Rattle.pol_tokens.specs.declared.session.SessionRow.{SessionRow}
+use Rattle.pol_machine.specs.AccessRules.{catalog_role_at, catalog_role_taken, client_taken, grant_of, in_catalog, in_realm, join_of, member_of, no_catalog_role, no_grant, no_join, no_member, no_principal, no_principal_role, no_securable, principal_role_taken, principal_taken}
 use Rattle.pol_machine.specs.Acting.{done, Acting}
 use Rattle.pol_machine.specs.Agree.{is_live, live_part, live_tokens, Agree, DoesAlike}
 use Rattle.pol_machine.specs.Catalogs.{new_catalog, with_catalog, without_catalog}
+use Rattle.pol_machine.specs.CatalogRoles.{with_role_in, without_catalog_role}
 use Rattle.pol_machine.specs.Changes.{changes_between, headed, id_change, in_turn, row_changes, serial_change}
+use Rattle.pol_machine.specs.Grants.{with_grant, without_grant}
+use Rattle.pol_machine.specs.Joins.{with_join, without_join}
 use Rattle.pol_machine.specs.Machine.{acting, next_by, next_state, reply_by, reply_of, rows_by, stamped}
+use Rattle.pol_machine.specs.Members.{with_member, without_member}
 use Rattle.pol_machine.specs.Namespaces.{namespace_at, with_namespace, with_properties, without_namespace}
 use Rattle.pol_machine.specs.Needs.{caller_may, first_unmet, forbidden, on_catalog, on_parent, on_path, service, session_may, shown}
-use Rattle.pol_machine.specs.Rows.{Rows}
+use Rattle.pol_machine.specs.PrincipalRoles.{with_principal_role, without_principal_role}
+use Rattle.pol_machine.specs.Principals.{client_id_or, new_principal, rotated, secret_or, with_new_principal, with_principal, without_principal}
+use Rattle.pol_machine.specs.Rows.{Rows, digest_of}
 use Rattle.pol_machine.specs.Rules.{bad_text, bad_texts, catalog_holds, catalog_taken, client_of, first_refusal, given, inside, invalid_client, invalid_scope, is_signed_in, key_twice, namespace_holds, namespace_taken, no_catalogue, no_namespace, no_parent, over_limit, refuse_if, run_full, time_of, unauthenticated, unsupported_type}
 use Rattle.pol_machine.specs.Sessions.{opened, scope_of, session_opened, with_session}
-use Rattle.pol_machine.specs.Sound.{IsSound}
+use Rattle.pol_machine.specs.Sound.{IsSessionOf, IsSound}
 use Rattle.pol_commands.specs.declared.command.Action.{Action}
-use Rattle.pol_commands.specs.declared.command.Action.TheVariants.{OpenSession, GetConfig, ListCatalogs, CreateCatalog, GetCatalog, DropCatalog, ListNamespaces, CreateNamespace, LoadNamespace, HeadNamespace, DropNamespace, UpdateProperties}
+use Rattle.pol_commands.specs.declared.command.Action.TheVariants.{OpenSession, GetConfig, ListCatalogs, CreateCatalog, GetCatalog, DropCatalog, ListNamespaces, CreateNamespace, LoadNamespace, HeadNamespace, DropNamespace, UpdateProperties, ListPrincipals, CreatePrincipal, GetPrincipal, DropPrincipal, Rotate, ListMembers, AddMember, EndMember, ListPrincipalRoles, CreatePrincipalRole, GetPrincipalRole, DropPrincipalRole, ListJoins, AddJoin, EndJoin, ListCatalogRoles, CreateCatalogRole, GetCatalogRole, DropCatalogRole, ListGrants, AddGrant, Revoke}
 use Rattle.pol_commands.specs.declared.command.Caller.{Caller}
 use Rattle.pol_commands.specs.declared.command.Caller.TheVariants.{Nobody, Bearer, Setup}
 use Rattle.pol_commands.specs.declared.command.Command.{Command}
@@ -37,6 +46,7 @@ use Rattle.pol_machine.specs.declared.needs.Need.{Need}
 use Rattle.pol_commands.specs.declared.reply.Answer.{Answer}
 use Rattle.pol_commands.specs.declared.reply.Refusal.{Refusal}
 use Rattle.pol_commands.specs.declared.reply.Refusal.TheVariants.{Forbidden, Unauthenticated}
+use Rattle.pol_machine.proofs.AccessFoundLemmas.{known, principal-own}
 use Rattle.pol_machine.proofs.ChangesLemmas.{changes-opened, changes-timed, sessions-kept}
 use Rattle.pol_machine.proofs.LiveLemmas.{filter-weaker, live-agrees, live-before, session-live}
 use Rattle.pol_machine.proofs.SessionsLemmas.{opened-below}
@@ -145,6 +155,46 @@ module _ (s : Rows) (sound : IsSound s) (command : Command) where
       → IsAlike (record { rules = unauthenticated s command ∷ rules; after = s; answer = answer }) (record { rules = unauthenticated live command ∷ others; after = live; answer = answer })
   alike-reading rules others answer judged = alike-by rules others answer s live judged (leaves-tokens s none-returns)
 
+  -- and one that manages the realm, or the access of a catalogue
+  realm-alike : (rules others : List (Option Refusal)) (answer : Answer) (after other : Rows) → rules ≡ others → Leaves after other
+      → IsAlike (record { rules = in_realm s command rules; after = after; answer = answer }) (record { rules = in_realm live command others; after = other; answer = answer })
+  realm-alike rules others answer after other judged leaves =
+      alike-by _ _ answer after other (λ i. need-alike service i ∷ judged i) leaves
+
+  catalog-alike : (catalog : List ℕ) (rules others : List (Option Refusal)) (answer : Answer) (after other : Rows) → rules ≡ others → Leaves after other
+      → IsAlike (record { rules = in_catalog s command catalog rules; after = after; answer = answer }) (record { rules = in_catalog live command catalog others; after = other; answer = answer })
+  unfolding no_catalogue
+  catalog-alike catalog rules others answer after other judged leaves =
+      alike-by _ _ answer after other (λ i. no_catalogue s catalog ∷ given-alike (catalog_named catalog s.content) _ _ (λ one. need-alike (on_catalog CatalogManageAccess one)) i ∷ judged i) leaves
+
+  -- a principal that is put is the one that was there, or takes the next id, which no session names
+  put-returns : (row : PrincipalRow) → (knows principal_id row.id s.access.principals ≡ false → row.id ≡ s.next_id) → NoneReturns (with_principal s row)
+  put-returns row new =
+      each-weaken (IsSessionOf s.next_id s.next_serial) _ s.tokens.sessions (λ session known there. by session known (knows principal_id session.principal s.access.principals) refl there) sound.tokens.sessions
+    where
+      apart : (session : SessionRow) → IsSessionOf s.next_id s.next_serial session → knows principal_id session.principal s.access.principals ≡ false → has_id principal_id session.principal row ≡ false
+      apart session known unknown = elim (cases_Bool (has_id principal_id session.principal row)) [
+        | inl same ↦
+            let is = eqb-true session.principal row.id same in
+            let below = known.principal.1 in
+            let next = new (sym (ap (λ id. knows principal_id id s.access.principals) is) ∙ unknown) in
+            absurd (omega (arith, is, below, next))
+        | inr other ↦ other
+      ]
+
+      by : (session : SessionRow) → IsSessionOf s.next_id s.next_serial session → (b : Bool) → knows principal_id session.principal s.access.principals ≡ b → knows principal_id session.principal (with_principal s row).access.principals ≡ true → knows principal_id session.principal s.access.principals ≡ true
+      by session known true is there = is
+      by session known false is there =
+          absurd (true≢false (sym there ∙ unknown-put principal_id session.principal row s.access.principals is (apart session known is)))
+
+  without-returns : (id : ℕ) → NoneReturns (record s { access = principal_dropped id s.access })
+  without-returns id =
+      each-all (λ session. knows principal_id session.principal (rows_without principal_id id s.access.principals) ≡ true → knows principal_id session.principal s.access.principals ≡ true) s.tokens.sessions (λ session there. by session (knows principal_id session.principal s.access.principals) refl there)
+    where
+      by : (session : SessionRow) (b : Bool) → knows principal_id session.principal s.access.principals ≡ b → knows principal_id session.principal (rows_without principal_id id s.access.principals) ≡ true → knows principal_id session.principal s.access.principals ≡ true
+      by session true is there = is
+      by session false is there = absurd (true≢false (sym there ∙ unknown-without principal_id session.principal id s.access.principals is))
+
   -- a session that is opened is the same one
   opened-alike : (scopes : List (List ℕ)) (principal : PrincipalRow) → opened s command scopes principal ≡ opened live command scopes principal
   unfolding opened scope_of
@@ -182,9 +232,18 @@ module _ (s : Rows) (sound : IsSound s) (command : Command) where
   on-path privilege name levels rules others judged =
       λ i. no_catalogue s name ∷ given-alike (catalog_named name s.content) _ _ (λ catalog. need-alike (on_path s privilege levels catalog)) i ∷ inside s name (λ catalog. no_namespace s catalog.id levels) ∷ judged i
 
+  leaves-rotated : (name opens : List ℕ) → Leaves (done s (principal_named name s.access) (rotated s opens)) (done live (principal_named name s.access) (rotated live opens))
+  leaves-rotated name opens = by (principal_named name s.access) refl
+    where
+      by : (found : Option PrincipalRow) → principal_named name s.access ≡ found → Leaves (done s found (rotated s opens)) (done live found (rotated live opens))
+      by None there = leaves-tokens s none-returns
+      by (Some row) there =
+          let is = known principal_id row.id row s.access.principals (principal-own s sound name row there) in
+          leaves-tokens (rotated s opens row) (put-returns (record row { digest = digest_of opens }) (λ unknown. absurd (true≢false (sym is ∙ unknown))))
+
   -- each action is done alike
   acts : (action : Action) → IsAlike (acting s command action) (acting live command action)
-  unfolding catalog_holds catalog_taken client_of invalid_client invalid_scope namespace_at namespace_holds namespace_taken no_catalogue no_namespace over_limit
+  unfolding catalog_holds catalog_role_taken catalog_taken client_of client_taken grant_of invalid_client invalid_scope join_of member_of namespace_at namespace_holds namespace_taken no_catalog_role no_catalogue no_grant no_join no_member no_namespace no_principal no_principal_role over_limit principal_role_taken principal_taken
   acts (OpenSession client_id secret scopes) = record {
     rules = λ i. invalid_client s client_id secret ∷ given (client_of s client_id secret) (λ principal. invalid_scope s principal.id scopes) ∷ limit-opened scopes (client_of s client_id secret) i ∷ [];
     answer = refl;
@@ -214,6 +273,53 @@ module _ (s : Rows) (sound : IsSound s) (command : Command) where
   acts (UpdateProperties name levels removals updates) =
       alike-by _ _ _ _ _ (on-path NamespaceWriteProperties name levels _ _ (λ i. key_twice removals updates ∷ limit-done (namespace_at s name levels) (with_properties s removals updates) (with_properties live removals updates) (λ row. refl) i ∷ []))
       (leaves-done _ _ _ (λ row. leaves-tokens (with_properties s removals updates row) none-returns))
+  acts ListPrincipals =
+      realm-alike [] [] _ s live refl (leaves-tokens s none-returns)
+  acts (CreatePrincipal name client_id secret) =
+      let row = new_principal s name (client_id_or client_id command.words.a) (secret_or secret command.words.b command.words.c) in
+      realm-alike _ _ _ (with_new_principal s row) (with_new_principal live row) refl (leaves-tokens (with_new_principal s row) (put-returns row (λ unknown. refl)))
+  acts (GetPrincipal name) =
+      realm-alike _ _ _ s live refl (leaves-tokens s none-returns)
+  acts (DropPrincipal name) =
+      realm-alike _ _ _ _ _ refl (leaves-done (principal_named name s.access) (without_principal s) (without_principal live) (λ row. leaves-tokens (without_principal s row) (without-returns row.id)))
+  acts (Rotate name secret) =
+      let opens = secret_or secret command.words.a command.words.b in
+      realm-alike _ _ _ _ _ refl (leaves-rotated name opens)
+  acts (ListMembers principal) =
+      realm-alike _ _ _ s live refl (leaves-tokens s none-returns)
+  acts (AddMember principal role) =
+      realm-alike _ _ _ _ _ (λ i. no_principal s principal ∷ no_principal_role s role ∷ limit-done (member_of s principal role) (with_member s) (with_member live) (λ row. refl) i ∷ []) (leaves-done (member_of s principal role) (with_member s) (with_member live) (λ row. leaves-tokens (with_member s row) none-returns))
+  acts (EndMember principal role) =
+      realm-alike _ _ _ _ _ refl (leaves-done (member_of s principal role) (without_member s) (without_member live) (λ row. leaves-tokens (without_member s row) none-returns))
+  acts ListPrincipalRoles =
+      realm-alike [] [] _ s live refl (leaves-tokens s none-returns)
+  acts (CreatePrincipalRole name) =
+      let row : PrincipalRoleRow = record { id = s.next_id; name = name } in
+      realm-alike _ _ _ (with_principal_role s row) (with_principal_role live row) refl (leaves-tokens (with_principal_role s row) none-returns)
+  acts (GetPrincipalRole name) =
+      realm-alike _ _ _ s live refl (leaves-tokens s none-returns)
+  acts (DropPrincipalRole name) =
+      realm-alike _ _ _ _ _ refl (leaves-done (principal_role_named name s.access) (without_principal_role s) (without_principal_role live) (λ row. leaves-tokens (without_principal_role s row) none-returns))
+  acts (ListJoins catalog role) =
+      catalog-alike catalog _ _ _ s live refl (leaves-tokens s none-returns)
+  acts (AddJoin catalog role catalog_role) =
+      catalog-alike catalog _ _ _ _ _ (λ i. no_principal_role s role ∷ inside s catalog (no_catalog_role s catalog_role) ∷ limit-done (join_of s catalog role catalog_role) (with_join s) (with_join live) (λ row. refl) i ∷ []) (leaves-done (join_of s catalog role catalog_role) (with_join s) (with_join live) (λ row. leaves-tokens (with_join s row) none-returns))
+  acts (EndJoin catalog role catalog_role) =
+      catalog-alike catalog _ _ _ _ _ refl (leaves-done (join_of s catalog role catalog_role) (without_join s) (without_join live) (λ row. leaves-tokens (without_join s row) none-returns))
+  acts (ListCatalogRoles catalog) =
+      catalog-alike catalog [] [] _ s live refl (leaves-tokens s none-returns)
+  acts (CreateCatalogRole catalog name) =
+      catalog-alike catalog _ _ _ _ _ (λ i. inside s catalog (catalog_role_taken s name) ∷ limit-done (catalog_named catalog s.content) (with_role_in s name) (with_role_in live name) (λ row. refl) i ∷ []) (leaves-done (catalog_named catalog s.content) (with_role_in s name) (with_role_in live name) (λ row. leaves-tokens (with_role_in s name row) none-returns))
+  acts (GetCatalogRole catalog name) =
+      catalog-alike catalog _ _ _ s live refl (leaves-tokens s none-returns)
+  acts (DropCatalogRole catalog name) =
+      catalog-alike catalog _ _ _ _ _ refl (leaves-done (catalog_role_at s catalog name) (without_catalog_role s) (without_catalog_role live) (λ row. leaves-tokens (without_catalog_role s row) none-returns))
+  acts (ListGrants catalog role) =
+      catalog-alike catalog _ _ _ s live refl (leaves-tokens s none-returns)
+  acts (AddGrant catalog role grant) =
+      catalog-alike catalog _ _ _ _ _ (λ i. inside s catalog (no_securable s grant.on) ∷ inside s catalog (no_catalog_role s role) ∷ limit-done (grant_of s catalog role grant) (with_grant s) (with_grant live) (λ row. refl) i ∷ []) (leaves-done (grant_of s catalog role grant) (with_grant s) (with_grant live) (λ row. leaves-tokens (with_grant s row) none-returns))
+  acts (Revoke catalog role grant) =
+      catalog-alike catalog _ _ _ _ _ refl (leaves-done (grant_of s catalog role grant) (without_grant s) (without_grant live) (λ row. leaves-tokens (without_grant s row) none-returns))
 
   -- what is left by the first rule that fails
   left-by : (full first : Option Refusal) (after other : Rows) → Leaves after other → Ends (next_by full s (stamped s command (rows_by first s after))) (next_by full live (stamped live command (rows_by first live other)))

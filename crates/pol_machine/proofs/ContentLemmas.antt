@@ -7,7 +7,9 @@ use Rattle.std.specs.Cmp.Lexicographic.{lists_equiv, nat_list_eq_equiv, pointwis
 use Rattle.std.specs.List.{find, range_with_len, AllByRecursion}
 use Rattle.std.specs.Borrow.{Bor}
 use Rattle.std.specs.Option.{option_copied, option_or, IsSome}
-use Rattle.pol_access.specs.Access.{principal_id}
+use Rattle.pol_access.specs.Access.{catalog_role_name, principal_id, principal_role_name}
+use Rattle.pol_access.specs.declared.rows.CatalogRoleRow.{CatalogRoleRow}
+use Rattle.pol_access.specs.declared.rows.PrincipalRoleRow.{PrincipalRoleRow}
 use Rattle.pol_access.specs.declared.rows.PrincipalRow.{PrincipalRow}
 use Rattle.pol_content.specs.Content.{ContentRows, first_missing, is_missing, lineage, namespace_named}
 use Rattle.pol_content.specs.declared.rows.NamespaceRow.{NamespaceRow}
@@ -60,6 +62,21 @@ levels_some (level ∷ levels) filled = omega arith
 -- a principal that is looked up is known exactly where it is found
 pub principal_found : (id : ℕ) (rows : List PrincipalRow) (found : Option PrincipalRow) → found ≡ row_of principal_id id rows → knows principal_id id rows ≡ is_some found
 principal_found id rows found is = sym (is_some-row_of principal_id id rows) ∙ ap is_some (sym is)
+
+-- the names of roles that are lent
+pub role_names_shown : (lent : List (Bor PrincipalRoleRow)) (rows : List PrincipalRoleRow) → map (λ (row : Bor PrincipalRoleRow). row.now) lent ≡ rows → map (λ (row : Bor PrincipalRoleRow). row.now.name) lent ≡ map principal_role_name rows
+role_names_shown lent rows is = by lent ∙ ap (map principal_role_name) is
+  where
+    by : (lent : List (Bor PrincipalRoleRow)) → map (λ (row : Bor PrincipalRoleRow). row.now.name) lent ≡ map principal_role_name (map (λ (row : Bor PrincipalRoleRow). row.now) lent)
+    by [] = refl
+    by (row ∷ lent) = ap (λ rest. row.now.name ∷ rest) (by lent)
+
+pub catalog_role_names_shown : (lent : List (Bor CatalogRoleRow)) (rows : List CatalogRoleRow) → map (λ (row : Bor CatalogRoleRow). row.now) lent ≡ rows → map (λ (row : Bor CatalogRoleRow). row.now.name) lent ≡ map catalog_role_name rows
+catalog_role_names_shown lent rows is = by lent ∙ ap (map catalog_role_name) is
+  where
+    by : (lent : List (Bor CatalogRoleRow)) → map (λ (row : Bor CatalogRoleRow). row.now.name) lent ≡ map catalog_role_name (map (λ (row : Bor CatalogRoleRow). row.now) lent)
+    by [] = refl
+    by (row ∷ lent) = ap (λ rest. row.now.name ∷ rest) (by lent)
 
 -- the levels of namespaces that are lent
 pub levels_shown : (lent : List (Bor NamespaceRow)) (rows : List NamespaceRow) → map (λ (row : Bor NamespaceRow). row.now) lent ≡ rows → map (λ (row : Bor NamespaceRow). row.now.levels) lent ≡ map (λ (row : NamespaceRow). row.levels) rows

@@ -1,3 +1,9 @@
+pub mod AccessChangesLemmas
+pub mod AccessFoundLemmas
+pub mod AccessLeadsLemmas
+pub mod AccessLimitsLemmas
+pub mod AccessRulesLemmas
+pub mod AccessSoundLemmas
 pub mod ActionLemmas
 pub mod AgreeLemmas
 pub mod AppliedLemmas
@@ -5,6 +11,7 @@ pub mod ChangesLemmas
 pub mod ContentLemmas
 pub mod DecisionLemmas
 pub mod FreshLemmas
+pub mod GrantSoundLemmas
 pub mod JudgedLemmas
 pub mod LimitsLemmas
 pub mod LiveLemmas

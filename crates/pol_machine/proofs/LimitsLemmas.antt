@@ -97,7 +97,7 @@ module _ (kind : Quantity) (bound : ℕ) where
           ap (any_above kind bound number) (rows_with-known key row rows known) ∙ ap (λ b. refuse_if b (Limit kind bound)) (above_replaced rows row within known)
 
 -- rules that pass are none of the first
-first-keep : (rule : Option Refusal) (rules others : List (Option Refusal)) → first_refusal rules ≡ first_refusal others → first_refusal (rule ∷ rules) ≡ first_refusal (rule ∷ others)
+pub first-keep : (rule : Option Refusal) (rules others : List (Option Refusal)) → first_refusal rules ≡ first_refusal others → first_refusal (rule ∷ rules) ≡ first_refusal (rule ∷ others)
 first-keep None rules others same = same
 first-keep (Some why) rules others same = refl
 
@@ -119,7 +119,7 @@ length-facts_with code fact facts bound room = by (holds code fact facts)
     by true = omega (arith, room)
     by false = let is = length-push facts fact in omega (arith, room, is)
 
-length-new : {R : Type 0} (key : R → ℕ) (row : R) (rows : List R) → knows key (key row) rows ≡ false → length (rows_with key row rows) ≡ length rows + 1
+pub length-new : {R : Type 0} (key : R → ℕ) (row : R) (rows : List R) → knows key (key row) rows ≡ false → length (rows_with key row rows) ≡ length rows + 1
 length-new key row rows new = ap length (rows_with-new key row rows new) ∙ length-push rows row
 
 length-map : {R : Type 0} (f : R → R) (rows : List R) → length (map f rows) ≡ length rows
@@ -132,7 +132,10 @@ length-altered key row rows known = ap length (rows_with-known key row rows know
 -- how the quantities are judged
 pub record Judged : Type 0 where
   pub catalogs : Option Refusal
+  pub principals : Option Refusal
+  pub principal_roles : Option Refusal
   pub catalog_roles : Option Refusal
+  pub members : Option Refusal
   pub joins : Option Refusal
   pub grants : Option Refusal
   pub namespaces : Option Refusal
@@ -145,7 +148,10 @@ pub record Judged : Type 0 where
 abbrev pub judged : Rows → Judged
 judged rows = record {
   catalogs = above quantity.Catalogs 1000 (length rows.content.catalogs);
+  principals = above quantity.Principals 10000 (length rows.access.principals);
+  principal_roles = above quantity.PrincipalRoles 10000 (length rows.access.principal_roles);
   catalog_roles = above quantity.CatalogRoles 10000 (length rows.access.catalog_roles);
+  members = above quantity.Members 100000 (length rows.access.members);
   joins = above quantity.Joins 100000 (length rows.access.joins);
   grants = above quantity.Grants 100000 (length rows.access.grants);
   namespaces = above quantity.Namespaces 100000 (length rows.content.namespaces);
@@ -157,13 +163,13 @@ judged rows = record {
 }
 
 abbrev pub none_above_bounds : Judged
-none_above_bounds = record { catalogs = None; catalog_roles = None; joins = None; grants = None; namespaces = None; allowed = None; properties = None; own = None; ids = None; serials = None }
+none_above_bounds = record { catalogs = None; principals = None; principal_roles = None; catalog_roles = None; members = None; joins = None; grants = None; namespaces = None; allowed = None; properties = None; own = None; ids = None; serials = None }
 
 abbrev pub in_turn : Judged → List (Option Refusal)
-in_turn by = by.catalogs ∷ by.catalog_roles ∷ by.joins ∷ by.grants ∷ by.namespaces ∷ by.allowed ∷ by.properties ∷ by.own ∷ by.ids ∷ by.serials ∷ []
+in_turn by = by.catalogs ∷ by.principals ∷ by.principal_roles ∷ by.catalog_roles ∷ by.members ∷ by.joins ∷ by.grants ∷ by.namespaces ∷ by.allowed ∷ by.properties ∷ by.own ∷ by.ids ∷ by.serials ∷ []
 
 -- the first refusal is that of the quantities as they are judged
-limits-by : (rows : Rows) (by : Judged) → judged rows ≡ by → over_limit rows ≡ first_refusal (in_turn by)
+pub limits-by : (rows : Rows) (by : Judged) → judged rows ≡ by → over_limit rows ≡ first_refusal (in_turn by)
 unfolding over_limit
 limits-by rows by is = ap (λ so. first_refusal (in_turn so)) is
 
@@ -187,10 +193,13 @@ module _ (s : Rows) (sound : IsSound s) where
       each-weaken IsSmallCatalog (λ row. catalog_properties row ≤ 1000) s.content.catalogs (λ row small. small.properties) sound.content.catalogs_small
 
   -- a sound state is within each bound
-  within-all : judged s ≡ none_above_bounds
+  pub within-all : judged s ≡ none_above_bounds
   within-all = λ i. record {
     catalogs = above-none quantity.Catalogs 1000 _ sound.content.catalogs_bound i;
+    principals = above-none quantity.Principals 10000 _ sound.access.principals_bound i;
+    principal_roles = above-none quantity.PrincipalRoles 10000 _ sound.access.principal_roles_bound i;
     catalog_roles = above-none quantity.CatalogRoles 10000 _ sound.access.catalog_roles_bound i;
+    members = above-none quantity.Members 100000 _ sound.access.members_bound i;
     joins = above-none quantity.Joins 100000 _ sound.access.joins_bound i;
     grants = above-none quantity.Grants 100000 _ sound.access.grants_bound i;
     namespaces = above-none quantity.Namespaces 100000 _ sound.content.namespaces_bound i;

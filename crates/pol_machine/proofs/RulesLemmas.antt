@@ -115,7 +115,7 @@ mapped-other : {A : Type 0} (found : Option A) (why : A → Refusal) → ((one :
 mapped-other None why other = refl
 mapped-other (Some one) why other = other one
 
-namespace-other : (s : Rows) (catalog : ℕ) (levels : List (List ℕ)) → tells_full (no_namespace s catalog levels) ≡ false
+pub namespace-other : (s : Rows) (catalog : ℕ) (levels : List (List ℕ)) → tells_full (no_namespace s catalog levels) ≡ false
 unfolding no_namespace
 namespace-other s catalog levels = mapped-other (first_missing catalog levels s.content) NoNamespace (λ path. refl)
 
@@ -131,7 +131,7 @@ pub text-other : (text : List ℕ) → tells_full (bad_text text) ≡ false
 unfolding bad_text
 text-other text = mapped-other (parse_refusal text) (BadLocation 0) (λ why. refl)
 
-either-other : (first second : Option Refusal) → tells_full first ≡ false → tells_full second ≡ false → tells_full (option_or first second) ≡ false
+pub either-other : (first second : Option Refusal) → tells_full first ≡ false → tells_full second ≡ false → tells_full (option_or first second) ≡ false
 either-other None second other also = also
 either-other (Some why) second other also = other
 
@@ -147,7 +147,7 @@ need-other s command needs = mapped-other (first_unmet s command needs) (λ need
 pub limit-other : (rows : Rows) → tells_full (over_limit rows) ≡ false
 unfolding over_limit
 limit-other rows =
-    first-other (limits rows) (refuse_if-other _ _ refl, (refuse_if-other _ _ refl, (refuse_if-other _ _ refl, (refuse_if-other _ _ refl, (refuse_if-other _ _ refl, (refuse_if-other _ _ refl, (refuse_if-other _ _ refl, (refuse_if-other _ _ refl, (refuse_if-other _ _ refl, (refuse_if-other _ _ refl, tt))))))))))
+    first-other (limits rows) (refuse_if-other _ _ refl, (refuse_if-other _ _ refl, (refuse_if-other _ _ refl, (refuse_if-other _ _ refl, (refuse_if-other _ _ refl, (refuse_if-other _ _ refl, (refuse_if-other _ _ refl, (refuse_if-other _ _ refl, (refuse_if-other _ _ refl, (refuse_if-other _ _ refl, (refuse_if-other _ _ refl, (refuse_if-other _ _ refl, (refuse_if-other _ _ refl, tt)))))))))))))
 
 pub on_namespace-other : (s : Rows) (command : Command) (privilege : Privilege) (name : List ℕ) (levels : List (List ℕ)) (rules : List (Option Refusal)) → AllByRecursion (λ rule. tells_full rule ≡ false) rules → AllByRecursion (λ rule. tells_full rule ≡ false) (on_namespace s command privilege name levels rules)
 on_namespace-other s command privilege name levels rules others =

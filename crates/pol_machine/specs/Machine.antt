@@ -3,11 +3,17 @@ use Rattle.std.specs.Prelude.{◌+◌, List, ◌∷◌, Option, Some, None}
 use Rattle.pol_machine.specs.Rows.{Rows}
 use Rattle.pol_machine.specs.Rules.{run_full, first_refusal, time_of}
 use Rattle.pol_machine.specs.Acting.{Acting}
+use Rattle.pol_machine.specs.CatalogRoles.{create_catalog_role, drop_catalog_role, get_catalog_role, list_catalog_roles}
 use Rattle.pol_machine.specs.Catalogs.{create_catalog, drop_catalog, get_catalog, get_config, list_catalogs}
+use Rattle.pol_machine.specs.Grants.{add_grant, list_grants, revoke}
+use Rattle.pol_machine.specs.Joins.{add_join, end_join, list_joins}
+use Rattle.pol_machine.specs.Members.{add_member, end_member, list_members}
 use Rattle.pol_machine.specs.Namespaces.{create_namespace, drop_namespace, head_namespace, list_namespaces, load_namespace, update_properties}
+use Rattle.pol_machine.specs.PrincipalRoles.{create_principal_role, drop_principal_role, get_principal_role, list_principal_roles}
+use Rattle.pol_machine.specs.Principals.{create_principal, drop_principal, get_principal, list_principals, rotate}
 use Rattle.pol_machine.specs.Sessions.{open_session}
 use Rattle.pol_commands.specs.declared.command.Action.{Action}
-use Rattle.pol_commands.specs.declared.command.Action.TheVariants.{OpenSession, GetConfig, ListCatalogs, CreateCatalog, GetCatalog, DropCatalog, ListNamespaces, CreateNamespace, LoadNamespace, HeadNamespace, DropNamespace, UpdateProperties}
+use Rattle.pol_commands.specs.declared.command.Action.TheVariants.{OpenSession, GetConfig, ListCatalogs, CreateCatalog, GetCatalog, DropCatalog, ListNamespaces, CreateNamespace, LoadNamespace, HeadNamespace, DropNamespace, UpdateProperties, ListPrincipals, CreatePrincipal, GetPrincipal, DropPrincipal, Rotate, ListMembers, AddMember, EndMember, ListPrincipalRoles, CreatePrincipalRole, GetPrincipalRole, DropPrincipalRole, ListJoins, AddJoin, EndJoin, ListCatalogRoles, CreateCatalogRole, GetCatalogRole, DropCatalogRole, ListGrants, AddGrant, Revoke}
 use Rattle.pol_commands.specs.declared.command.Command.{Command}
 use Rattle.pol_commands.specs.declared.reply.Answer.{Answer}
 use Rattle.pol_commands.specs.declared.reply.Refusal.{Refusal}
@@ -28,6 +34,28 @@ acting s command (LoadNamespace name levels) = load_namespace s command name lev
 acting s command (HeadNamespace name levels) = head_namespace s command name levels
 acting s command (DropNamespace name levels) = drop_namespace s command name levels
 acting s command (UpdateProperties name levels removals updates) = update_properties s command name levels removals updates
+acting s command ListPrincipals = list_principals s command
+acting s command (CreatePrincipal name client_id secret) = create_principal s command name client_id secret
+acting s command (GetPrincipal name) = get_principal s command name
+acting s command (DropPrincipal name) = drop_principal s command name
+acting s command (Rotate name secret) = rotate s command name secret
+acting s command (ListMembers principal) = list_members s command principal
+acting s command (AddMember principal role) = add_member s command principal role
+acting s command (EndMember principal role) = end_member s command principal role
+acting s command ListPrincipalRoles = list_principal_roles s command
+acting s command (CreatePrincipalRole name) = create_principal_role s command name
+acting s command (GetPrincipalRole name) = get_principal_role s command name
+acting s command (DropPrincipalRole name) = drop_principal_role s command name
+acting s command (ListJoins catalog role) = list_joins s command catalog role
+acting s command (AddJoin catalog role catalog_role) = add_join s command catalog role catalog_role
+acting s command (EndJoin catalog role catalog_role) = end_join s command catalog role catalog_role
+acting s command (ListCatalogRoles catalog) = list_catalog_roles s command catalog
+acting s command (CreateCatalogRole catalog name) = create_catalog_role s command catalog name
+acting s command (GetCatalogRole catalog name) = get_catalog_role s command catalog name
+acting s command (DropCatalogRole catalog name) = drop_catalog_role s command catalog name
+acting s command (ListGrants catalog role) = list_grants s command catalog role
+acting s command (AddGrant catalog role grant) = add_grant s command catalog role grant
+acting s command (Revoke catalog role grant) = revoke s command catalog role grant
 
 -- the rules of a command, in their order
 abbrev pub rules_of : Rows → Command → List (Option Refusal)

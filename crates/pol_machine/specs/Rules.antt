@@ -177,7 +177,10 @@ namespace_properties row = length row.properties
 abbrev pub limits : Rows → List (Option Refusal)
 limits rows =
     above quantity.Catalogs 1000 (length rows.content.catalogs)
+    ∷ above quantity.Principals 10000 (length rows.access.principals)
+    ∷ above quantity.PrincipalRoles 10000 (length rows.access.principal_roles)
     ∷ above quantity.CatalogRoles 10000 (length rows.access.catalog_roles)
+    ∷ above quantity.Members 100000 (length rows.access.members)
     ∷ above quantity.Joins 100000 (length rows.access.joins)
     ∷ above quantity.Grants 100000 (length rows.access.grants)
     ∷ above quantity.Namespaces 100000 (length rows.content.namespaces)

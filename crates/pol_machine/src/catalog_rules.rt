@@ -23,11 +23,11 @@ const CATALOGS: u64 = 1_000;
 const ALLOWED_LOCATIONS: u64 = 100;
 
 /// How many roles the catalogues have at most, how many joins there are at most, and how many grants.
-const CATALOG_ROLES: u64 = 10_000;
+pub(crate) const CATALOG_ROLES: u64 = 10_000;
 
-const JOINS: u64 = 100_000;
+pub(crate) const JOINS: u64 = 100_000;
 
-const GRANTS: u64 = 100_000;
+pub(crate) const GRANTS: u64 = 100_000;
 
 /// The role that each catalogue has from the start.
 pub(crate) const CATALOG_ADMIN: &str = "catalog_admin";

@@ -4,11 +4,21 @@ ghost use Rattle.pol_machine.specs.Judged.{Acts};
 ghost use Rattle.pol_machine.specs.Machine.{acting, next_state, reply_of, rules_of};
 ghost use Rattle.pol_machine.specs.Sound.{IsSound};
 
+use crate::catalog_roles::{
+    create_catalog_role, drop_catalog_role, get_catalog_role, list_catalog_roles,
+};
 use crate::catalogs::{create_catalog, drop_catalog, get_catalog, get_config, list_catalogs};
+use crate::grants::{add_grant, list_grants, revoke};
+use crate::joins::{add_join, end_join, list_joins};
+use crate::members::{add_member, end_member, list_members};
 use crate::namespaces::{
     create_namespace, drop_namespace, head_namespace, list_namespaces, load_namespace,
     update_properties,
 };
+use crate::principal_roles::{
+    create_principal_role, drop_principal_role, get_principal_role, list_principal_roles,
+};
+use crate::principals::{create_principal, drop_principal, get_principal, list_principals, rotate};
 use crate::rules::{Acted, Stop, run_open};
 use crate::sessions::open_session;
 use crate::{Action, Change, Command, Reply, State};
@@ -92,5 +102,57 @@ fn act(alloc: Global, state: &State, command: &Command) -> Result<Acted, Stop>
             removals,
             updates,
         } => update_properties(alloc, state, command, catalog, namespace, removals, updates),
+        Action::ListPrincipals => list_principals(alloc, state, command),
+        Action::CreatePrincipal {
+            name,
+            client_id,
+            secret,
+        } => create_principal(alloc, state, command, name, client_id, secret),
+        Action::GetPrincipal { name } => get_principal(alloc, state, command, name),
+        Action::DropPrincipal { name } => drop_principal(alloc, state, command, name),
+        Action::Rotate { name, secret } => rotate(alloc, state, command, name, secret),
+        Action::ListMembers { principal } => list_members(alloc, state, command, principal),
+        Action::AddMember { principal, role } => {
+            add_member(alloc, state, command, principal, role)
+        }
+        Action::EndMember { principal, role } => {
+            end_member(alloc, state, command, principal, role)
+        }
+        Action::ListPrincipalRoles => list_principal_roles(alloc, state, command),
+        Action::CreatePrincipalRole { name } => create_principal_role(alloc, state, command, name),
+        Action::GetPrincipalRole { name } => get_principal_role(alloc, state, command, name),
+        Action::DropPrincipalRole { name } => drop_principal_role(alloc, state, command, name),
+        Action::ListJoins { catalog, role } => list_joins(alloc, state, command, catalog, role),
+        Action::AddJoin {
+            catalog,
+            role,
+            catalog_role,
+        } => add_join(alloc, state, command, catalog, role, catalog_role),
+        Action::EndJoin {
+            catalog,
+            role,
+            catalog_role,
+        } => end_join(alloc, state, command, catalog, role, catalog_role),
+        Action::ListCatalogRoles { catalog } => list_catalog_roles(alloc, state, command, catalog),
+        Action::CreateCatalogRole { catalog, name } => {
+            create_catalog_role(alloc, state, command, catalog, name)
+        }
+        Action::GetCatalogRole { catalog, name } => {
+            get_catalog_role(alloc, state, command, catalog, name)
+        }
+        Action::DropCatalogRole { catalog, name } => {
+            drop_catalog_role(alloc, state, command, catalog, name)
+        }
+        Action::ListGrants { catalog, role } => list_grants(alloc, state, command, catalog, role),
+        Action::AddGrant {
+            catalog,
+            role,
+            grant,
+        } => add_grant(alloc, state, command, catalog, role, grant),
+        Action::Revoke {
+            catalog,
+            role,
+            grant,
+        } => revoke(alloc, state, command, catalog, role, grant),
     }
 }

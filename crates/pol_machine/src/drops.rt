@@ -1,11 +1,11 @@
 //! What goes along with a row that is dropped.
 ghost use Rattle.std.specs.Prelude.{◌≡◌, ◌==◌, ◌++◌, filter, map, OnOk};
 ghost use Rattle.pol_access.specs.Access.{catalog_role_id};
-ghost use Rattle.pol_access.specs.Order.{grants_in_order, joins_in_order};
-ghost use Rattle.pol_access.specs.Referent.{grant_names, join_names};
-ghost use Rattle.pol_content.specs.declared.change.Change.TheVariants.{DropCatalogRole, DropGrant, DropJoin};
+ghost use Rattle.pol_access.specs.Order.{grants_in_order, joins_in_order, members_in_order};
+ghost use Rattle.pol_access.specs.Referent.{grant_names, join_names, member_names};
+ghost use Rattle.pol_content.specs.declared.change.Change.TheVariants.{DropCatalogRole, DropGrant, DropJoin, DropMember};
 
-use crate::{Change, GrantRow, JoinRow, State};
+use crate::{Change, GrantRow, JoinRow, MemberRow, State};
 use pol_access::Referent;
 use pol_types::OutOfMemory;
 use std::alloc::Global;
@@ -21,6 +21,19 @@ pub(crate) fn push_roles(
 {
     let ids = state.access().role_ids_of_catalog(alloc, catalog)?;
     push_role_drops(ids.as_slice(), changes)
+}
+
+/// Pushes the drops of the members that name it, in rising order.
+pub(crate) fn push_members(
+    alloc: Global,
+    state: &State,
+    referent: Referent,
+    changes: &mut Vec<Change>,
+) -> Result<(), OutOfMemory>
+    ensures { let access = state.now.rows.access in OnOk result (changes.new.items ≡ changes.old.items ++ map DropMember (members_in_order (filter (member_names referent) access.members))) }
+{
+    let rows = state.access().members_of(alloc, referent)?;
+    push_member_drops(rows.as_slice(), changes)
 }
 
 /// Pushes the drops of the joins that name it, in rising order.
@@ -54,6 +67,15 @@ fn push_role_drops(ids: &[u64], changes: &mut Vec<Change>) -> Result<(), OutOfMe
 {
     for id in ids {
         changes.push(Change::DropCatalogRole(*id))?;
+    }
+    Ok(())
+}
+
+fn push_member_drops(rows: &[MemberRow], changes: &mut Vec<Change>) -> Result<(), OutOfMemory>
+    ensures { OnOk result (changes.new.items ≡ changes.old.items ++ map DropMember rows.now) }
+{
+    for row in rows {
+        changes.push(Change::DropMember(*row))?;
     }
     Ok(())
 }

@@ -1,7 +1,7 @@
 //! Laws of the machine: each is a function without a body, whose clause is the law.
 ghost use Rattle.pol_machine.specs.Laws.{AgreeingStatesDoAlike, AnsweredWhereEachRulePasses, ChangesLeadToNextState, FullRunChangesNothing, FullRunIsTold, LivePartAgrees, NextStateIsSound};
 
-/// The state after a command is sound.
+/// The state after a command is sound, where a grant that the command adds is of a privilege that may be granted there.
 pub fn next_state_is_sound()
     ensures { NextStateIsSound }
 {}

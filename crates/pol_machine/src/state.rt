@@ -264,6 +264,13 @@ fn service_admin(alloc: Global) -> Result<PrincipalRoleRow, OutOfMemory>
     })
 }
 
+/// A text of its own.
+pub(crate) fn text(alloc: Global, source: &str) -> Result<Text, OutOfMemory>
+    ensures { IfOk result (λ text. text ≡ source.now) }
+{
+    Ok(Text::from(String::from_str(alloc, source)?))
+}
+
 /// The plain name of this text, which is known to be one.
 pub(crate) fn plain(alloc: Global, name: &str) -> Result<Plain, OutOfMemory>
     ensures { IfOk result (λ plain. plain ≡ name.now) }

@@ -1,0 +1,179 @@
+ghost use Rattle.std.specs.Prelude.{◌≡◌, IfOk, filter_map};
+ghost use Rattle.pol_machine.specs.Changes.{changes_between};
+ghost use Rattle.pol_machine.specs.Grants.{add_grant, grants_held, list_grants, named_grant, named_on, revoke, with_grant};
+ghost use Rattle.pol_machine.specs.Judged.{Acts};
+ghost use Rattle.pol_machine.specs.Machine.{stamped};
+ghost use Rattle.pol_machine.specs.Sound.{IsSound};
+
+use crate::access_bounds::grant_within;
+use crate::access_rules::{catalog_role_there, grant_may_end, grant_there, securable_there};
+use crate::callers::signed_in;
+use crate::catalog_rules::catalog_there;
+use crate::made::{none, one};
+use crate::needs::allowed_on_catalog;
+use crate::rules::{Acted, Stop, unchanged};
+use crate::{
+    Answer, CatalogRoleRow, Change, Command, Grant, GrantRow, GrantedOn, Privilege, Securable,
+    State,
+};
+use pol_access::Referent;
+use pol_names::Plain;
+use pol_types::{Listed, OutOfMemory};
+use std::alloc::Global;
+
+/// Lists the grants of a catalogue's role.
+#[tactic(auto, using(crate::proofs::ChangesLemmas::no_changes))]
+pub(crate) fn list_grants(
+    alloc: Global,
+    state: &State,
+    command: &Command,
+    catalog: &Plain,
+    role: &Plain,
+) -> Result<Acted, Stop>
+    requires { IsSound state.now.rows }
+    ensures { let acting = list_grants state.now.rows command.now catalog.now role.now in Acts state.now.rows command.now acting.rules acting.after acting.answer result }
+{
+    signed_in(state, command)?;
+    let owner = catalog_there(alloc, state, catalog)?;
+    allowed_on_catalog(alloc, state, command, Privilege::CatalogManageAccess, owner)?;
+    let row = catalog_role_there(alloc, state, owner, role)?;
+    let grants = grants_held(alloc, state, row)?;
+    Ok(unchanged(alloc, Answer::GrantsListed(grants)))
+}
+
+/// The grants of a role, in the order of their rows.
+fn grants_held(
+    alloc: Global,
+    state: &State,
+    role: &CatalogRoleRow,
+) -> Result<Listed<Grant>, OutOfMemory>
+    ensures { IfOk result (λ grants. grants ≡ grants_held state.now.rows role.now) }
+{
+    let rows = state
+        .access()
+        .grants_of(alloc, Referent::CatalogRole(role.id))?;
+    named_grants(alloc, state, rows.as_slice())
+}
+
+/// The grants by the names of what they are on, in their order.
+fn named_grants(
+    alloc: Global,
+    state: &State,
+    rows: &[GrantRow],
+) -> Result<Listed<Grant>, OutOfMemory>
+    ensures { IfOk result (λ grants. grants ≡ filter_map (named_grant state.now.rows) rows.now) }
+{
+    let mut grants = Vec::new(alloc);
+    for row in rows {
+        if let Some(grant) = named_grant(state, row)? {
+            grants.push(grant)?;
+        }
+    }
+    Ok(Listed::from(grants))
+}
+
+/// A grant by the name of what it is on.
+fn named_grant(state: &State, row: &GrantRow) -> Result<Option<Grant>, OutOfMemory>
+    ensures { IfOk result (λ grant. grant ≡ named_grant state.now.rows row.now) }
+{
+    match named_on(state, row.securable)? {
+        Some(on) => Ok(Some(Grant {
+            privilege: row.privilege,
+            on,
+        })),
+        None => Ok(None),
+    }
+}
+
+/// The securable by its name in its catalogue.
+fn named_on(state: &State, securable: Securable) -> Result<Option<GrantedOn>, OutOfMemory>
+    ensures { IfOk result (λ on. on ≡ named_on state.now.rows securable) }
+{
+    match securable {
+        Securable::Catalog(_) => Ok(Some(GrantedOn::Catalog)),
+        Securable::Namespace(id) => match state.content().namespace_of(id) {
+            Some(row) => Ok(Some(GrantedOn::Namespace(row.levels.clone()?))),
+            None => Ok(None),
+        },
+        Securable::Realm | Securable::Table(_) | Securable::View(_) => Ok(None),
+    }
+}
+
+/// Grants a privilege to a role of a catalogue.
+#[tactic(auto, unfolding(crate::specs::AccessRules::grant_of))]
+pub(crate) fn add_grant(
+    alloc: Global,
+    state: &State,
+    command: &Command,
+    catalog: &Plain,
+    role: &Plain,
+    grant: &Grant,
+) -> Result<Acted, Stop>
+    requires { IsSound state.now.rows }
+    ensures { let acting = add_grant state.now.rows command.now catalog.now role.now grant.now in Acts state.now.rows command.now acting.rules acting.after acting.answer result }
+{
+    signed_in(state, command)?;
+    let owner = catalog_there(alloc, state, catalog)?;
+    allowed_on_catalog(alloc, state, command, Privilege::CatalogManageAccess, owner)?;
+    let securable = securable_there(alloc, state, owner, &grant.on)?;
+    let holder = catalog_role_there(alloc, state, owner, role)?;
+    let row = GrantRow {
+        catalog_role: holder.id,
+        privilege: grant.privilege,
+        securable,
+    };
+    grant_within(state, &row)?;
+    let changes = added(alloc, state, command, row)?;
+    Ok(Acted {
+        answer: Answer::GrantAdded,
+        changes,
+    })
+}
+
+/// The changes by which a grant is put: none where it is there.
+#[tactic(auto, using(crate::proofs::AccessChangesLemmas::known_grant_changes, crate::proofs::AccessChangesLemmas::new_grant_changes))]
+fn added(
+    alloc: Global,
+    state: &State,
+    command: &Command,
+    row: GrantRow,
+) -> Result<Listed<Change>, OutOfMemory>
+    ensures { IfOk result (λ changes. changes ≡ changes_between state.now.rows (stamped state.now.rows command.now (with_grant state.now.rows row))) }
+{
+    if state.access().has_grant(&row) {
+        return Ok(none(alloc));
+    }
+    one(alloc, state, command, Change::PutGrant(row))
+}
+
+/// Revokes a grant of a catalogue's role.
+#[tactic(auto, using(crate::proofs::AccessChangesLemmas::ended_grant_changes), unfolding(crate::specs::AccessRules::grant_of))]
+pub(crate) fn revoke(
+    alloc: Global,
+    state: &State,
+    command: &Command,
+    catalog: &Plain,
+    role: &Plain,
+    grant: &Grant,
+) -> Result<Acted, Stop>
+    requires { IsSound state.now.rows }
+    ensures { let acting = revoke state.now.rows command.now catalog.now role.now grant.now in Acts state.now.rows command.now acting.rules acting.after acting.answer result }
+{
+    signed_in(state, command)?;
+    let owner = catalog_there(alloc, state, catalog)?;
+    allowed_on_catalog(alloc, state, command, Privilege::CatalogManageAccess, owner)?;
+    let securable = securable_there(alloc, state, owner, &grant.on)?;
+    let holder = catalog_role_there(alloc, state, owner, role)?;
+    let row = GrantRow {
+        catalog_role: holder.id,
+        privilege: grant.privilege,
+        securable,
+    };
+    grant_there(alloc, state, &row)?;
+    grant_may_end(alloc, role, grant)?;
+    let changes = one(alloc, state, command, Change::DropGrant(row))?;
+    Ok(Acted {
+        answer: Answer::GrantRevoked,
+        changes,
+    })
+}

@@ -1,0 +1,122 @@
+ghost use Rattle.std.specs.Prelude.{◌≡◌, IfOk};
+ghost use Rattle.pol_machine.specs.Changes.{changes_between};
+ghost use Rattle.pol_machine.specs.Judged.{Acts};
+ghost use Rattle.pol_machine.specs.Machine.{stamped};
+ghost use Rattle.pol_machine.specs.Members.{add_member, end_member, list_members, roles_held, with_member};
+ghost use Rattle.pol_machine.specs.Sound.{IsSound};
+
+use crate::access_bounds::member_within;
+use crate::access_rules::{member_may_end, member_there, principal_role_there, principal_there};
+use crate::callers::signed_in;
+use crate::made::{none, one};
+use crate::needs::allowed_service;
+use crate::principal_roles::names_of;
+use crate::rules::{Acted, Stop, unchanged};
+use crate::{Answer, Change, Command, MemberRow, PrincipalRow, State};
+use pol_names::Plain;
+use pol_types::{Listed, OutOfMemory};
+use std::alloc::Global;
+
+/// Lists the principal roles of which a principal is a member.
+#[tactic(auto, using(crate::proofs::ChangesLemmas::no_changes))]
+pub(crate) fn list_members(
+    alloc: Global,
+    state: &State,
+    command: &Command,
+    principal: &Plain,
+) -> Result<Acted, Stop>
+    requires { IsSound state.now.rows }
+    ensures { let acting = list_members state.now.rows command.now principal.now in Acts state.now.rows command.now acting.rules acting.after acting.answer result }
+{
+    signed_in(state, command)?;
+    allowed_service(alloc, state, command)?;
+    let row = principal_there(alloc, state, principal)?;
+    let roles = roles_held(alloc, state, row)?;
+    Ok(unchanged(alloc, Answer::RolesListed(roles)))
+}
+
+/// The names of the principal roles of which a principal is a member.
+#[tactic(auto, using(crate::proofs::ContentLemmas::role_names_shown))]
+fn roles_held(
+    alloc: Global,
+    state: &State,
+    principal: &PrincipalRow,
+) -> Result<Listed<Plain>, OutOfMemory>
+    ensures { IfOk result (λ roles. roles ≡ roles_held state.now.rows principal.now) }
+{
+    let rows = state.access().roles_of_principal(alloc, principal.id)?;
+    names_of(alloc, rows.as_slice())
+}
+
+/// Makes a principal a member of a principal role.
+#[tactic(auto, unfolding(crate::specs::AccessRules::member_of))]
+pub(crate) fn add_member(
+    alloc: Global,
+    state: &State,
+    command: &Command,
+    principal: &Plain,
+    role: &Plain,
+) -> Result<Acted, Stop>
+    requires { IsSound state.now.rows }
+    ensures { let acting = add_member state.now.rows command.now principal.now role.now in Acts state.now.rows command.now acting.rules acting.after acting.answer result }
+{
+    signed_in(state, command)?;
+    allowed_service(alloc, state, command)?;
+    let member = principal_there(alloc, state, principal)?;
+    let group = principal_role_there(alloc, state, role)?;
+    let row = MemberRow {
+        principal: member.id,
+        role: group.id,
+    };
+    member_within(state, &row)?;
+    let changes = added(alloc, state, command, row)?;
+    Ok(Acted {
+        answer: Answer::MemberAdded,
+        changes,
+    })
+}
+
+/// The changes by which a membership is put: none where it is there.
+#[tactic(auto, using(crate::proofs::AccessChangesLemmas::known_member_changes, crate::proofs::AccessChangesLemmas::new_member_changes))]
+fn added(
+    alloc: Global,
+    state: &State,
+    command: &Command,
+    row: MemberRow,
+) -> Result<Listed<Change>, OutOfMemory>
+    ensures { IfOk result (λ changes. changes ≡ changes_between state.now.rows (stamped state.now.rows command.now (with_member state.now.rows row))) }
+{
+    if state.access().is_member(row.principal, row.role) {
+        return Ok(none(alloc));
+    }
+    one(alloc, state, command, Change::PutMember(row))
+}
+
+/// Ends a principal's membership in a principal role.
+#[tactic(auto, using(crate::proofs::AccessChangesLemmas::ended_member_changes), unfolding(crate::specs::AccessRules::member_of))]
+pub(crate) fn end_member(
+    alloc: Global,
+    state: &State,
+    command: &Command,
+    principal: &Plain,
+    role: &Plain,
+) -> Result<Acted, Stop>
+    requires { IsSound state.now.rows }
+    ensures { let acting = end_member state.now.rows command.now principal.now role.now in Acts state.now.rows command.now acting.rules acting.after acting.answer result }
+{
+    signed_in(state, command)?;
+    allowed_service(alloc, state, command)?;
+    let member = principal_there(alloc, state, principal)?;
+    let group = principal_role_there(alloc, state, role)?;
+    let row = MemberRow {
+        principal: member.id,
+        role: group.id,
+    };
+    member_there(alloc, state, role, &row)?;
+    member_may_end(alloc, principal, role)?;
+    let changes = one(alloc, state, command, Change::DropMember(row))?;
+    Ok(Acted {
+        answer: Answer::MemberEnded,
+        changes,
+    })
+}
