@@ -1,4 +1,4 @@
-ghost use Rattle.std.specs.Prelude.{◌≡◌, IfOk, filter_map};
+ghost use Rattle.std.specs.Prelude.{◌≡◌, ◌++◌, IfOk, OnOk, filter_map, option_to_list};
 ghost use Rattle.pol_machine.specs.Changes.{changes_between};
 ghost use Rattle.pol_machine.specs.Grants.{add_grant, grants_held, list_grants, named_grant, named_on, revoke, with_grant};
 ghost use Rattle.pol_machine.specs.Judged.{Acts};
@@ -65,11 +65,19 @@ fn named_grants(
 {
     let mut grants = Vec::new(alloc);
     for row in rows {
-        if let Some(grant) = named_grant(state, row)? {
-            grants.push(grant)?;
-        }
+        push_named(state, row, &mut grants)?;
     }
     Ok(Listed::from(grants))
+}
+
+/// Pushes a grant by the name of what it is on, where that is there.
+fn push_named(state: &State, row: &GrantRow, grants: &mut Vec<Grant>) -> Result<(), OutOfMemory>
+    ensures { OnOk result (grants.new.items ≡ grants.old.items ++ option_to_list (named_grant state.now.rows row.now)) }
+{
+    if let Some(grant) = named_grant(state, row)? {
+        grants.push(grant)?;
+    }
+    Ok(())
 }
 
 /// A grant by the name of what it is on.

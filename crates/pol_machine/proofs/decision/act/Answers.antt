@@ -1,6 +1,7 @@
 use Rattle.std.proofs.Common.{◌∷◌, sym, subst}
 use Rattle.pol_machine.specs.Acting.{Acting}
 use Rattle.pol_machine.specs.Catalogs.{create_catalog}
+use Rattle.pol_machine.specs.Joins.{list_joins}
 use Rattle.pol_machine.specs.Judged.{Acts}
 use Rattle.pol_machine.specs.Machine.{acting}
 use Rattle.pol_machine.specs.Rules.{run_full}
@@ -16,3 +17,12 @@ returns-in-CreateCatalog c =
     let created : Acting = create_catalog s command c.in-CreateCatalog.name c.in-CreateCatalog.base c.in-CreateCatalog.allowed c.in-CreateCatalog.properties c.in-CreateCatalog.external in
     subst (λ (action : Action). Acts s command (full ∷ (acting s command action).rules) (acting s command action).after (acting s command action).answer c.create_catalog.result) (sym c.in-CreateCatalog.is)
     (acts-past s command full created.rules created.after created.answer c.create_catalog.result c.in_ok-run_open.ensures.0 c.create_catalog.ensures)
+
+pub returns-in-ListJoins : goal.returns-in-ListJoins
+returns-in-ListJoins c =
+    let s = c.args.state.now.rows in
+    let command = c.args.command.now in
+    let full = run_full s command.charge in
+    let listed : Acting = list_joins s command c.in-ListJoins.catalog c.in-ListJoins.role in
+    subst (λ (action : Action). Acts s command (full ∷ (acting s command action).rules) (acting s command action).after (acting s command action).answer c.list_joins.result) (sym c.in-ListJoins.is)
+    (acts-past s command full listed.rules listed.after listed.answer c.list_joins.result c.in_ok-run_open.ensures.0 c.list_joins.ensures)
