@@ -24,8 +24,6 @@ mod rules;
 mod scopes;
 mod sessions;
 mod state;
-#[cfg(test)]
-mod tests;
 
 pub use decision::{Decision, decide};
 pub use pol_access::{

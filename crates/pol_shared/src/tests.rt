@@ -1,6 +1,8 @@
 ghost use Rattle.std.specs.Prelude.{◌≡◌, ◌≤◌, ◌^◌, IfOk, ⊤};
 ghost use Rattle.pol_commands.specs.Proper.{IsProper};
 
+mod decisions;
+
 use crate::{Closed, Kept, Render, Stepped};
 use pol_machine::{Action, Answer, Caller, Command, Reply, Words4};
 use pol_types::{Listed, OutOfMemory, Text};

@@ -1,8 +1,11 @@
+//! What the machine decides in states of all kinds, also in those that no run of a test reaches.
 ghost use Rattle.std.specs.Prelude.{◌≡◌, ◌≤◌, ◌^◌, IfOk};
 ghost use Rattle.pol_machine.specs.Sound.{IsSound};
 
-use super::*;
-use crate::scopes::are_scopes;
+use pol_machine::{
+    Action, Answer, Caller, Change, Command, Decision, Quantity, Refusal, Reply, RoleIds, Scope,
+    SessionRow, State, Words4, decide,
+};
 use pol_types::{Listed, Text};
 use std::alloc::Global;
 use std::test::Fail;
@@ -311,33 +314,6 @@ fn check_refusals(alloc: Global, state: &State) -> Result<(), Fail>
 fn refusals_come_in_their_order(rt: HostRuntime) -> Result<(), Fail> {
     let state = raised(rt.alloc(), SERIAL_BOUND, RUN_BOUND)?;
     let checked = check_refusals(rt.alloc(), &state);
-    drop(state);
-    checked
-}
-
-/// Whether `service_admin` is a scope of the principal.
-fn may_be_admin(alloc: Global, state: &State, principal: u64) -> Result<bool, Fail>
-    requires { IsSound state.now.rows }
-{
-    let admin = words(alloc, Some("PRINCIPAL_ROLE:service_admin"))?;
-    Ok(are_scopes(state.access(), principal, &admin))
-}
-
-fn check_holders(alloc: Global, state: &State) -> Result<(), Fail>
-    requires { IsSound state.now.rows }
-{
-    for (principal, held) in [(1, true), (2, false), (3, false)] {
-        if may_be_admin(alloc, state, principal)? != held {
-            return Err(Fail::new("another principal has the role"));
-        }
-    }
-    Ok(())
-}
-
-#[test]
-fn role_of_another_principal_is_no_scope(rt: HostRuntime) -> Result<(), Fail> {
-    let state = fresh(rt.alloc())?;
-    let checked = check_holders(rt.alloc(), &state);
     drop(state);
     checked
 }
