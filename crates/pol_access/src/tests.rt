@@ -4,12 +4,12 @@ ghost use Rattle.pol_access.specs.Access.{IsWithin};
 use super::*;
 use pol_names::Plain;
 use pol_types::Text;
-use std::alloc::Global;
+use std::alloc::{AllocError, Global};
 use std::test::Fail;
 
 /// Each privilege in its numbered order, which of all, in the same order, it implies, and whether it may be granted
 /// on the realm, on a catalogue, a namespace, a table and a view.
-const PRIVILEGES: [(&str, &str, &str); 26] = [
+const PRIVILEGES: [Row<'static>; 26] = [
     ("NAMESPACE_CREATE", "x.x.......................", ".xx.."),
     ("NAMESPACE_DROP", ".x........................", ".xx.."),
     ("NAMESPACE_LIST", "..x.......................", ".xx.."),
@@ -98,35 +98,65 @@ const KINDS: [SecurableKind; 5] = [
     SecurableKind::View,
 ];
 
+/// A privilege, which ones it implies, and the kinds on which it may be granted.
+type Row<'a> = (&'a str, &'a str, &'a str);
+
+/// Whether a privilege implies just the marked ones of these.
+fn implies_as(held: Privilege, rows: &[Row<'_>], marks: &str) -> Result<bool, Fail> {
+    for ((wanted, _, _), mark) in rows.iter().zip(marks.as_bytes()) {
+        let wanted = Privilege::from_text(wanted).ok_or("no privilege")?;
+        if implies(held, wanted) != (*mark == b'x') {
+            return Ok(false);
+        }
+    }
+    Ok(true)
+}
+
+fn check_implications(rows: &[Row<'_>]) -> Result<(), Fail> {
+    for (held, marks, _) in rows {
+        let held = Privilege::from_text(held).ok_or("no privilege")?;
+        check(implies_as(held, rows, marks)?, "the privileges are others")?;
+    }
+    Ok(())
+}
+
 #[test]
 fn privileges_imply_what_the_table_says(rt: HostRuntime) -> Result<(), Fail> {
-    for (held, marks, _) in PRIVILEGES {
-        let held = Privilege::from_text(held).ok_or("no privilege")?;
-        for ((wanted, _, _), mark) in PRIVILEGES.iter().zip(marks.as_bytes()) {
-            let wanted = Privilege::from_text(wanted).ok_or("no privilege")?;
-            assert!(rt;
-                implies(held, wanted) == (*mark == b'x'),
-                "{held} and {wanted}"
-            );
+    check_implications(&PRIVILEGES)
+}
+
+/// Whether a privilege prints this text.
+fn prints(alloc: Global, privilege: Privilege, text: &str) -> Result<bool, AllocError> {
+    Ok(privilege.to_string(alloc)?.as_str() == text)
+}
+
+/// Whether a privilege may be granted on just the marked ones of these kinds.
+fn is_granted_as(privilege: Privilege, kinds: &[SecurableKind], marks: &str) -> bool {
+    for (kind, mark) in kinds.iter().zip(marks.as_bytes()) {
+        if grantable(privilege, *kind) != (*mark == b'x') {
+            return false;
         }
+    }
+    true
+}
+
+fn check_kinds(alloc: Global, rows: &[Row<'_>]) -> Result<(), Fail> {
+    for (text, _, marks) in rows {
+        let privilege = Privilege::from_text(text).ok_or("no privilege")?;
+        check(prints(alloc, privilege, text)?, "the text is another")?;
+        check(
+            is_granted_as(privilege, &KINDS, marks),
+            "the kinds are others",
+        )?;
     }
     Ok(())
 }
 
 #[test]
 fn privileges_are_granted_where_their_kind_stands(rt: HostRuntime) -> Result<(), Fail> {
-    for (text, _, marks) in PRIVILEGES {
-        let privilege = Privilege::from_text(text).ok_or("no privilege")?;
-        assert!(rt; privilege.to_string(rt.alloc())?.as_str() == text);
-        for (kind, mark) in KINDS.iter().zip(marks.as_bytes()) {
-            assert!(rt;
-                grantable(privilege, *kind) == (*mark == b'x'),
-                "{privilege} on {kind:?}"
-            );
-        }
-    }
-    assert!(rt; Privilege::from_text("TABLE_READ").is_none());
-    Ok(())
+    check_kinds(rt.alloc(), &PRIVILEGES)?;
+    let unknown = Privilege::from_text("TABLE_READ");
+    check(unknown.is_none(), "a text of no privilege is one")
 }
 
 fn check(holds: bool, otherwise: &'static str) -> Result<(), Fail>
