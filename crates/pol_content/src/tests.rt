@@ -58,20 +58,40 @@ fn put_namespace(
     Ok(())
 }
 
-/// Two catalogues; the first has `a`, `a.b`, `a.b.c` and `d`, the second `a`.
-fn fill(alloc: Global, content: &mut Content) -> Result<(), Fail> {
-    put_catalog(alloc, content, 3, "sales")?;
-    put_catalog(alloc, content, 4, "stock")?;
-    for (id, catalog, segment) in [
-        (5, 3, "a"),
-        (6, 3, "a\u{1f}b"),
-        (7, 4, "a"),
-        (8, 3, "a\u{1f}b\u{1f}c"),
-        (9, 3, "d"),
-    ] {
-        put_namespace(alloc, content, id, catalog, segment)?;
+/// Puts namespaces of these ids, catalogues and levels.
+fn put_namespaces(
+    alloc: Global,
+    content: &mut Content,
+    rows: &[(u64, u64, &str)],
+) -> Result<(), Fail> {
+    for (id, catalog, segment) in rows {
+        put_namespace(alloc, content, *id, *catalog, segment)?;
     }
     Ok(())
+}
+
+/// Puts catalogues of these ids and names.
+fn put_catalogs(alloc: Global, content: &mut Content, rows: &[(u64, &str)]) -> Result<(), Fail> {
+    for (id, name) in rows {
+        put_catalog(alloc, content, *id, name)?;
+    }
+    Ok(())
+}
+
+/// Two catalogues; the first has `a`, `a.b`, `a.b.c` and `d`, the second `a`.
+fn fill(alloc: Global, content: &mut Content) -> Result<(), Fail> {
+    put_catalogs(alloc, content, &[(3, "sales"), (4, "stock")])?;
+    put_namespaces(
+        alloc,
+        content,
+        &[
+            (5, 3, "a"),
+            (6, 3, "a\u{1f}b"),
+            (7, 4, "a"),
+            (8, 3, "a\u{1f}b\u{1f}c"),
+            (9, 3, "d"),
+        ],
+    )
 }
 
 /// The id of the catalogue of this name, or 0.
@@ -183,19 +203,32 @@ fn check_first_missing(
     check(has?, "another namespace is the first that is missing")
 }
 
+fn check_all_missing(
+    alloc: Global,
+    content: &Content,
+    cases: &[(u64, &str, &str)],
+) -> Result<(), Fail> {
+    for (catalog, segment, missing) in cases {
+        check_first_missing(alloc, content, *catalog, segment, missing)?;
+    }
+    Ok(())
+}
+
 fn check_missing(alloc: Global, content: &mut Content) -> Result<(), Fail> {
     fill(alloc, content)?;
-    for (catalog, segment, missing) in [
-        (3, "a", ""),
-        (3, "a\u{1f}b\u{1f}c", ""),
-        (3, "a\u{1f}b\u{1f}c\u{1f}d", "a\u{1f}b\u{1f}c\u{1f}d"),
-        (3, "x\u{1f}a\u{1f}b", "x"),
-        (3, "d\u{1f}b\u{1f}c", "d\u{1f}b"),
-        (4, "a\u{1f}b\u{1f}c", "a\u{1f}b"),
-        (5, "a", "a"),
-    ] {
-        check_first_missing(alloc, content, catalog, segment, missing)?;
-    }
+    check_all_missing(
+        alloc,
+        content,
+        &[
+            (3, "a", ""),
+            (3, "a\u{1f}b\u{1f}c", ""),
+            (3, "a\u{1f}b\u{1f}c\u{1f}d", "a\u{1f}b\u{1f}c\u{1f}d"),
+            (3, "x\u{1f}a\u{1f}b", "x"),
+            (3, "d\u{1f}b\u{1f}c", "d\u{1f}b"),
+            (4, "a\u{1f}b\u{1f}c", "a\u{1f}b"),
+            (5, "a", "a"),
+        ],
+    )?;
     content.drop_namespace(6);
     check_first_missing(alloc, content, 3, "a\u{1f}b\u{1f}c", "a\u{1f}b")
 }
@@ -235,14 +268,16 @@ fn check_below(alloc: Global, content: &Content, parent: &Namespace) -> Result<(
 
 fn check_direct_children(alloc: Global, content: &mut Content) -> Result<(), Fail> {
     fill(alloc, content)?;
-    for (id, segment) in [
-        (10, "B"),
-        (11, "aa"),
-        (12, "a\u{1f}a\u{1f}a"),
-        (13, "a\u{1f}a"),
-    ] {
-        put_namespace(alloc, content, id, 3, segment)?;
-    }
+    put_namespaces(
+        alloc,
+        content,
+        &[
+            (10, 3, "B"),
+            (11, 3, "aa"),
+            (12, 3, "a\u{1f}a\u{1f}a"),
+            (13, 3, "a\u{1f}a"),
+        ],
+    )?;
     let parent = Namespace::from_segment(alloc, "a")?;
     let checked = check_below(alloc, content, &parent);
     drop(parent);
@@ -265,15 +300,17 @@ fn check_listed_catalogs(alloc: Global, content: &Content) -> Result<(), Fail> {
 }
 
 fn check_order_of_catalogs(alloc: Global, content: &mut Content) -> Result<(), Fail> {
-    for (id, name) in [
-        (3, "stock"),
-        (4, "sales"),
-        (5, "sales-2"),
-        (6, "Zoo"),
-        (7, "sale"),
-    ] {
-        put_catalog(alloc, content, id, name)?;
-    }
+    put_catalogs(
+        alloc,
+        content,
+        &[
+            (3, "stock"),
+            (4, "sales"),
+            (5, "sales-2"),
+            (6, "Zoo"),
+            (7, "sale"),
+        ],
+    )?;
     check_listed_catalogs(alloc, content)
 }
 
@@ -292,11 +329,19 @@ fn check_empty(content: &Content, namespace: u64, empty: bool) -> Result<(), Fai
     )
 }
 
+fn check_all_empty(content: &Content, cases: &[(u64, bool)]) -> Result<(), Fail> {
+    for (namespace, empty) in cases {
+        check_empty(content, *namespace, *empty)?;
+    }
+    Ok(())
+}
+
 fn check_emptiness(alloc: Global, content: &mut Content) -> Result<(), Fail> {
     fill(alloc, content)?;
-    for (namespace, empty) in [(5, false), (6, false), (7, true), (8, true), (10, true)] {
-        check_empty(content, namespace, empty)?;
-    }
+    check_all_empty(
+        content,
+        &[(5, false), (6, false), (7, true), (8, true), (10, true)],
+    )?;
     content.drop_namespace(6);
     check_empty(content, 5, false)?;
     content.drop_namespace(8);
@@ -346,6 +391,14 @@ fn check_chain(
     check(same, "a securable has another chain")
 }
 
+/// Checks that each of these has itself alone as its chain.
+fn check_alone(alloc: Global, content: &Content, cases: &[Securable]) -> Result<(), Fail> {
+    for alone in cases {
+        check_chain(alloc, content, *alone, &[*alone])?;
+    }
+    Ok(())
+}
+
 fn check_chains(alloc: Global, content: &mut Content) -> Result<(), Fail> {
     fill(alloc, content)?;
     let deep = [
@@ -357,15 +410,16 @@ fn check_chains(alloc: Global, content: &mut Content) -> Result<(), Fail> {
     let of_stock = [Securable::Namespace(7), Securable::Catalog(4)];
     check_chain(alloc, content, Securable::Namespace(8), &deep)?;
     check_chain(alloc, content, Securable::Namespace(7), &of_stock)?;
-    for alone in [
-        Securable::Realm,
-        Securable::Catalog(3),
-        Securable::Namespace(10),
-        Securable::Table(6),
-    ] {
-        check_chain(alloc, content, alone, &[alone])?;
-    }
-    Ok(())
+    check_alone(
+        alloc,
+        content,
+        &[
+            Securable::Realm,
+            Securable::Catalog(3),
+            Securable::Namespace(10),
+            Securable::Table(6),
+        ],
+    )
 }
 
 #[test]
@@ -390,17 +444,29 @@ fn check_deepest(
     check(found? == part, "another part is the deepest")
 }
 
-fn check_deepest_parts(alloc: Global, content: &mut Content) -> Result<(), Fail> {
-    fill(alloc, content)?;
-    for (catalog, segment, part) in [
-        (3, "a\u{1f}b\u{1f}c", Securable::Namespace(8)),
-        (3, "a\u{1f}b\u{1f}x\u{1f}c", Securable::Namespace(6)),
-        (3, "x\u{1f}b", Securable::Catalog(3)),
-        (4, "a\u{1f}b", Securable::Namespace(7)),
-    ] {
-        check_deepest(alloc, content, catalog, segment, part)?;
+fn check_all_deepest(
+    alloc: Global,
+    content: &Content,
+    cases: &[(u64, &str, Securable)],
+) -> Result<(), Fail> {
+    for (catalog, segment, part) in cases {
+        check_deepest(alloc, content, *catalog, segment, *part)?;
     }
     Ok(())
+}
+
+fn check_deepest_parts(alloc: Global, content: &mut Content) -> Result<(), Fail> {
+    fill(alloc, content)?;
+    check_all_deepest(
+        alloc,
+        content,
+        &[
+            (3, "a\u{1f}b\u{1f}c", Securable::Namespace(8)),
+            (3, "a\u{1f}b\u{1f}x\u{1f}c", Securable::Namespace(6)),
+            (3, "x\u{1f}b", Securable::Catalog(3)),
+            (4, "a\u{1f}b", Securable::Namespace(7)),
+        ],
+    )
 }
 
 #[test]
