@@ -98,6 +98,10 @@ const REFUSED_FORMS: [(&str, &str); 18] = [
 const INVALID_CLIENT: &str =
     "HTTP/1.1 401 Unauthorized\r\ncontent-type: application/json\r\ncontent-length: 26\r\n\r\n{\"error\":\"invalid_client\"}";
 
+/// The answer to a scope of which a word is no role of the client.
+const INVALID_SCOPE: &str =
+    "HTTP/1.1 400 Bad Request\r\ncontent-type: application/json\r\ncontent-length: 25\r\n\r\n{\"error\":\"invalid_scope\"}";
+
 /// How the answer of a token, and that of a failed draw, begin.
 const TOKEN: &[u8] = b"HTTP/1.1 200 OK";
 
@@ -148,12 +152,18 @@ fn token_answer(alloc: Global, token: &str) -> Result<String, AllocError> {
     )
 }
 
-/// The words of a line, which stand between single spaces.
-fn words(alloc: Global, line: &str) -> Result<Words, AllocError> {
-    let mut list = Vec::new(alloc);
+/// Adds the words of a line, which stand between single spaces.
+fn push_words(alloc: Global, line: &str, list: &mut Vec<Text>) -> Result<(), AllocError> {
     for word in line.split(' ') {
         list.push(Text::from(String::from_str(alloc, word)?))?;
     }
+    Ok(())
+}
+
+/// The words of a line, which stand between single spaces.
+fn words(alloc: Global, line: &str) -> Result<Words, AllocError> {
+    let mut list = Vec::new(alloc);
+    push_words(alloc, line, &mut list)?;
     Ok(Words {
         list: Listed::from(list),
     })
@@ -248,11 +258,11 @@ impl Script {
         self.output.push_str(answer.as_str())
     }
 
-    /// Adds a token request with this form, whose client isn't known by its secret.
-    fn refuse(&mut self, alloc: Global, form: &str) -> Result<(), AllocError> {
+    /// Adds a token request with this form, which is refused by this answer.
+    fn refuse(&mut self, alloc: Global, form: &str, answer: &str) -> Result<(), AllocError> {
         let request = token_request(alloc, form)?;
         self.input.push_str(request.as_str())?;
-        self.output.push_str(INVALID_CLIENT)
+        self.output.push_str(answer)
     }
 
     /// Adds a request with this token.
@@ -267,18 +277,33 @@ impl Script {
         self.output.push_str(answer.as_str())?;
         Ok(())
     }
+
+    /// Adds requests with this token.
+    fn ask_all(
+        &mut self,
+        alloc: Global,
+        cases: &[Case<'_>],
+        token: &str,
+    ) -> Result<(), AllocError> {
+        for case in cases {
+            self.ask(alloc, *case, token)?;
+        }
+        Ok(())
+    }
 }
 
 /// The bytes of an answer; without a body it has its status line alone, and that of 201 the length too.
 fn answered(alloc: Global, status: &str, body: &str) -> Result<String, AllocError> {
-    if body.is_empty() {
-        let length = if status == "201 Created" {
-            "content-length: 0\r\n"
-        } else {
-            ""
-        };
-        return format!(in alloc; "HTTP/1.1 {status}\r\n{length}\r\n");
+    if !body.is_empty() {
+        return answered_with(alloc, status, body);
     }
+    if status == "201 Created" {
+        return format!(in alloc; "HTTP/1.1 {status}\r\ncontent-length: 0\r\n\r\n");
+    }
+    format!(in alloc; "HTTP/1.1 {status}\r\n\r\n")
+}
+
+fn answered_with(alloc: Global, status: &str, body: &str) -> Result<String, AllocError> {
     let length = body.len();
     format!(in alloc;
         "HTTP/1.1 {status}\r\ncontent-type: application/json\r\ncontent-length: {length}\r\n\r\n{body}"
@@ -354,12 +379,17 @@ fn check_refused(rt: &HostRuntime, form: &str, error: &str) -> Result<(), Fail> 
     check_exec(rt, input.as_str(), 0, answer.as_str())
 }
 
-#[test]
-fn refused_forms_are_told_why(rt: HostRuntime) -> Result<(), Fail> {
-    for (form, error) in REFUSED_FORMS {
-        check_refused(&rt, form, error)?;
+/// Checks that each of these forms is refused by its error.
+fn check_all_refused(rt: &HostRuntime, forms: &[(&str, &str)]) -> Result<(), Fail> {
+    for (form, error) in forms {
+        check_refused(rt, form, error)?;
     }
     Ok(())
+}
+
+#[test]
+fn refused_forms_are_told_why(rt: HostRuntime) -> Result<(), Fail> {
+    check_all_refused(&rt, &REFUSED_FORMS)
 }
 
 /// Checks that root's form with this behind it is answered by a token.
@@ -419,49 +449,56 @@ fn check_request(rt: &HostRuntime, request: &str, answer: &str, closes: bool) ->
     check_exec(rt, input.as_str(), 0, answers.as_str())
 }
 
-#[test]
-fn each_request_has_its_answer(rt: HostRuntime) -> Result<(), Fail> {
-    let cases = [
-        (
-            "GET /objects/b/x HTTP/1.1\r\nhost: l\r\n\r\n",
-            "HTTP/1.1 501 Not Implemented\r\ncontent-type: application/json\r\ncontent-length: 83\r\n\r\n{\"error\":{\"code\":501,\"message\":\"Not built\",\"type\":\"UnsupportedOperationException\"}}",
-            false,
-        ),
-        (
-            "POST /api/catalog/v1/oauth/tokens HTTP/1.1\r\ntransfer-encoding: chunked\r\n\r\n",
-            "HTTP/1.1 411 Length Required\r\ncontent-type: application/json\r\ncontent-length: 76\r\nconnection: close\r\n\r\n{\"error\":{\"code\":411,\"message\":\"LengthNeeded\",\"type\":\"BadRequestException\"}}",
-            true,
-        ),
-        (
-            "GET /x HTTP/1.1\r\n\r\n",
-            "HTTP/1.1 404 Not Found\r\ncontent-type: application/json\r\ncontent-length: 70\r\n\r\n{\"error\":{\"code\":404,\"message\":\"No route\",\"type\":\"NotFoundException\"}}",
-            false,
-        ),
-        (
-            "DELETE /api/catalog/v1/config HTTP/1.1\r\n\r\n",
-            "HTTP/1.1 405 Method Not Allowed\r\ncontent-type: application/json\r\ncontent-length: 76\r\n\r\n{\"error\":{\"code\":405,\"message\":\"Wrong method\",\"type\":\"BadRequestException\"}}",
-            false,
-        ),
-        (
-            "HEAD /x HTTP/1.1\r\n\r\n",
-            "HTTP/1.1 404 Not Found\r\n\r\n",
-            false,
-        ),
-        (
-            "GET /x HTTP/1.0\r\n\r\n",
-            "HTTP/1.1 404 Not Found\r\ncontent-type: application/json\r\ncontent-length: 70\r\nconnection: close\r\n\r\n{\"error\":{\"code\":404,\"message\":\"No route\",\"type\":\"NotFoundException\"}}",
-            true,
-        ),
-        (
-            "POST /api/catalog/v1/oauth/tokens HTTP/1.1\r\nexpect: 100-continue\r\ncontent-length: 29\r\n\r\ngrant_type=client_credentials",
-            "HTTP/1.1 100 Continue\r\n\r\nHTTP/1.1 400 Bad Request\r\ncontent-type: application/json\r\ncontent-length: 27\r\n\r\n{\"error\":\"invalid_request\"}",
-            false,
-        ),
-    ];
-    for (request, answer, closes) in cases {
-        check_request(&rt, request, answer, closes)?;
+/// Requests with their answers, and whether these close the link.
+const REQUESTS: [(&str, &str, bool); 7] = [
+    (
+        "GET /objects/b/x HTTP/1.1\r\nhost: l\r\n\r\n",
+        "HTTP/1.1 501 Not Implemented\r\ncontent-type: application/json\r\ncontent-length: 83\r\n\r\n{\"error\":{\"code\":501,\"message\":\"Not built\",\"type\":\"UnsupportedOperationException\"}}",
+        false,
+    ),
+    (
+        "POST /api/catalog/v1/oauth/tokens HTTP/1.1\r\ntransfer-encoding: chunked\r\n\r\n",
+        "HTTP/1.1 411 Length Required\r\ncontent-type: application/json\r\ncontent-length: 76\r\nconnection: close\r\n\r\n{\"error\":{\"code\":411,\"message\":\"LengthNeeded\",\"type\":\"BadRequestException\"}}",
+        true,
+    ),
+    (
+        "GET /x HTTP/1.1\r\n\r\n",
+        "HTTP/1.1 404 Not Found\r\ncontent-type: application/json\r\ncontent-length: 70\r\n\r\n{\"error\":{\"code\":404,\"message\":\"No route\",\"type\":\"NotFoundException\"}}",
+        false,
+    ),
+    (
+        "DELETE /api/catalog/v1/config HTTP/1.1\r\n\r\n",
+        "HTTP/1.1 405 Method Not Allowed\r\ncontent-type: application/json\r\ncontent-length: 76\r\n\r\n{\"error\":{\"code\":405,\"message\":\"Wrong method\",\"type\":\"BadRequestException\"}}",
+        false,
+    ),
+    (
+        "HEAD /x HTTP/1.1\r\n\r\n",
+        "HTTP/1.1 404 Not Found\r\n\r\n",
+        false,
+    ),
+    (
+        "GET /x HTTP/1.0\r\n\r\n",
+        "HTTP/1.1 404 Not Found\r\ncontent-type: application/json\r\ncontent-length: 70\r\nconnection: close\r\n\r\n{\"error\":{\"code\":404,\"message\":\"No route\",\"type\":\"NotFoundException\"}}",
+        true,
+    ),
+    (
+        "POST /api/catalog/v1/oauth/tokens HTTP/1.1\r\nexpect: 100-continue\r\ncontent-length: 29\r\n\r\ngrant_type=client_credentials",
+        "HTTP/1.1 100 Continue\r\n\r\nHTTP/1.1 400 Bad Request\r\ncontent-type: application/json\r\ncontent-length: 27\r\n\r\n{\"error\":\"invalid_request\"}",
+        false,
+    ),
+];
+
+/// Checks the answer of each of these requests.
+fn check_requests(rt: &HostRuntime, rows: &[(&str, &str, bool)]) -> Result<(), Fail> {
+    for (request, answer, closes) in rows {
+        check_request(rt, request, answer, *closes)?;
     }
     Ok(())
+}
+
+#[test]
+fn each_request_has_its_answer(rt: HostRuntime) -> Result<(), Fail> {
+    check_requests(&rt, &REQUESTS)
 }
 
 /// What came of a run over three token requests: the status, how many tokens were given, and how many of them stand
@@ -504,32 +541,46 @@ fn tokens_before_fault(output: &[u8]) -> Option<usize> {
     Some(tokens(&output[..place]))
 }
 
-#[test]
-fn each_fault_is_told(rt: HostRuntime) -> Result<(), Fail> {
-    let request = token_request(rt.alloc(), FORM)?;
+fn check_failing_takes(rt: &HostRuntime, request: &str) -> Result<(), Fail> {
     for before in 0..4u8 {
-        let take = Failing {
+        let failing = Failing {
             take: u64::from(before) + 1,
             ..Failing::default()
         };
-        check_failing(&rt, request.as_str(), take, (1, usize::from(before), None))?;
+        check_failing(rt, request, failing, (1, usize::from(before), None))?;
     }
+    Ok(())
+}
+
+fn check_failing_gives(rt: &HostRuntime, request: &str) -> Result<(), Fail> {
     for before in 0..3u8 {
-        let give = Failing {
+        let failing = Failing {
             give: u64::from(before) + 1,
             ..Failing::default()
         };
-        check_failing(&rt, request.as_str(), give, (1, usize::from(before), None))?;
+        check_failing(rt, request, failing, (1, usize::from(before), None))?;
     }
+    Ok(())
+}
+
+fn check_failing_words(rt: &HostRuntime, request: &str) -> Result<(), Fail> {
     for drawn in 0..6u8 {
-        let word = Failing {
+        let failing = Failing {
             word: u64::from(drawn) + 1,
             ..Failing::default()
         };
         let before = usize::from(drawn / 2);
-        check_failing(&rt, request.as_str(), word, (0, 2, Some(before)))?;
+        check_failing(rt, request, failing, (0, 2, Some(before)))?;
     }
     Ok(())
+}
+
+#[test]
+fn each_fault_is_told(rt: HostRuntime) -> Result<(), Fail> {
+    let request = token_request(rt.alloc(), FORM)?;
+    check_failing_takes(&rt, request.as_str())?;
+    check_failing_gives(&rt, request.as_str())?;
+    check_failing_words(&rt, request.as_str())
 }
 
 /// Runs a line of words over one token request.
@@ -547,22 +598,30 @@ fn run_request(rt: &HostRuntime, line: &str) -> Result<Ran, Fail> {
     )
 }
 
-#[test]
-fn faulty_words_touch_no_device(rt: HostRuntime) -> Result<(), Fail> {
-    for line in [
-        "",
-        "exec",
-        "exec --root-secret",
-        "exec --root-secret=",
-        "exec --root-secret -x",
-        "exec --root-secret a b",
-        "exec --secret a",
-        "serve --root-secret a",
-        "--help",
-    ] {
-        check(&run_request(&rt, line)?, 2, "")?;
+/// Checks that each of these lines is told to be faulty, and that nothing is given.
+fn check_faulty(rt: &HostRuntime, lines: &[&str]) -> Result<(), Fail> {
+    for line in lines {
+        check(&run_request(rt, line)?, 2, "")?;
     }
     Ok(())
+}
+
+#[test]
+fn faulty_words_touch_no_device(rt: HostRuntime) -> Result<(), Fail> {
+    check_faulty(
+        &rt,
+        &[
+            "",
+            "exec",
+            "exec --root-secret",
+            "exec --root-secret=",
+            "exec --root-secret -x",
+            "exec --root-secret a b",
+            "exec --secret a",
+            "serve --root-secret a",
+            "--help",
+        ],
+    )
 }
 
 #[test]

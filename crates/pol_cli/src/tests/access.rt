@@ -3,7 +3,7 @@
 mod cases;
 mod privileges;
 
-use super::{Case, LAKE, Script, TOKEN_TEXT, check_exec};
+use super::{Case, INVALID_CLIENT, INVALID_SCOPE, LAKE, Script, TOKEN_TEXT, check_exec};
 use std::alloc::{AllocError, Global};
 use std::test::Fail;
 
@@ -86,19 +86,6 @@ const NAMESPACES: [Case<'static>; 3] = [
 ];
 
 impl Script {
-    /// Adds requests with this token.
-    fn ask_all(
-        &mut self,
-        alloc: Global,
-        cases: &[Case<'_>],
-        token: &str,
-    ) -> Result<(), AllocError> {
-        for case in cases {
-            self.ask(alloc, *case, token)?;
-        }
-        Ok(())
-    }
-
     /// Adds requests, each with its own token.
     fn ask_each(&mut self, alloc: Global, steps: &[Step]) -> Result<(), AllocError> {
         for (token, case) in steps {
@@ -340,7 +327,7 @@ fn ask_rotation(alloc: Global, script: &mut Script) -> Result<(), AllocError> {
         r#"{"credentials":{"clientId":"0000000000000002","clientSecret":"00000000000000070000000000000008"},"principal":{"clientId":"0000000000000002","name":"ann"}}"#,
     );
     script.ask(alloc, rotation, TOKEN_TEXT)?;
-    script.refuse(alloc, ANN_FORM)?;
+    script.refuse(alloc, ANN_FORM, INVALID_CLIENT)?;
     let form =
         "grant_type=client_credentials&client_id=0000000000000002&client_secret=00000000000000070000000000000008";
     script.open(
@@ -356,6 +343,31 @@ fn rotated_secret_takes_the_place_of_the_old_one(rt: HostRuntime) -> Result<(), 
     let mut script = Script::new(alloc)?;
     script.begin_with_ann(alloc)?;
     ask_rotation(alloc, &mut script)?;
+    check_exec(&rt, script.input.as_str(), 0, script.output.as_str())
+}
+
+/// A role is a scope of its members alone.
+fn ask_scopes(alloc: Global, script: &mut Script) -> Result<(), AllocError> {
+    let of_root =
+        "grant_type=client_credentials&client_id=root&client_secret=s3cr3t&scope=PRINCIPAL_ROLE:reader";
+    let of_ann =
+        "grant_type=client_credentials&client_id=0000000000000002&client_secret=00000000000000030000000000000004&scope=PRINCIPAL_ROLE:service_admin";
+    let own =
+        "grant_type=client_credentials&client_id=0000000000000002&client_secret=00000000000000030000000000000004&scope=PRINCIPAL_ROLE:reader";
+    script.refuse(alloc, of_root, INVALID_SCOPE)?;
+    script.refuse(alloc, of_ann, INVALID_SCOPE)?;
+    script.open(
+        alloc,
+        own,
+        "0000000000000002000000000000000b000000000000000c",
+    )
+}
+
+#[test]
+fn role_of_another_principal_is_no_scope(rt: HostRuntime) -> Result<(), Fail> {
+    let alloc = rt.alloc();
+    let mut script = with_reader(alloc)?;
+    ask_scopes(alloc, &mut script)?;
     check_exec(&rt, script.input.as_str(), 0, script.output.as_str())
 }
 
@@ -458,8 +470,8 @@ fn chain_of_access_of_root_is_kept(rt: HostRuntime) -> Result<(), Fail> {
     check_steps(&rt, RESERVED.as_slice())
 }
 
-/// The life of roles, memberships, joins and grants. What is there already may be added again.
-const ROLES: [Step; 23] = [
+/// Roles, a membership and a join that are there are shown and listed, and may be added again.
+const ROLES_SHOWN: [Step; 8] = [
     (
         TOKEN_TEXT,
         (
@@ -540,6 +552,10 @@ const ROLES: [Step; 23] = [
             r#"{"roles":[{"name":"readers"}]}"#,
         ),
     ),
+];
+
+/// Grants are added, added again, listed and revoked.
+const GRANTS_ADDED: [Step; 6] = [
     (
         TOKEN_TEXT,
         (
@@ -600,6 +616,10 @@ const ROLES: [Step; 23] = [
             r#"{"grants":[{"privilege":"VIEW_LIST","type":"catalog"}]}"#,
         ),
     ),
+];
+
+/// Joins, memberships and roles end, and a catalogue isn't dropped as long as it has another role.
+const ROLES_ENDED: [Step; 9] = [
     (
         TOKEN_TEXT,
         (
@@ -692,7 +712,16 @@ const ROLES: [Step; 23] = [
     ),
 ];
 
+/// Adds the life of roles, memberships, joins and grants.
+fn ask_for_life(alloc: Global, script: &mut Script) -> Result<(), AllocError> {
+    script.ask_each(alloc, ROLES_SHOWN.as_slice())?;
+    script.ask_each(alloc, GRANTS_ADDED.as_slice())?;
+    script.ask_each(alloc, ROLES_ENDED.as_slice())
+}
+
 #[test]
 fn roles_and_grants_are_added_listed_and_ended(rt: HostRuntime) -> Result<(), Fail> {
-    check_steps(&rt, ROLES.as_slice())
+    let mut script = with_reader(rt.alloc())?;
+    ask_for_life(rt.alloc(), &mut script)?;
+    check_exec(&rt, script.input.as_str(), 0, script.output.as_str())
 }

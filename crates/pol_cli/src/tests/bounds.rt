@@ -211,19 +211,34 @@ fn ask_for_namespace(
     )
 }
 
+fn ask_for_catalogs(
+    alloc: Global,
+    script: &mut Script,
+    catalogs: &[Wanted],
+) -> Result<(), AllocError> {
+    for wanted in catalogs {
+        ask_for_catalog(alloc, script, *wanted)?;
+    }
+    Ok(())
+}
+
+fn ask_for_namespaces(
+    alloc: Global,
+    script: &mut Script,
+    namespaces: &[(&str, u16, Option<Answer<'static>>)],
+) -> Result<(), AllocError> {
+    for (name, end, refused) in namespaces {
+        ask_for_namespace(alloc, script, name, *end, *refused)?;
+    }
+    Ok(())
+}
+
 /// Adds all requests, behind root's token request.
 fn ask_for_all(alloc: Global, script: &mut Script) -> Result<(), AllocError> {
     script.ask(alloc, LAKE, TOKEN_TEXT)?;
-    for wanted in CATALOGS {
-        ask_for_catalog(alloc, script, wanted)?;
-    }
-    for (name, end, refused) in NAMESPACES {
-        ask_for_namespace(alloc, script, name, end, refused)?;
-    }
-    for update in UPDATES {
-        script.ask(alloc, update, TOKEN_TEXT)?;
-    }
-    Ok(())
+    ask_for_catalogs(alloc, script, &CATALOGS)?;
+    ask_for_namespaces(alloc, script, &NAMESPACES)?;
+    script.ask_all(alloc, &UPDATES, TOKEN_TEXT)
 }
 
 #[test]

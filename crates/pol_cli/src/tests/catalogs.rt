@@ -432,9 +432,7 @@ const UNREADABLE: &str =
 /// Checks what is answered to root's token request and then to these requests with this token.
 fn check_cases(rt: &HostRuntime, cases: &[Case<'_>], token: &str) -> Result<(), Fail> {
     let mut script = Script::new(rt.alloc())?;
-    for case in cases {
-        script.ask(rt.alloc(), *case, token)?;
-    }
+    script.ask_all(rt.alloc(), cases, token)?;
     check_exec(rt, script.input.as_str(), 0, script.output.as_str())
 }
 

@@ -156,8 +156,8 @@ fn who_may_not_ask_learns_no_more(rt: HostRuntime) -> Result<(), Fail> {
     check_exec(&rt, script.input.as_str(), 0, script.output.as_str())
 }
 
-/// Requests by root of which one rule refuses each, or several, and the first that does.
-const REFUSED: [Step; 42] = [
+/// Requests by root for principals and members, of which one rule refuses each, or several, and the first that does.
+const OF_PRINCIPALS: [Step; 10] = [
     (
         TOKEN_TEXT,
         (
@@ -258,6 +258,15 @@ const REFUSED: [Step; 42] = [
             r#"{"error":{"code":404,"message":"NoSuchRole: service_admin","type":"NotFoundException"}}"#,
         ),
     ),
+];
+
+#[test]
+fn first_that_is_not_there_is_told_of_principals(rt: HostRuntime) -> Result<(), Fail> {
+    check_steps(&rt, OF_PRINCIPALS.as_slice())
+}
+
+/// The same for principal roles and what they are joined to.
+const OF_JOINS: [Step; 12] = [
     (
         TOKEN_TEXT,
         (
@@ -378,6 +387,15 @@ const REFUSED: [Step; 42] = [
             r#"{"error":{"code":404,"message":"NoSuchRole: catalog_admin","type":"NotFoundException"}}"#,
         ),
     ),
+];
+
+#[test]
+fn first_that_is_not_there_is_told_of_joins(rt: HostRuntime) -> Result<(), Fail> {
+    check_steps(&rt, OF_JOINS.as_slice())
+}
+
+/// The same for roles of catalogues.
+const OF_CATALOG_ROLES: [Step; 7] = [
     (
         TOKEN_TEXT,
         (
@@ -448,6 +466,15 @@ const REFUSED: [Step; 42] = [
             r#"{"error":{"code":404,"message":"NoSuchRole: nil","type":"NotFoundException"}}"#,
         ),
     ),
+];
+
+#[test]
+fn first_that_is_not_there_is_told_of_catalogue_roles(rt: HostRuntime) -> Result<(), Fail> {
+    check_steps(&rt, OF_CATALOG_ROLES.as_slice())
+}
+
+/// The same for grants that are listed and added.
+const OF_GRANTS: [Step; 8] = [
     (
         TOKEN_TEXT,
         (
@@ -528,6 +555,10 @@ const REFUSED: [Step; 42] = [
             r#"{"error":{"code":404,"message":"NoSuchRole: nil","type":"NotFoundException"}}"#,
         ),
     ),
+];
+
+/// The same for grants that are revoked.
+const OF_REVOCATIONS: [Step; 5] = [
     (
         TOKEN_TEXT,
         (
@@ -581,6 +612,7 @@ const REFUSED: [Step; 42] = [
 ];
 
 #[test]
-fn first_that_is_not_there_is_told(rt: HostRuntime) -> Result<(), Fail> {
-    check_steps(&rt, REFUSED.as_slice())
+fn first_that_is_not_there_is_told_of_grants(rt: HostRuntime) -> Result<(), Fail> {
+    check_steps(&rt, OF_GRANTS.as_slice())?;
+    check_steps(&rt, OF_REVOCATIONS.as_slice())
 }

@@ -466,45 +466,75 @@ impl Script {
     }
 }
 
+impl Script {
+    /// Adds the probes of a catalogue for each of these privileges.
+    fn probe_catalogs(&mut self, alloc: Global, rows: &[Implied]) -> Result<(), AllocError> {
+        for implied in rows {
+            self.probe_catalog(alloc, *implied)?;
+        }
+        Ok(())
+    }
+
+    /// Adds the probes of a namespace for each of these privileges.
+    fn probe_namespaces(&mut self, alloc: Global, rows: &[Implied]) -> Result<(), AllocError> {
+        for implied in rows {
+            self.probe_namespace(alloc, *implied)?;
+        }
+        Ok(())
+    }
+
+    /// Adds the probes of what is made again for each of these privileges.
+    fn probe_all_again(&mut self, alloc: Global, rows: &[Implied]) -> Result<(), AllocError> {
+        for implied in rows {
+            self.probe_again(alloc, *implied)?;
+        }
+        Ok(())
+    }
+
+    /// Adds the probes of a membership that ends for each of these privileges.
+    fn probe_members(&mut self, alloc: Global, rows: &[Implied]) -> Result<(), AllocError> {
+        for implied in rows {
+            self.probe_member(alloc, *implied)?;
+        }
+        Ok(())
+    }
+
+    /// Adds the probes by sessions of one role for each of these privileges.
+    fn probe_all_sessions(&mut self, alloc: Global, rows: &[Implied]) -> Result<(), AllocError> {
+        for implied in rows {
+            self.probe_sessions(alloc, *implied)?;
+        }
+        Ok(())
+    }
+}
+
 #[test]
 fn privileges_on_a_catalogue_hold_on_what_it_contains(rt: HostRuntime) -> Result<(), Fail> {
     let mut script = with_reader(rt.alloc())?;
-    for implied in ON_CATALOGS {
-        script.probe_catalog(rt.alloc(), implied)?;
-    }
-    for implied in ON_NAMESPACES {
-        script.probe_catalog(rt.alloc(), implied)?;
-    }
+    script.probe_catalogs(rt.alloc(), &ON_CATALOGS)?;
+    script.probe_catalogs(rt.alloc(), &ON_NAMESPACES)?;
     check_exec(&rt, script.input.as_str(), 0, script.output.as_str())
 }
 
 #[test]
 fn privileges_on_a_namespace_hold_there_and_below(rt: HostRuntime) -> Result<(), Fail> {
     let mut script = with_reader(rt.alloc())?;
-    for implied in ON_NAMESPACES {
-        script.probe_namespace(rt.alloc(), implied)?;
-    }
+    script.probe_namespaces(rt.alloc(), &ON_NAMESPACES)?;
     check_exec(&rt, script.input.as_str(), 0, script.output.as_str())
 }
 
 #[test]
 fn privileges_end_with_what_they_are_on(rt: HostRuntime) -> Result<(), Fail> {
     let mut script = with_reader(rt.alloc())?;
-    for implied in ON_NAMESPACES {
-        script.probe_again(rt.alloc(), implied)?;
-    }
+    script.probe_all_again(rt.alloc(), &ON_NAMESPACES)?;
     check_exec(&rt, script.input.as_str(), 0, script.output.as_str())
 }
 
 #[test]
 fn privileges_end_with_a_membership(rt: HostRuntime) -> Result<(), Fail> {
     let mut script = with_reader(rt.alloc())?;
-    for implied in ON_CATALOGS {
-        script.probe_member(rt.alloc(), implied)?;
-    }
-    for implied in ON_NAMESPACES {
-        script.probe_member(rt.alloc(), implied)?;
-    }
+    script.probe_members(rt.alloc(), &ON_CATALOGS)?;
+    script.probe_members(rt.alloc(), &ON_NAMESPACES)?;
     check_exec(&rt, script.input.as_str(), 0, script.output.as_str())
 }
 
@@ -512,12 +542,8 @@ fn privileges_end_with_a_membership(rt: HostRuntime) -> Result<(), Fail> {
 fn sessions_have_the_privileges_of_their_roles(rt: HostRuntime) -> Result<(), Fail> {
     let mut script = with_reader(rt.alloc())?;
     script.open_both(rt.alloc())?;
-    for implied in ON_CATALOGS {
-        script.probe_sessions(rt.alloc(), implied)?;
-    }
-    for implied in ON_NAMESPACES {
-        script.probe_sessions(rt.alloc(), implied)?;
-    }
+    script.probe_all_sessions(rt.alloc(), &ON_CATALOGS)?;
+    script.probe_all_sessions(rt.alloc(), &ON_NAMESPACES)?;
     check_exec(&rt, script.input.as_str(), 0, script.output.as_str())
 }
 
@@ -590,10 +616,23 @@ fn ask_for_grant(
     script.ask(alloc, case, TOKEN_TEXT)
 }
 
-/// Adds requests for a grant of a privilege on a securable of each kind.
-fn ask_for_grants(alloc: Global, script: &mut Script, privilege: &str) -> Result<(), AllocError> {
-    for kind in KINDS {
-        ask_for_grant(alloc, script, kind, privilege)?;
+/// Adds requests for a grant of a privilege on a securable of each of these kinds.
+fn ask_for_grants(
+    alloc: Global,
+    script: &mut Script,
+    kinds: &[Kind],
+    privilege: &str,
+) -> Result<(), AllocError> {
+    for kind in kinds {
+        ask_for_grant(alloc, script, *kind, privilege)?;
+    }
+    Ok(())
+}
+
+/// Adds requests for grants of each of these privileges on a securable of each kind.
+fn ask_for_each(alloc: Global, script: &mut Script, rows: &[Implied]) -> Result<(), AllocError> {
+    for (privilege, _) in rows {
+        ask_for_grants(alloc, script, &KINDS, privilege)?;
     }
     Ok(())
 }
@@ -601,12 +640,8 @@ fn ask_for_grants(alloc: Global, script: &mut Script, privilege: &str) -> Result
 #[test]
 fn privileges_may_be_granted_on_their_kinds(rt: HostRuntime) -> Result<(), Fail> {
     let mut script = with_reader(rt.alloc())?;
-    for (privilege, _) in ON_CATALOGS {
-        ask_for_grants(rt.alloc(), &mut script, privilege)?;
-    }
-    for (privilege, _) in ON_NAMESPACES {
-        ask_for_grants(rt.alloc(), &mut script, privilege)?;
-    }
-    ask_for_grants(rt.alloc(), &mut script, "SERVICE_MANAGE_ACCESS")?;
+    ask_for_each(rt.alloc(), &mut script, &ON_CATALOGS)?;
+    ask_for_each(rt.alloc(), &mut script, &ON_NAMESPACES)?;
+    ask_for_grants(rt.alloc(), &mut script, &KINDS, "SERVICE_MANAGE_ACCESS")?;
     check_exec(&rt, script.input.as_str(), 0, script.output.as_str())
 }
