@@ -29,19 +29,23 @@ const TEXTS: [(&str, usize, &str, Option<LocationRefused>); 17] = [
     ("", 1025, "", Some(LocationRefused::TooLong)),
 ];
 
-/// The text of a front, so many `a` and an end.
-fn spelled(alloc: Global, front: &str, count: usize, end: &str) -> Result<String, AllocError> {
+/// The refusal of a front, so many `a` and an end.
+fn refusal_of(
+    alloc: Global,
+    front: &str,
+    count: usize,
+    end: &str,
+) -> Result<Option<LocationRefused>, AllocError> {
     let mut text = "a".repeat(alloc, count)?;
     text.insert_str(0, front)?;
     text.push_str(end)?;
-    Ok(text)
+    Ok(Location::parse(alloc, text.as_str()).err())
 }
 
 #[test]
 fn texts_are_judged_in_order(rt: HostRuntime) -> Result<(), Fail> {
     for (front, count, end, refused) in TEXTS {
-        let text = spelled(rt.alloc(), front, count, end)?;
-        let found = Location::parse(rt.alloc(), text.as_str()).err();
+        let found = refusal_of(rt.alloc(), front, count, end)?;
         assert!(rt; found == refused, "{front:?}, {count} times a, and {end:?}");
     }
     Ok(())
@@ -50,47 +54,67 @@ fn texts_are_judged_in_order(rt: HostRuntime) -> Result<(), Fail> {
 /// The location `lake://b/t1`, joined.
 fn joined(alloc: Global) -> Result<Location, LocationRefused> {
     let base = Location::parse(alloc, "lake://b/")?;
-    base.join(alloc, "t1")
+    let table = base.join(alloc, "t1");
+    drop(base);
+    table
+}
+
+/// Whether the location has this text.
+fn has_text(location: &Location, alloc: Global, wanted: &str) -> Result<bool, OutOfMemory> {
+    let text = location.text(alloc)?;
+    Ok(text.as_str() == wanted)
+}
+
+/// Whether the location is made of its segments again.
+fn is_made_again(location: &Location, alloc: Global) -> Result<bool, LocationRefused> {
+    let again = Location::of_segments(alloc, location.segments())?;
+    let same = again == *location;
+    drop(again);
+    Ok(same)
+}
+
+/// The refusals of a location with each of these segments more.
+fn refusals_of_join(location: &Location, alloc: Global) -> [Option<LocationRefused>; 3] {
+    [
+        location.join(alloc, "a/b").err(),
+        location.join(alloc, "").err(),
+        location.join(alloc, "..").err(),
+    ]
 }
 
 #[test]
-fn joined_location_has_its_text(rt: HostRuntime) -> Result<(), Fail> {
+fn location_is_its_segments(rt: HostRuntime) -> Result<(), Fail> {
     let table = joined(rt.alloc())?;
-    let text = table.text(rt.alloc())?;
-    assert!(rt; text.as_str() == "lake://b/t1");
-    Ok(())
-}
-
-#[test]
-fn segments_make_the_location_again(rt: HostRuntime) -> Result<(), Fail> {
-    let table = joined(rt.alloc())?;
-    let same = Location::of_segments(rt.alloc(), table.segments())?;
-    assert!(rt; same == table);
+    let spelled = has_text(&table, rt.alloc(), "lake://b/t1");
+    let again = is_made_again(&table, rt.alloc());
+    let refusals = refusals_of_join(&table, rt.alloc());
+    drop(table);
+    assert!(rt; spelled? && again?);
+    let wanted = [
+        Some(LocationRefused::ControlByte),
+        Some(LocationRefused::EmptySegment),
+        Some(LocationRefused::DotSegment),
+    ];
+    assert!(rt; refusals == wanted);
     let refused = Location::of_segments(rt.alloc(), &[]).err();
     assert!(rt; refused == Some(LocationRefused::EmptySegment));
     Ok(())
 }
 
-#[test]
-fn bad_segments_are_not_joined(rt: HostRuntime) -> Result<(), Fail> {
-    let base = joined(rt.alloc())?;
-    let cases = [
-        ("a/b", Some(LocationRefused::ControlByte)),
-        ("", Some(LocationRefused::EmptySegment)),
-        ("..", Some(LocationRefused::DotSegment)),
-    ];
-    for (segment, refused) in cases {
-        let found = base.join(rt.alloc(), segment).err();
-        assert!(rt; found == refused, "{segment:?}");
-    }
-    Ok(())
+/// Whether a location covers that of a text, and whether they overlap.
+fn related_to(a: &Location, alloc: Global, b: &str) -> Result<(bool, bool), LocationRefused> {
+    let b = Location::parse(alloc, b)?;
+    let found = (covers(a, &b), overlaps(a, &b));
+    drop(b);
+    Ok(found)
 }
 
 /// Whether the first location covers the second, and whether they overlap.
 fn related(alloc: Global, a: &str, b: &str) -> Result<(bool, bool), LocationRefused> {
     let a = Location::parse(alloc, a)?;
-    let b = Location::parse(alloc, b)?;
-    Ok((covers(&a, &b), overlaps(&a, &b)))
+    let found = related_to(&a, alloc, b);
+    drop(a);
+    found
 }
 
 #[test]
@@ -108,49 +132,58 @@ fn cover_goes_by_whole_segments(rt: HostRuntime) -> Result<(), Fail> {
     Ok(())
 }
 
-/// Adds a member where its location is free and its owner has none.
-fn add(set: &mut LocationSet, owner: u64, location: Location) -> Result<bool, OutOfMemory> {
-    set.reserve(1)?;
+/// Adds a member where its location is free and its owner has none, and tells whether it did.
+fn add(set: &mut LocationSet, alloc: Global, owner: u64, text: &str) -> bool {
+    let Ok(()) = set.reserve(1) else {
+        return false;
+    };
+    let Ok(location) = Location::parse(alloc, text) else {
+        return false;
+    };
     let is_new = set.members().iter().all(|member| member.owner != owner);
     let is_added = is_new && set.is_free(&location);
     if is_added {
         set.insert(owner, location);
+    } else {
+        drop(location);
     }
-    Ok(is_added)
+    is_added
 }
 
-/// The set with owner 9 at `lake://b/t1` and owner 4 at `lake://b/t2`, or `None`.
-fn two_tables(alloc: Global) -> Option<LocationSet> {
-    let mut set = LocationSet::new(alloc);
-    for (owner, text) in [(9, "lake://b/t1"), (4, "lake://b/t2")] {
-        let location = Location::parse(alloc, text).ok()?;
-        if add(&mut set, owner, location) != Ok(true) {
-            return None;
-        }
-    }
-    Some(set)
+/// Adds owner 9 at `lake://b/t1` and owner 4 at `lake://b/t2`.
+fn add_two(set: &mut LocationSet, alloc: Global) -> bool {
+    add(set, alloc, 9, "lake://b/t1") && add(set, alloc, 4, "lake://b/t2")
+}
+
+/// The owners that clash at a location but for none, for 4, and for both, and whether it is free.
+fn clashes(
+    set: &LocationSet,
+    alloc: Global,
+    text: &str,
+) -> Result<([Option<u64>; 3], bool), LocationRefused> {
+    let wanted = Location::parse(alloc, text)?;
+    let owners = [
+        set.clash(&wanted, &[]),
+        set.clash(&wanted, &[4]),
+        set.clash(&wanted, &[9, 4]),
+    ];
+    let is_free = set.is_free(&wanted);
+    drop(wanted);
+    Ok((owners, is_free))
 }
 
 #[test]
 fn least_owner_outside_the_exceptions_clashes(rt: HostRuntime) -> Result<(), Fail> {
-    let Some(set) = two_tables(rt.alloc()) else {
-        panic!(rt; "the set takes no two tables");
-    };
-    let wanted = Location::parse(rt.alloc(), "lake://b")?;
-    assert!(rt; set.clash(&wanted, &[]) == Some(4));
-    assert!(rt; set.clash(&wanted, &[4]) == Some(9));
-    assert!(rt; set.clash(&wanted, &[9, 4]) == None);
-    assert!(rt; !set.is_free(&wanted));
+    let mut set = LocationSet::new(rt.alloc());
+    let added = add_two(&mut set, rt.alloc());
+    let found = clashes(&set, rt.alloc(), "lake://b");
+    let removed = set.remove(4);
+    let again = set.remove(4);
+    let left = set.members().len();
+    drop(set);
+    assert!(rt; added && found? == ([Some(4), Some(9), None], false));
+    assert!(rt; removed && !again && left == 1);
     Ok(())
-}
-
-#[test]
-fn member_is_removed_once(rt: HostRuntime) {
-    let Some(mut set) = two_tables(rt.alloc()) else {
-        panic!(rt; "the set takes no two tables");
-    };
-    assert!(rt; set.remove(4) && !set.remove(4));
-    assert!(rt; set.members().len() == 1);
 }
 
 fn count_two<L: Ledger>(blank: Blank)

@@ -4,13 +4,6 @@ use std::alloc::{AllocError, Global};
 use std::cmp::Ordering;
 use std::test::Fail;
 
-/// The text of so many pieces and an end.
-fn repeated(alloc: Global, piece: &str, count: usize, end: &str) -> Result<String, AllocError> {
-    let mut text = piece.repeat(alloc, count)?;
-    text.push_str(end)?;
-    Ok(text)
-}
-
 /// A piece and how often it is repeated, and the refusals of that text as a name and as a plain name.
 const NAMES: [(&str, usize, Option<NameRefused>, Option<NameRefused>); 11] = [
     ("", 0, Some(NameRefused::Empty), Some(NameRefused::Empty)),
@@ -41,14 +34,23 @@ const NAMES: [(&str, usize, Option<NameRefused>, Option<NameRefused>); 11] = [
     ),
 ];
 
+/// The refusals of so many pieces as a name and as a plain name.
+fn refusals(
+    alloc: Global,
+    piece: &str,
+    count: usize,
+) -> Result<(Option<NameRefused>, Option<NameRefused>), AllocError> {
+    let text = piece.repeat(alloc, count)?;
+    let name = Name::new(alloc, text.as_str()).err();
+    let plain = Plain::new(alloc, text.as_str()).err();
+    Ok((name, plain))
+}
+
 #[test]
 fn names_are_judged_in_order(rt: HostRuntime) -> Result<(), Fail> {
     for (piece, count, name, plain) in NAMES {
-        let text = repeated(rt.alloc(), piece, count, "")?;
-        let refused = Name::new(rt.alloc(), text.as_str()).err();
-        assert!(rt; refused == name, "{count} times {piece:?}");
-        let refused = Plain::new(rt.alloc(), text.as_str()).err();
-        assert!(rt; refused == plain, "{count} times {piece:?}, plain");
+        let found = refusals(rt.alloc(), piece, count)?;
+        assert!(rt; found == (name, plain), "{count} times {piece:?}");
     }
     Ok(())
 }
@@ -78,11 +80,22 @@ const SEGMENTS: [(&str, usize, &str, Option<NamespaceRefused>); 6] = [
     ),
 ];
 
+/// The refusal of a segment of so many pieces and an end.
+fn refusal_of_segment(
+    alloc: Global,
+    piece: &str,
+    count: usize,
+    end: &str,
+) -> Result<Option<NamespaceRefused>, AllocError> {
+    let mut segment = piece.repeat(alloc, count)?;
+    segment.push_str(end)?;
+    Ok(Namespace::from_segment(alloc, segment.as_str()).err())
+}
+
 #[test]
 fn first_bad_level_of_a_segment_is_named(rt: HostRuntime) -> Result<(), Fail> {
     for (piece, count, end, refused) in SEGMENTS {
-        let segment = repeated(rt.alloc(), piece, count, end)?;
-        let found = Namespace::from_segment(rt.alloc(), segment.as_str()).err();
+        let found = refusal_of_segment(rt.alloc(), piece, count, end)?;
         assert!(rt; found == refused, "{count} times {piece:?} and {end:?}");
     }
     Ok(())
@@ -119,62 +132,122 @@ fn first_bad_level_of_a_list_is_named(rt: HostRuntime) -> Result<(), Fail> {
     Ok(())
 }
 
-/// The namespace `a`, and its child `b`.
-fn family(alloc: Global) -> Result<(Namespace, Namespace), Fail> {
-    let outer = Namespace::from_segment(alloc, "a")?;
-    let name = Name::new(alloc, "b")?;
-    let inner = outer.child(alloc, &name)?;
-    Ok((outer, inner))
+/// Whether the namespace has this segment.
+fn has_segment(namespace: &Namespace, alloc: Global, wanted: &str) -> bool {
+    let Ok(segment) = namespace.segment(alloc) else {
+        return false;
+    };
+    segment.as_str() == wanted
+}
+
+/// Whether the parent of a namespace is the other, which has none.
+fn has_last_parent(namespace: &Namespace, alloc: Global, last: &Namespace) -> bool {
+    let Ok(Some(parent)) = namespace.parent(alloc) else {
+        return false;
+    };
+    let is_last = parent == *last && matches!(last.parent(alloc), Ok(None));
+    drop(parent);
+    is_last
+}
+
+/// Whether the namespace has two levels, of which the first make the other.
+fn has_first_level(namespace: &Namespace, alloc: Global, first: &Namespace) -> bool {
+    if namespace.levels().len() != 2 {
+        return false;
+    }
+    let Ok(ancestor) = namespace.ancestor(alloc, 1) else {
+        return false;
+    };
+    let is_first = ancestor == *first;
+    drop(ancestor);
+    is_first
+}
+
+/// The child `b` of a namespace.
+fn child_of(outer: &Namespace, alloc: Global) -> Option<Namespace> {
+    let name = Name::new(alloc, "b").ok()?;
+    let child = outer.child(alloc, &name).ok();
+    drop(name);
+    child
+}
+
+/// Whether the child `b` of the namespace `a` has one level more, and knows it.
+fn has_child(outer: &Namespace, alloc: Global) -> bool {
+    let Some(inner) = child_of(outer, alloc) else {
+        return false;
+    };
+    let is_child = outer.is_parent_of(&inner)
+        && !inner.is_parent_of(outer)
+        && has_segment(&inner, alloc, "a\u{1f}b")
+        && has_last_parent(&inner, alloc, outer)
+        && has_first_level(&inner, alloc, outer);
+    drop(inner);
+    is_child
 }
 
 #[test]
 fn child_has_one_level_more(rt: HostRuntime) -> Result<(), Fail> {
-    let (outer, inner) = family(rt.alloc())?;
-    assert!(rt; outer.is_parent_of(&inner) && !inner.is_parent_of(&outer));
-    let segment = inner.segment(rt.alloc())?;
-    assert!(rt; segment.as_str() == "a\u{1f}b");
+    let outer = Namespace::from_segment(rt.alloc(), "a")?;
+    let is_parent = has_child(&outer, rt.alloc());
+    drop(outer);
+    assert!(rt; is_parent);
     Ok(())
 }
 
-#[test]
-fn parent_has_all_levels_but_the_last(rt: HostRuntime) -> Result<(), Fail> {
-    let (outer, inner) = family(rt.alloc())?;
-    let parent = inner.parent(rt.alloc())?;
-    assert!(rt; parent.as_ref() == Some(&outer));
-    let none = outer.parent(rt.alloc())?;
-    assert!(rt; none.is_none());
-    Ok(())
-}
-
-#[test]
-fn ancestor_has_the_first_levels(rt: HostRuntime) -> Result<(), Fail> {
-    let (outer, inner) = family(rt.alloc())?;
-    assert!(rt; inner.levels().len() == 2);
-    let ancestor = inner.ancestor(rt.alloc(), 1)?;
-    assert!(rt; ancestor == outer);
-    Ok(())
+/// Whether a table prints so.
+fn prints_as(table: &Identifier, alloc: Global, wanted: &str) -> bool {
+    let Ok(printed) = table.to_string(alloc) else {
+        return false;
+    };
+    printed.as_str() == wanted
 }
 
 #[test]
 fn identifier_prints_with_dots(rt: HostRuntime) -> Result<(), Fail> {
-    let namespace = Namespace::from_segment(rt.alloc(), "a\u{1f}b")?;
     let name = Name::new(rt.alloc(), "t")?;
+    let namespace = Namespace::from_segment(rt.alloc(), "a\u{1f}b")?;
     let table = Identifier { namespace, name };
-    assert!(rt; table.to_string(rt.alloc())?.as_str() == "a.b.t");
+    let is_dotted = prints_as(&table, rt.alloc(), "a.b.t");
+    drop(table);
+    assert!(rt; is_dotted);
     Ok(())
+}
+
+/// How the namespace compares with that of a segment.
+fn compared(
+    namespace: &Namespace,
+    alloc: Global,
+    segment: &str,
+) -> Result<Ordering, NamespaceRefused> {
+    let other = Namespace::from_segment(alloc, segment)?;
+    let order = namespace.cmp(&other);
+    drop(other);
+    Ok(order)
 }
 
 #[test]
 fn namespaces_compare_level_by_level(rt: HostRuntime) -> Result<(), Fail> {
     let levels = Namespace::from_segment(rt.alloc(), "a\u{1f}b")?;
-    let dotted = Namespace::from_segment(rt.alloc(), "a.b")?;
-    assert!(rt; levels.cmp(&dotted) == Ordering::Less);
+    let order = compared(&levels, rt.alloc(), "a.b");
+    drop(levels);
+    assert!(rt; order == Ok(Ordering::Less));
     Ok(())
+}
+
+/// Whether the scope is equal to its copy, and is not that of all roles.
+fn is_of_some_roles(scope: &Scope) -> Result<bool, AllocError> {
+    let copy = scope.clone()?;
+    let same = copy == *scope && *scope != Scope::All;
+    drop(copy);
+    Ok(same)
 }
 
 #[test]
 fn scopes_compare_by_their_roles(rt: HostRuntime) -> Result<(), Fail> {
-    let roles = Scope::Roles(RoleIds::from(vec![in rt.alloc(); 2u64, 3]?));
-    assert!(rt; roles.clone()? == roles && roles != Scope::All);
+    let roles = Vec::from_slice(rt.alloc(), &[2u64, 3])?;
+    let scope = Scope::Roles(RoleIds::from(roles));
+    let same = is_of_some_roles(&scope);
+    drop(scope);
+    assert!(rt; same?);
     Ok(())
 }

@@ -9,14 +9,14 @@ use std::collections::HashMap;
 use std::test::Fail;
 
 /// A row with a field of each kind that rows have.
-#[derive(Clone, Debug, Drop, PartialEq, Eq)]
+#[derive(Clone, Drop, PartialEq, Eq)]
 struct Row {
     digest: [u8; 4],
     level: Listed<Text>,
     scope: Scope,
 }
 
-#[derive(Clone, Debug, Drop, PartialEq, Eq)]
+#[derive(Clone, Drop, PartialEq, Eq)]
 enum Scope {
     All,
     Roles(Listed<u64>),
@@ -43,7 +43,10 @@ fn text(alloc: Global, word: &str) -> Result<Text, AllocError>
 fn list(alloc: Global, word: &str) -> Result<Listed<Text>, AllocError>
     ensures { IfOk result (λ list. list ≡ word.now ∷ []) }
 {
-    Ok(Listed::from(vec![in alloc; text(alloc, word)?]?))
+    let text = text(alloc, word)?;
+    let mut items = Vec::with_capacity(alloc, 1)?;
+    items.push_reserved(text);
+    Ok(Listed::from(items))
 }
 
 fn bytes(alloc: Global, content: &[u8]) -> Result<Bytes, AllocError>
@@ -52,20 +55,29 @@ fn bytes(alloc: Global, content: &[u8]) -> Result<Bytes, AllocError>
     Ok(Bytes::from(Vec::from_slice(alloc, content)?))
 }
 
+fn scope_of(alloc: Global, role: u64) -> Result<Scope, AllocError> {
+    if role == 0 {
+        return Ok(Scope::All);
+    }
+    let roles = Vec::from_slice(alloc, &[role])?;
+    Ok(Scope::Roles(Listed::from(roles)))
+}
+
 fn row_of(alloc: Global, digest: [u8; 4], level: &str, role: u64) -> Result<Row, AllocError>
     ensures { IfOk result (λ row. row.level ≡ level.now ∷ []) }
 {
-    let scope = if role == 0 {
-        Scope::All
-    } else {
-        Scope::Roles(Listed::from(vec![in alloc; role]?))
-    };
-    let level = list(alloc, level)?;
-    Ok(Row {
-        digest,
-        level,
-        scope,
-    })
+    let scope = scope_of(alloc, role)?;
+    match list(alloc, level) {
+        Ok(level) => Ok(Row {
+            digest,
+            level,
+            scope,
+        }),
+        Err(error) => {
+            drop(scope);
+            Err(error)
+        }
+    }
 }
 
 #[test]
@@ -111,14 +123,31 @@ fn texts_compare_by_bytes(rt: HostRuntime) -> Result<(), Fail> {
     Ok(())
 }
 
+/// Whether the text prints so, plainly and for programmers.
+fn prints_as(text: &Text, alloc: Global, wanted: &str) -> Result<bool, AllocError> {
+    let printed = format!(in alloc; "{text} {text:?}")?;
+    let same = printed.as_str() == wanted;
+    drop(printed);
+    Ok(same)
+}
+
+/// Whether a copy of the text gives back its string.
+fn gives_its_string(text: &Text) -> Result<bool, AllocError> {
+    let given = String::from(text.clone()?);
+    let same = given.as_str() == text.as_str();
+    drop(given);
+    Ok(same)
+}
+
 #[test]
 fn text_is_given_back(rt: HostRuntime) -> Result<(), Fail> {
     let word = text(rt.alloc(), "é")?;
-    assert!(rt; word.len() == 2 && !word.is_empty());
-    assert!(rt; word.as_bytes() == [0xc3, 0xa9].as_slice());
-    let printed = format!(in rt.alloc(); "{word} {word:?}")?;
-    assert!(rt; printed.as_str() == "é \"é\"");
-    assert!(rt; String::from(word.clone()?).as_str() == word.as_str());
+    let read = word.len() == 2 && !word.is_empty();
+    let same = word.as_bytes() == [0xc3, 0xa9].as_slice();
+    let printed = prints_as(&word, rt.alloc(), "é \"é\"");
+    let given = gives_its_string(&word);
+    drop(word);
+    assert!(rt; read && same && printed? && given?);
     Ok(())
 }
 
@@ -132,30 +161,76 @@ fn bytes_are_given_back(rt: HostRuntime) -> Result<(), Fail> {
     Ok(())
 }
 
+/// Whether the list comes before the list of this word.
+fn comes_before(list_of_one: &Listed<Text>, alloc: Global, word: &str) -> Result<bool, AllocError> {
+    let other = list(alloc, word)?;
+    let before = *list_of_one < other;
+    drop(other);
+    Ok(before)
+}
+
+/// Whether a copy of the list gives back its items.
+fn gives_its_items(list_of_one: &Listed<Text>) -> Result<bool, AllocError> {
+    let given: Vec<Text> = list_of_one.clone()?.into();
+    let same = given.as_slice() == list_of_one.as_slice();
+    drop(given);
+    Ok(same)
+}
+
+/// Whether the list has one item, which is this word.
+fn has_one(list_of_one: &Listed<Text>, word: &str) -> bool {
+    let all = list_of_one.iter().all(|text| text.as_str() == word);
+    all && list_of_one.len() == 1 && !list_of_one.is_empty()
+}
+
 #[test]
 fn list_is_given_back(rt: HostRuntime) -> Result<(), Fail> {
     let one = list(rt.alloc(), "a")?;
-    assert!(rt; one.len() == 1 && !one.is_empty());
-    assert!(rt; one < list(rt.alloc(), "b")?);
-    assert!(rt; one.iter().all(|word| word.as_str() == "a"));
-    let given: Vec<Text> = one.clone()?.into();
-    assert!(rt; given.as_slice() == one.as_slice());
+    let read = has_one(&one, "a");
+    let before = comes_before(&one, rt.alloc(), "b");
+    let given = gives_its_items(&one);
+    drop(one);
+    assert!(rt; read && before? && given?);
     Ok(())
 }
 
 /// A key of values of each kind.
-fn key(alloc: Global, word: &str, content: &[u8]) -> Result<(Listed<Text>, Bytes), AllocError> {
-    Ok((list(alloc, word)?, bytes(alloc, content)?))
+type Key = (Listed<Text>, Bytes);
+
+fn key(alloc: Global, word: &str, content: &[u8]) -> Result<Key, AllocError> {
+    let content = bytes(alloc, content)?;
+    Ok((list(alloc, word)?, content))
+}
+
+/// Whether the map has this key.
+fn has_key(
+    places: &HashMap<Key, u8>,
+    alloc: Global,
+    word: &str,
+    content: &[u8],
+) -> Result<bool, AllocError> {
+    let sought = key(alloc, word, content)?;
+    let there = places.contains_key(&sought);
+    drop(sought);
+    Ok(there)
+}
+
+/// Which of three keys the map has: one, and two that differ from it in one part.
+fn keys_there(places: &HashMap<Key, u8>, alloc: Global) -> Result<[bool; 3], AllocError> {
+    Ok([
+        has_key(places, alloc, "ab", b"c")?,
+        has_key(places, alloc, "a", b"c")?,
+        has_key(places, alloc, "ab", b"d")?,
+    ])
 }
 
 #[test]
 fn equal_keys_meet_in_a_map(rt: HostRuntime) -> Result<(), Fail> {
     let mut places = HashMap::new(rt.alloc());
     places.insert(key(rt.alloc(), "ab", b"c")?, 1u8)?;
-    for (word, content, there) in [("ab", b"c", true), ("a", b"c", false), ("ab", b"d", false)] {
-        let sought = key(rt.alloc(), word, content)?;
-        assert!(rt; places.contains_key(&sought) == there);
-    }
+    let there = keys_there(&places, rt.alloc());
+    drop(places);
+    assert!(rt; there? == [true, false, false]);
     Ok(())
 }
 
