@@ -1,40 +1,62 @@
-ghost use Rattle.std.specs.Prelude.{◌≡◌, ◌≤◌, IfOk, OnOk, is_err, length, true};
+ghost use Rattle.std.specs.Prelude.{◌≡◌, ◌≤◌, IfOk, IfSome, OnOk, length};
 ghost use Rattle.pol_journal.specs.Journal.{IsReady};
 
 use crate::{Journal, JournalRefused, Kind};
 use pol_disk::{Content, Disk, FileDisk, HollowDisk, MemoryDisk};
+use pol_wire::Failed;
 use std::alloc::Global;
 use std::fs;
 use std::test::Fail;
 
 const BODIES: [&[u8]; 3] = [b"ab", b"", b"c"];
 
-// A disk of these bytes, whose call of this number is to fail.
-fn disk_of(alloc: Global, bytes: &[u8], failing: u64) -> Result<MemoryDisk, Fail>
-    ensures { IfOk result (λ disk. length disk.past ≡ 0) }
+// A disk of these bytes, whose calls of these numbers are to fail.
+fn disk_of(alloc: Global, bytes: &[u8], failing: &[u64]) -> Option<MemoryDisk>
+    ensures { IfSome result (λ disk. length disk.past ≡ 0) }
 {
-    let bytes = Vec::from_slice(alloc, bytes)?;
-    Ok(MemoryDisk::new(alloc, bytes, vec![in alloc; failing]?)?)
+    let bytes = Vec::from_slice(alloc, bytes).ok()?;
+    let failing = Vec::from_slice(alloc, failing).ok()?;
+    MemoryDisk::new(alloc, bytes, failing).ok()
 }
 
-// The bodies that a disk's bytes stand for.
-fn bodies_of<D: Disk + Drop>(
+// A journal just made, without records.
+fn begun<D: Disk>(disk: D, kind: Kind) -> Result<Journal<D>, (D, JournalRefused)>
+    ensures { IfOk result IsReady }
+{
+    Journal::fresh(disk, kind, &[0])
+}
+
+// How many records a journal still has, where they are the first of the known bodies.
+fn count_left<D: Disk>(
+    alloc: Global,
+    journal: &mut Journal<D>,
+    known: &[&[u8]],
+) -> Result<Option<usize>, JournalRefused> {
+    for count in 0..known.len() {
+        let Some(body) = journal.next_record(alloc)? else {
+            return Ok(Some(count));
+        };
+        if body.as_slice() != known[count] {
+            return Ok(None);
+        }
+    }
+    match journal.next_record(alloc)? {
+        Some(_) => Ok(None),
+        None => Ok(Some(known.len())),
+    }
+}
+
+// How many records a disk's bytes stand for, where they are the first of the known bodies.
+fn count_of<D: Disk + Drop>(
     alloc: Global,
     disk: D,
     kind: Kind,
-) -> Result<Vec<Vec<u8>>, JournalRefused> {
-    let mut journal = match Journal::open(disk, kind) {
-        Ok(journal) => journal,
-        Err((_, refused)) => return Err(refused),
-    };
-    let mut bodies = Vec::new(alloc);
-    for _ in 0..u64::MAX {
-        let Some(body) = journal.next_record(alloc)? else {
-            break;
-        };
-        bodies.push(body)?;
+    known: &[&[u8]],
+) -> Result<Option<usize>, JournalRefused> {
+    match Journal::open(disk, kind) {
+        Ok(mut journal) => count_left(alloc, &mut journal, known),
+        Err((_, refused)) => Err(refused),
     }
-    Ok(bodies)
 }
 
 // Appends, and after a failure repairs and appends again.
@@ -50,16 +72,6 @@ fn append_twice<D: Disk>(journal: &mut Journal<D>, body: &[u8]) -> Result<(), Jo
     journal.append(body)
 }
 
-// Makes a journal and appends the three bodies. It hands the disk back with why it stopped.
-fn written<D: Disk + Drop>(disk: D, kind: Kind) -> (D, Result<(), JournalRefused>) {
-    let mut journal = match Journal::fresh(disk, kind, &[0]) {
-        Ok(journal) => journal,
-        Err((disk, refused)) => return (disk, Err(refused)),
-    };
-    let answer = append_all(&mut journal);
-    (journal.close(), answer)
-}
-
 fn append_all<D: Disk>(journal: &mut Journal<D>) -> Result<(), JournalRefused>
     requires { IsReady journal.old }
     ensures { OnOk result (IsReady journal.new) }
@@ -69,78 +81,67 @@ fn append_all<D: Disk>(journal: &mut Journal<D>) -> Result<(), JournalRefused>
     append_twice(journal, BODIES[2])
 }
 
-// How many of the bodies bytes stand for, and one more, or 0 where they are no journal.
-fn rank_of(alloc: Global, bytes: &[u8]) -> Result<usize, Fail>
-    ensures { IfOk result (λ rank. rank ≤ 4) }
-{
-    let bodies = match bodies_of(alloc, disk_of(alloc, bytes, 0)?, Kind::Objects) {
-        Ok(bodies) => bodies,
-        Err(JournalRefused::NotAJournal) => return Ok(0),
-        Err(refused) => return Err(Fail::new(refused)),
-    };
-    if bodies.len() > 3
-        || bodies
-            .iter()
-            .zip(BODIES)
-            .any(|(body, known)| body.as_slice() != known)
-    {
-        return Err(Fail::new("other bodies than were appended"));
+// Makes a journal and appends the three bodies. It hands the disk back with why it stopped.
+fn written<D: Disk>(disk: D, kind: Kind) -> (D, Result<(), JournalRefused>) {
+    match begun(disk, kind) {
+        Ok(mut journal) => {
+            let answer = append_all(&mut journal);
+            (journal.close(), answer)
+        }
+        Err((disk, refused)) => (disk, Err(refused)),
     }
-    Ok(bodies.len() + 1)
 }
 
-// The rank of the image that has these bytes where a crash may leave any, where there is one of this length.
-fn rank_with(alloc: Global, content: &Content, filling: &[u8]) -> Result<Option<usize>, Fail> {
+// How many of the bodies bytes stand for, and one more, or 0 where they are no journal. None where they are another.
+fn rank_of(alloc: Global, bytes: &[u8]) -> Option<usize> {
+    let disk = disk_of(alloc, bytes, &[])?;
+    match count_of(alloc, disk, Kind::Objects, &BODIES) {
+        Ok(count) => count?.checked_add(1),
+        Err(JournalRefused::NotAJournal) => Some(0),
+        Err(_) => None,
+    }
+}
+
+// The least and the greatest rank of images.
+type Ranks = (usize, usize);
+
+// These ranks with that of the image that has these bytes where a crash may leave any, where there is one of this
+// length.
+fn ranks_with(alloc: Global, content: &Content, ranks: Ranks, filling: &[u8]) -> Option<Ranks> {
     if filling.len() < content.shortest_image() || filling.len() > content.longest_image() {
-        return Ok(None);
+        return Some(ranks);
     }
-    let image = content.image(alloc, filling)?;
-    Ok(Some(rank_of(alloc, &image)?))
+    let image = content.image(alloc, filling).ok()?;
+    let rank = rank_of(alloc, &image)?;
+    Some((ranks.0.min(rank), ranks.1.max(rank)))
 }
 
-// The least and the greatest of these ranks and of that of the image with this filling, where there is one.
-fn ranks_with(
-    alloc: Global,
-    content: &Content,
-    ranks: (usize, usize),
-    filling: &[u8],
-) -> Result<(usize, usize), Fail> {
-    let Some(rank) = rank_with(alloc, content, filling)? else {
-        return Ok(ranks);
-    };
-    Ok((ranks.0.min(rank), ranks.1.max(rank)))
-}
-
-// The least and the greatest rank of the images of a moment that have one byte wherever a crash may leave any.
-fn ranks_at(alloc: Global, content: &Content, bytes: &[u8]) -> Result<(usize, usize), Fail> {
+// The ranks of the images of a moment that have one byte wherever a crash may leave any, for each byte up to a last
+// one.
+fn ranks_at(alloc: Global, content: &Content, last: u8) -> Option<Ranks> {
     let mut ranks = (4, 0);
     for size in content.shortest_image()..=content.longest_image() {
-        for byte in bytes {
-            let filling = vec![in alloc; *byte; size]?;
+        for byte in 0..=last {
+            let filling = vec![in alloc; byte; size].ok()?;
             ranks = ranks_with(alloc, content, ranks, &filling)?;
         }
     }
-    Ok(ranks)
+    Some(ranks)
 }
 
 // The byte at a place of a file, or a zero past its end.
 fn byte_at(file: &[u8], place: usize) -> u8 {
-    file.get(place).copied().unwrap_or(0)
+    if place < file.len() { file[place] } else { 0 }
 }
 
 // So many bytes: those of one file in front of a place, and those of another behind it.
-fn mixed(
-    alloc: Global,
-    front: &[u8],
-    cut: usize,
-    rest: &[u8],
-    size: usize,
-) -> Result<Vec<u8>, Fail> {
-    let mut bytes = Vec::with_capacity(alloc, size)?;
+fn mixed(alloc: Global, front: &[u8], cut: usize, rest: &[u8], size: usize) -> Option<Vec<u8>> {
+    let mut bytes = Vec::with_capacity(alloc, size).ok()?;
     for place in 0..size {
-        bytes.push(byte_at(if place < cut { front } else { rest }, place))?;
+        let byte = byte_at(if place < cut { front } else { rest }, place);
+        bytes.push(byte).ok()?;
     }
-    Ok(bytes)
+    Some(bytes)
 }
 
 // These ranks with those of the images of a moment that hold, wherever a crash may leave any bytes, those of one file
@@ -148,10 +149,10 @@ fn mixed(
 fn mixed_ranks(
     alloc: Global,
     content: &Content,
-    ranks: (usize, usize),
+    ranks: Ranks,
     front: &[u8],
     rest: &[u8],
-) -> Result<(usize, usize), Fail> {
+) -> Option<Ranks> {
     let mut ranks = ranks;
     for size in content.shortest_image()..=content.longest_image() {
         for cut in 0..=size {
@@ -161,101 +162,104 @@ fn mixed_ranks(
             }
         }
     }
-    Ok(ranks)
+    Some(ranks)
 }
 
 // The ranks of the images of a moment: those that have one byte where a crash may leave any, and those that mix what
 // stood there a moment before with what stands there in the end.
-fn ranks_of_moment(
-    alloc: Global,
-    disk: &MemoryDisk,
-    moment: u64,
-    bytes: &[u8],
-) -> Result<(usize, usize), Fail>
+fn ranks_of_moment(alloc: Global, disk: &MemoryDisk, moment: u64, last: u8) -> Option<Ranks>
     requires { moment ≤ length disk.now.past }
 {
     let content = disk.content_at(moment);
     let single = content.shortest_image() == content.longest_image();
-    let ranks = ranks_at(alloc, content, if single { bytes } else { &[1, 2] })?;
+    let ranks = ranks_at(alloc, content, if single { last } else { 2 })?;
     let old = disk.content_at(moment.saturating_sub(1)).seen();
     let new = disk.content_at(disk.moment()).seen();
     let ranks = mixed_ranks(alloc, content, ranks, new, old)?;
     mixed_ranks(alloc, content, ranks, old, new)
 }
 
-// The least rank of the last moment of a disk, of which no earlier moment is to have had more, nor one more than one
-// record that another image hasn't.
-fn last_rank(alloc: Global, disk: &MemoryDisk, bytes: &[u8]) -> Result<usize, Fail> {
+// The least rank of the last moment of a disk. None where an earlier moment had more, so that a record is lost, or
+// where an image has more than one record that another image of its moment hasn't.
+fn last_rank(alloc: Global, disk: &MemoryDisk, last: u8) -> Option<usize> {
     let mut least = 0;
     for moment in 0..=disk.moment() {
-        let (low, high) = ranks_of_moment(alloc, disk, moment, bytes)?;
+        let (low, high) = ranks_of_moment(alloc, disk, moment, last)?;
         if low < least || high - low.min(high) > 1 {
-            return Err(Fail::new("a record is lost"));
+            return None;
         }
         least = low;
     }
-    Ok(least)
+    Some(least)
 }
 
 // The header of a journal with this name, and what follows it.
-fn file_of(alloc: Global, name: &[u8], tail: &[u8]) -> Result<Vec<u8>, Fail> {
-    let mut bytes = Vec::from_slice(alloc, name)?;
-    bytes.extend_from_slice(&[0; 56])?;
-    bytes.extend_from_slice(tail)?;
-    Ok(bytes)
+fn file_of(alloc: Global, name: &[u8], tail: &[u8]) -> Option<Vec<u8>> {
+    let mut bytes = Vec::from_slice(alloc, name).ok()?;
+    bytes.extend_from_slice(&[0; 56]).ok()?;
+    bytes.extend_from_slice(tail).ok()?;
+    Some(bytes)
 }
 
-// The bytes of an objects journal just made, and of one with a record of 39 bytes.
-fn first_bytes(alloc: Global, with_record: bool) -> Result<Vec<u8>, Fail> {
-    let Ok(mut journal) = Journal::fresh(disk_of(alloc, b"", 0)?, Kind::Objects, &[0]) else {
-        return Err(Fail::new("no journal"));
+// The length of an objects journal just made and, where a body is given, appended to. Its file is to have this tail.
+fn length_with(alloc: Global, body: Option<&[u8]>, tail: &[u8]) -> Option<usize> {
+    let Ok(mut journal) = begun(disk_of(alloc, b"", &[])?, Kind::Objects) else {
+        return None;
     };
-    if with_record {
-        journal.append(&[7; 39])?;
-    }
+    let answer = match body {
+        Some(body) => journal.append(body),
+        None => Ok(()),
+    };
     let disk = journal.close();
-    Ok(disk.content_at(disk.moment()).seen().to_vec(alloc)?)
+    let want = file_of(alloc, b"POLOBJ01", tail)?;
+    let file = disk.content_at(disk.moment()).seen();
+    if answer.is_err() || file != want.as_slice() {
+        return None;
+    }
+    Some(file.len())
 }
 
 #[test]
-fn gate_stands_at_64_and_behind_a_record_of_39_bytes_at_112(rt: HostRuntime) -> Result<(), Fail> {
+fn gate_stands_at_64_and_behind_a_record_of_39_bytes_at_112(rt: HostRuntime) {
     let alloc = rt.alloc();
-    let fresh = first_bytes(alloc, false)?;
-    assert_eq!(rt; fresh, file_of(alloc, b"POLOBJ01", &[0])?);
-    assert_eq!(rt; fresh.len(), 65);
-    let mut tail = Vec::from_slice(alloc, b"\x01\0\0\0\0\0\0\0\x27")?;
-    tail.extend_from_slice(&[7; 39])?;
-    tail.push(0)?;
-    let longer = first_bytes(alloc, true)?;
-    assert_eq!(rt; longer, file_of(alloc, b"POLOBJ01", &tail)?);
-    assert_eq!(rt; longer.len(), 113);
-    Ok(())
+    assert!(rt; length_with(alloc, None, b"\0") == Some(65));
+    let body = b"a record whose body has thirty-nine byt";
+    let tail = b"\x01\0\0\0\0\0\0\0\x27a record whose body has thirty-nine byt\0";
+    assert!(rt; length_with(alloc, Some(body), tail) == Some(113));
 }
 
-// How many bodies a file with these bytes behind its header stands for.
-fn count_of(
-    alloc: Global,
-    name: &[u8],
-    tail: &[u8],
-) -> Result<Result<usize, JournalRefused>, Fail> {
-    let disk = disk_of(alloc, &file_of(alloc, name, tail)?, 0)?;
-    match bodies_of(alloc, disk, Kind::Catalogue) {
-        Ok(bodies) => Ok(Ok(bodies.len())),
-        Err(refused) => Ok(Err(refused)),
+// How many records, each of the body A, a file with these bytes behind its header stands for.
+fn count_in(alloc: Global, name: &[u8], tail: &[u8]) -> Option<Result<usize, JournalRefused>> {
+    let disk = disk_of(alloc, &file_of(alloc, name, tail)?, &[])?;
+    match count_of(alloc, disk, Kind::Catalogue, &[b"A", b"A"]) {
+        Ok(count) => Some(Ok(count?)),
+        Err(refused) => Some(Err(refused)),
     }
 }
 
 // The refusal of the record at this gate.
-fn bad_at(at: u64) -> Result<usize, JournalRefused>
-    ensures { is_err result ≡ true }
-{
+fn bad_at(at: u64) -> Result<usize, JournalRefused> {
     Err(JournalRefused::BadRecord { at })
 }
 
+// A file's name and what follows its header, and how many records it has.
+type File = (&'static [u8], &'static [u8], Result<usize, JournalRefused>);
+
+// The number of the first file that has another count.
+fn first_other(alloc: Global, files: &[File]) -> Option<usize> {
+    for number in 0..files.len() {
+        let (name, tail, want) = files[number];
+        if count_in(alloc, name, tail) != Some(want) {
+            return Some(number);
+        }
+    }
+    None
+}
+
 #[test]
-fn files_stand_for_their_records_or_are_refused(rt: HostRuntime) -> Result<(), Fail> {
+fn files_stand_for_their_records_or_are_refused(rt: HostRuntime) {
     let none = Err(JournalRefused::NotAJournal);
-    let files: [(&[u8], &[u8], Result<usize, JournalRefused>); 15] = [
+    let files: [File; 15] = [
         (b"POLJRN01", b"", none),
         (b"POLOBJ01", b"\0", none),
         (b"POLJRN0", b"\0\0", none),
@@ -292,66 +296,52 @@ fn files_stand_for_their_records_or_are_refused(rt: HostRuntime) -> Result<(), F
             bad_at(74),
         ),
     ];
-    for (name, tail, want) in files {
-        assert_eq!(rt; count_of(rt.alloc(), name, tail)?, want);
+    assert_eq!(rt; first_other(rt.alloc(), &files), None);
+}
+
+// Whether all is appended though this call of the disk fails, or none where that call makes the journal. Each image of
+// each moment is to stand for a front of what was appended.
+fn is_kept(alloc: Global, failing: u64, last: u8) -> Option<bool> {
+    let (disk, answer) = written(disk_of(alloc, b"", &[failing])?, Kind::Objects);
+    let rank = last_rank(alloc, &disk, last)?;
+    if 1 <= failing && failing <= 8 {
+        return Some(rank == 0 && matches!(answer, Err(JournalRefused::DiskFault)));
     }
-    Ok(())
+    Some(rank == 4 && answer.is_ok())
 }
 
 #[test]
-fn every_image_of_each_moment_opens_to_a_front_of_what_was_appended(
-    rt: HostRuntime,
-) -> Result<(), Fail> {
-    let alloc = rt.alloc();
-    let every = (0..=255).collect::<Vec<u8>>(alloc)?;
+fn every_image_of_each_moment_opens_to_a_front_of_what_was_appended(rt: HostRuntime) {
     for failing in 0..=26 {
-        let (disk, answer) = written(disk_of(alloc, b"", failing)?, Kind::Objects);
-        let bytes = if failing == 0 {
-            every.as_slice()
-        } else {
-            &[1, 2]
-        };
-        let rank = last_rank(alloc, &disk, bytes)?;
-        if (1..=8).contains(&failing) {
-            assert_eq!(rt;
-                (rank, answer),
-                (0, Err(JournalRefused::DiskFault)),
-                "call {failing}"
-            );
-        } else {
-            assert_eq!(rt; (rank, answer), (4, Ok(())), "call {failing}");
-        }
+        let last = if failing == 0 { 255 } else { 2 };
+        let kept = is_kept(rt.alloc(), failing, last) == Some(true);
+        assert!(rt; kept, "call {failing}");
     }
-    Ok(())
 }
 
 // Appends to a new journal and repairs, where calls 14 and `failing` of its disk fail: what the repair answered, and the
 // ranks of the images then.
-type Repaired = (Result<(), JournalRefused>, (usize, usize));
+type Repaired = (Result<(), JournalRefused>, Ranks);
 
-fn repaired(alloc: Global, failing: u64) -> Result<Repaired, Fail> {
-    let disk = MemoryDisk::new(alloc, Vec::new(alloc), vec![in alloc; 14, failing]?)?;
-    let Ok(mut journal) = Journal::fresh(disk, Kind::Objects, &[0]) else {
-        return Err(Fail::new("no journal"));
+fn repaired(alloc: Global, failing: u64) -> Option<Repaired> {
+    let Ok(mut journal) = begun(disk_of(alloc, b"", &[14, failing])?, Kind::Objects) else {
+        return None;
     };
     let Err(JournalRefused::Unknown) = journal.append(BODIES[0]) else {
-        return Err(Fail::new("no fault"));
+        return None;
     };
     let answer = journal.repair();
     let disk = journal.close();
-    let ranks = ranks_at(alloc, disk.content_at(disk.moment()), &[0, 1, 2])?;
-    Ok((answer, ranks))
+    let ranks = ranks_at(alloc, disk.content_at(disk.moment()), 2)?;
+    Some((answer, ranks))
 }
 
 #[test]
-fn append_that_failed_is_there_or_not_until_it_is_repaired(rt: HostRuntime) -> Result<(), Fail> {
+fn append_that_failed_is_there_or_not_until_it_is_repaired(rt: HostRuntime) {
     let alloc = rt.alloc();
-    assert_eq!(rt; repaired(alloc, 99)?, (Ok(()), (1, 1)));
-    assert_eq!(rt;
-        repaired(alloc, 16)?,
-        (Err(JournalRefused::DiskFault), (1, 2))
-    );
-    Ok(())
+    assert!(rt; matches!(repaired(alloc, 99), Some((Ok(()), (1, 1)))));
+    let failed = repaired(alloc, 16);
+    assert!(rt; matches!(failed, Some((Err(JournalRefused::DiskFault), (1, 2)))));
 }
 
 // Appends to a journal over a disk that never fails: it stays ready, whatever the answer.
@@ -362,36 +352,67 @@ fn append_hollow(journal: &mut Journal<HollowDisk>, body: &[u8]) -> Result<(), J
     journal.append(body)
 }
 
-// A journal over a hollow disk, with a record of this body for each number below 2^20 but 0.
-fn long_journal(body: &[u8]) -> Result<Journal<HollowDisk>, Fail>
-    ensures { IfOk result IsReady }
+// Appends a record of this body for each number below 2^20 but 0.
+fn append_many(journal: &mut Journal<HollowDisk>, body: &[u8]) -> Result<(), JournalRefused>
+    requires { IsReady journal.old }
+    ensures { IsReady journal.new }
 {
-    let Ok(mut journal) = Journal::fresh(HollowDisk::new(0), Kind::Catalogue, &[0]) else {
-        return Err(Fail::new("no journal"));
-    };
     for _ in 1..1_048_576 {
-        append_hollow(&mut journal, body)?;
+        append_hollow(journal, body)?;
     }
-    Ok(journal)
+    Ok(())
+}
+
+// What three appends answer to a journal of nearly 2^40 bytes over a hollow disk: one that goes a byte too far, one that
+// goes to the end, and one behind that. And the length of the disk.
+type Answers = (
+    Result<(), JournalRefused>,
+    Result<(), JournalRefused>,
+    Result<(), JournalRefused>,
+    Result<u64, Failed>,
+);
+
+fn answers_near_the_end(bytes: &[u8]) -> Option<Answers> {
+    let Ok(mut journal) = begun(HollowDisk::new(0), Kind::Catalogue) else {
+        return None;
+    };
+    append_many(&mut journal, bytes.get(9..)?).ok()?;
+    let too_far = append_hollow(&mut journal, bytes.get(73..)?);
+    let to_the_end = append_hollow(&mut journal, bytes.get(74..)?);
+    let behind = append_hollow(&mut journal, b"");
+    Some((too_far, to_the_end, behind, journal.close().length()))
 }
 
 #[test]
 fn journal_reaches_2_to_40_bytes_and_no_further(rt: HostRuntime) -> Result<(), Fail> {
-    let body = vec![in rt.alloc(); 7; 1_048_576]?;
-    let mut journal = long_journal(&body[9..])?;
-    let full = JournalRefused::JournalFull {
-        length: 1_099_510_579_265,
-        wanted: 1_099_511_627_777,
-    };
-    assert_eq!(rt; append_hollow(&mut journal, &body[73..]), Err(full));
-    assert_eq!(rt; append_hollow(&mut journal, &body[74..]), Ok(()));
-    let full = JournalRefused::JournalFull {
-        length: 1_099_511_627_776,
-        wanted: 1_099_511_627_785,
-    };
-    assert_eq!(rt; append_hollow(&mut journal, b""), Err(full));
-    assert_eq!(rt; journal.close().length(), Ok(1_099_511_627_776));
+    let bytes = vec![in rt.alloc(); 7; 1_048_576]?;
+    let answers = answers_near_the_end(&bytes);
+    drop(bytes);
+    assert!(rt;
+        matches!(
+            answers,
+            Some((
+                Err(JournalRefused::JournalFull {
+                    length: 1_099_510_579_265,
+                    wanted: 1_099_511_627_777,
+                }),
+                Ok(()),
+                Err(JournalRefused::JournalFull {
+                    length: 1_099_511_627_776,
+                    wanted: 1_099_511_627_785,
+                }),
+                Ok(1_099_511_627_776),
+            ))
+        )
+    );
     Ok(())
+}
+
+// What the first journal of a disk answers, and then a second.
+fn made_twice<D: Disk + Drop>(disk: D) -> (Result<(), JournalRefused>, Result<(), JournalRefused>) {
+    let (mut disk, answer) = written(disk, Kind::Catalogue);
+    let again = Journal::create(&mut disk, Kind::Objects, &[0]);
+    (answer, again)
 }
 
 #[test]
@@ -399,21 +420,11 @@ fn journal_is_made_on_an_empty_file_alone(rt: HostRuntime) -> Result<(), Fail> {
     let alloc = rt.alloc();
     let name = "vanloquat_journal";
     let _ = fs::remove_file(&rt, name);
+    let made = made_twice(FileDisk::new(&rt, String::from_str(alloc, name)?));
+    assert!(rt; matches!(made, (Ok(()), Err(JournalRefused::JournalThere))));
     let file = FileDisk::new(&rt, String::from_str(alloc, name)?);
-    let (mut disk, answer) = written(file, Kind::Catalogue);
-    assert_eq!(rt; answer, Ok(()));
-    let again = Journal::create(&mut disk, Kind::Objects, &[0]);
-    assert_eq!(rt; again, Err(JournalRefused::JournalThere));
-
-    let file = FileDisk::new(&rt, String::from_str(alloc, name)?);
-    let bodies = bodies_of(alloc, file, Kind::Catalogue)?;
-    assert_eq!(rt; bodies.len(), 3);
-    assert!(rt;
-        bodies
-            .iter()
-            .zip(BODIES)
-            .all(|(body, known)| body.as_slice() == known)
-    );
+    let count = count_of(alloc, file, Kind::Catalogue, &BODIES);
+    assert!(rt; matches!(count, Ok(Some(3))));
     fs::remove_file(&rt, name)?;
     Ok(())
 }
@@ -422,10 +433,10 @@ fn journal_is_made_on_an_empty_file_alone(rt: HostRuntime) -> Result<(), Fail> {
 fn moved<T: Send + Drop>(_value: T) {}
 
 #[test]
-fn journals_may_cross_threads(rt: HostRuntime) -> Result<(), Fail> {
-    let alloc = rt.alloc();
-    if let Ok(journal) = Journal::fresh(disk_of(alloc, b"", 0)?, Kind::Objects, &[0]) {
-        moved(journal);
+fn journals_may_cross_threads(rt: HostRuntime) {
+    if let Some(disk) = disk_of(rt.alloc(), b"", &[]) {
+        if let Ok(journal) = begun(disk, Kind::Objects) {
+            moved(journal);
+        }
     }
-    Ok(())
 }

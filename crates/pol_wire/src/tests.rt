@@ -1,5 +1,5 @@
-ghost use Rattle.std.specs.Prelude.{◌∷◌, ◌≤◌, [], IfOk, IfSome, OnErr, take};
-ghost use Rattle.std.specs.Io.KnownBytes.{Appends, Consumes};
+ghost use Rattle.std.specs.Prelude.{◌∷◌, ◌≤◌, [], IfOk, OnErr, take};
+ghost use Rattle.std.specs.Io.KnownBytes.{Appends};
 ghost use Rattle.pol_wire.specs.Faults.{Rises};
 ghost use Rattle.pol_wire.specs.Streams.{IsShifted};
 
@@ -7,30 +7,34 @@ use crate::{
     Clock, CountingDraw, Draw, Failed, FileDraw, LAST_MOMENT, MemoryClock, MemoryDraw, MemorySink,
     MemorySource, Sink, Source, StdSink, StdSource, WallClock,
 };
-use std::alloc::{AllocError, Global};
+use std::alloc::Global;
 use std::cell::Cell;
 use std::io::{ErrorKind, Read, Write};
 use std::test::Fail;
 use std::time::Duration;
 use std::{io, rt};
 
-// What one call gives to a buffer of this length, or None where it fails.
-fn bytes_given<S: Source>(
-    alloc: Global,
-    source: &mut S,
-    room: usize,
-) -> Result<Option<Vec<u8>>, AllocError>
-    ensures { IfOk result (λ given. IfSome given (λ bytes.
-        Consumes (S.left source.old) (S.left source.new) bytes.items)) }
-{
-    let mut buffer = vec![in alloc; 0; room]?;
-    match source.take(&mut buffer) {
-        Ok(count) => {
-            buffer.truncate(count);
-            Ok(Some(buffer))
-        }
-        Err(Failed) => Ok(None),
+// Whether one call gives these bytes to a buffer of this length, of 9 at most, or fails where none are named.
+fn gives<S: Source>(source: &mut S, room: usize, want: Option<&[u8]>) -> bool {
+    let mut buffer = [0; 9];
+    match (source.take(&mut buffer[..room.min(9)]), want) {
+        (Ok(count), Some(bytes)) => &buffer[..count] == bytes,
+        (Err(Failed), None) => true,
+        _ => false,
     }
+}
+
+// The length of a buffer, and the bytes that are given to it, or None where the call fails.
+type Given = (usize, Option<&'static [u8]>);
+
+// Whether calls give these bytes, one after the other.
+fn gives_all<S: Source>(source: &mut S, steps: &[Given]) -> bool {
+    for (room, want) in steps {
+        if !gives(source, *room, *want) {
+            return false;
+        }
+    }
+    true
 }
 
 // How much one call takes of a piece.
@@ -62,15 +66,19 @@ fn two_words<W: Draw>(draw: &mut W) -> Result<(u64, u64), Failed>
     Ok((first, draw.word()?))
 }
 
+// Whether a source of six bytes in pieces, whose second and seventh calls are to fail, gives these bytes.
+fn source_gives(alloc: Global, steps: &[Given]) -> Option<bool> {
+    let bytes = Vec::from_slice(alloc, b"abcdef").ok()?;
+    let ends = Vec::from_slice(alloc, &[4, 2, 0]).ok()?;
+    let failing = Vec::from_slice(alloc, &[2, 7]).ok()?;
+    let mut source = MemorySource::new(bytes, ends, failing);
+    let given = gives_all(&mut source, steps);
+    Some(given && source.faults() == 2 && source.left().is_empty())
+}
+
 #[test]
-fn source_gives_pieces_and_fails_where_it_is_told(rt: HostRuntime) -> Result<(), Fail> {
-    let alloc = rt.alloc();
-    let mut source = MemorySource::new(
-        Vec::from_slice(alloc, b"abcdef")?,
-        vec![in alloc; 4, 2, 0]?,
-        vec![in alloc; 2, 7]?,
-    );
-    let steps: [(usize, Option<&[u8]>); 9] = [
+fn source_gives_pieces_and_fails_where_it_is_told(rt: HostRuntime) {
+    let steps: [Given; 9] = [
         (3, Some(b"ab")),
         (3, None),
         (1, Some(b"c")),
@@ -81,81 +89,85 @@ fn source_gives_pieces_and_fails_where_it_is_told(rt: HostRuntime) -> Result<(),
         (9, Some(b"f")),
         (9, Some(b"")),
     ];
-    for (room, want) in steps {
-        let given = bytes_given(alloc, &mut source, room)?;
-        assert_eq!(rt;
-            given.as_ref().map(|bytes| bytes.as_slice()),
-            want,
-            "at {room}"
-        );
-    }
-    assert_eq!(rt; source.faults(), 2);
-    assert!(rt; source.left().is_empty());
-    Ok(())
+    assert!(rt; source_gives(rt.alloc(), &steps) == Some(true));
 }
 
 #[test]
-fn source_without_bytes_is_at_its_end(rt: HostRuntime) -> Result<(), Fail> {
+fn source_without_bytes_is_at_its_end(rt: HostRuntime) {
     let alloc = rt.alloc();
     let mut source = MemorySource::new(Vec::new(alloc), Vec::new(alloc), Vec::new(alloc));
-    for room in [0, 5] {
-        let given = bytes_given(alloc, &mut source, room)?;
-        assert_eq!(rt; given.map(|bytes| bytes.len()), Some(0));
-    }
-    assert_eq!(rt; source.faults(), 0);
-    Ok(())
+    let ended = gives(&mut source, 0, Some(b"")) && gives(&mut source, 5, Some(b""));
+    let faults = source.faults();
+    drop(source);
+    assert!(rt; ended && faults == 0);
+}
+
+// Whether a sink that has a byte, takes three at a time and fails at its second call, takes four pieces so.
+fn sink_takes(alloc: Global) -> Option<bool> {
+    let bytes = Vec::from_slice(alloc, b">").ok()?;
+    let failing = Vec::from_slice(alloc, &[2]).ok()?;
+    let mut sink = MemorySink::new(bytes, 3, failing);
+    let first = matches!(count_taken(&mut sink, b"abcd"), Ok(3));
+    let second = matches!(count_taken(&mut sink, b"d"), Err(Failed));
+    let third = matches!(count_taken(&mut sink, b""), Ok(0));
+    let last = matches!(count_taken(&mut sink, b"de"), Ok(2));
+    let kept = sink.bytes() == b">abcde".as_slice() && sink.faults() == 1;
+    Some(first && second && third && last && kept)
 }
 
 #[test]
-fn sink_keeps_what_it_takes_and_fails_where_it_is_told(rt: HostRuntime) -> Result<(), Fail> {
-    let alloc = rt.alloc();
-    let mut sink = MemorySink::new(Vec::from_slice(alloc, b">")?, 3, vec![in alloc; 2]?);
-    let steps: [(&[u8], Result<usize, Failed>); 4] = [
-        (b"abcd", Ok(3)),
-        (b"d", Err(Failed)),
-        (b"", Ok(0)),
-        (b"de", Ok(2)),
-    ];
-    for (piece, want) in steps {
-        assert_eq!(rt; count_taken(&mut sink, piece), want);
-    }
-    assert_eq!(rt; sink.bytes(), b">abcde".as_slice());
-    assert_eq!(rt; sink.faults(), 1);
-    Ok(())
+fn sink_keeps_what_it_takes_and_fails_where_it_is_told(rt: HostRuntime) {
+    assert!(rt; sink_takes(rt.alloc()) == Some(true));
+}
+
+// The first four moments of a clock of three.
+fn four_moments(alloc: Global) -> Option<((u64, u64), (u64, u64))> {
+    let mut clock = MemoryClock::new(Vec::from_slice(alloc, &[5, 3, u64::MAX]).ok()?);
+    let first = two_moments(&mut clock);
+    Some((first, two_moments(&mut clock)))
 }
 
 #[test]
-fn clock_stays_at_its_last_moment(rt: HostRuntime) -> Result<(), Fail> {
-    let alloc = rt.alloc();
-    let mut clock = MemoryClock::new(vec![in alloc; 5, 3, u64::MAX]?);
-    assert_eq!(rt; two_moments(&mut clock), (5, 3));
-    assert_eq!(rt; two_moments(&mut clock), (1 << 62, 1 << 62));
-    assert_eq!(rt; two_moments(&mut MemoryClock::new(Vec::new(alloc))), (0, 0));
-    Ok(())
+fn clock_stays_at_its_last_moment(rt: HostRuntime) {
+    const LAST: u64 = 1 << 62;
+    let moments = four_moments(rt.alloc());
+    assert!(rt; matches!(moments, Some(((5, 3), (LAST, LAST)))));
+    let mut clock = MemoryClock::new(Vec::new(rt.alloc()));
+    let moments = two_moments(&mut clock);
+    drop(clock);
+    assert!(rt; matches!(moments, (0, 0)));
+}
+
+// Whether a draw of three words, whose first call is to fail, gives them and then fails.
+fn draw_gives(alloc: Global) -> Option<bool> {
+    let words = Vec::from_slice(alloc, &[7, 7, u64::MAX]).ok()?;
+    let failing = Vec::from_slice(alloc, &[1]).ok()?;
+    let mut draw = MemoryDraw::new(words, failing);
+    let first = two_words(&mut draw).is_err();
+    let second = matches!(two_words(&mut draw), Ok((7, 7)));
+    let third = matches!(draw.word(), Ok(u64::MAX));
+    let last = two_words(&mut draw).is_err();
+    Some(first && second && third && last && draw.faults() == 2)
 }
 
 #[test]
-fn draw_gives_its_words_and_then_fails(rt: HostRuntime) -> Result<(), Fail> {
-    let alloc = rt.alloc();
-    let mut draw = MemoryDraw::new(vec![in alloc; 7, 7, u64::MAX]?, vec![in alloc; 1]?);
-    assert_eq!(rt; two_words(&mut draw), Err(Failed));
-    assert_eq!(rt; two_words(&mut draw), Ok((7, 7)));
-    assert_eq!(rt; draw.word(), Ok(u64::MAX));
-    assert_eq!(rt; two_words(&mut draw), Err(Failed));
-    assert_eq!(rt; draw.faults(), 2);
-    Ok(())
+fn draw_gives_its_words_and_then_fails(rt: HostRuntime) {
+    assert!(rt; draw_gives(rt.alloc()) == Some(true));
+}
+
+// Whether a counting draw whose third and fourth calls are to fail loses no word.
+fn counting_draw_gives(alloc: Global) -> Option<bool> {
+    let mut draw = CountingDraw::new(Vec::from_slice(alloc, &[3, 4]).ok()?);
+    let first = matches!(two_words(&mut draw), Ok((0, 1)));
+    let second = two_words(&mut draw).is_err();
+    let third = two_words(&mut draw).is_err();
+    let last = matches!(two_words(&mut draw), Ok((2, 3)));
+    Some(first && second && third && last && draw.faults() == 2)
 }
 
 #[test]
-fn counting_draw_loses_no_word_where_it_fails(rt: HostRuntime) -> Result<(), Fail> {
-    let alloc = rt.alloc();
-    let mut draw = CountingDraw::new(vec![in alloc; 3, 4]?);
-    assert_eq!(rt; two_words(&mut draw), Ok((0, 1)));
-    assert_eq!(rt; two_words(&mut draw), Err(Failed));
-    assert_eq!(rt; two_words(&mut draw), Err(Failed));
-    assert_eq!(rt; two_words(&mut draw), Ok((2, 3)));
-    assert_eq!(rt; draw.faults(), 2);
-    Ok(())
+fn counting_draw_loses_no_word_where_it_fails(rt: HostRuntime) {
+    assert!(rt; counting_draw_gives(rt.alloc()) == Some(true));
 }
 
 // A reader and writer whose calls fail, or which takes no byte.
@@ -223,41 +235,48 @@ impl rt::Clock for Stopping {
 }
 
 #[test]
-fn std_reader_is_a_source(rt: HostRuntime) -> Result<(), Fail> {
-    let alloc = rt.alloc();
-    let mut source = StdSource::new(b"abc".as_slice());
-    for want in [b"ab".as_slice(), b"c", b"", b""] {
-        let given = bytes_given(alloc, &mut source, 2)?;
-        assert_eq!(rt; given.as_ref().map(|bytes| bytes.as_slice()), Some(want));
-    }
-    let failed = bytes_given(alloc, &mut StdSource::new(Broken::Wholly), 2)?;
-    assert!(rt; failed.is_none());
-    Ok(())
+fn std_reader_is_a_source(rt: HostRuntime) {
+    let steps: [Given; 4] = [
+        (2, Some(b"ab")),
+        (2, Some(b"c")),
+        (2, Some(b"")),
+        (2, Some(b"")),
+    ];
+    let given = gives_all(&mut StdSource::new(b"abc".as_slice()), &steps);
+    let failed = gives(&mut StdSource::new(Broken::Wholly), 2, None);
+    assert!(rt; given && failed);
 }
 
-#[test]
-fn std_writer_is_a_sink_that_is_flushed_at_each_call(rt: HostRuntime) -> Result<(), Fail> {
-    let mut written = Vec::new(rt.alloc());
-    assert_eq!(rt; count_taken(&mut StdSink::new(&mut written), b"abc"), Ok(3));
-    assert_eq!(rt; written.as_slice(), b"abc".as_slice());
-
+// Whether a writer has what it took once a call ends, though it waits for a flush.
+fn is_flushed() -> bool {
     let arrived = Cell::new(0);
     let mut sink = StdSink::new(Waiting {
         waiting: 0,
         arrived: &arrived,
     });
-    assert_eq!(rt; count_taken(&mut sink, b"ab"), Ok(2));
-    assert_eq!(rt; arrived.get(), 2);
-    Ok(())
+    let taken = matches!(count_taken(&mut sink, b"ab"), Ok(2));
+    taken && arrived.get() == 2
+}
+
+#[test]
+fn std_writer_is_a_sink_that_is_flushed_at_each_call(rt: HostRuntime) {
+    let mut written = Vec::new(rt.alloc());
+    let taken = count_taken(&mut StdSink::new(&mut written), b"abc");
+    let kept = written.as_slice() == b"abc".as_slice();
+    drop(written);
+    assert!(rt; matches!(taken, Ok(3)) && kept);
+    assert!(rt; is_flushed());
 }
 
 #[test]
 fn std_writer_that_fails_or_takes_nothing_is_a_failed_sink(rt: HostRuntime) {
     for broken in [Broken::Wholly, Broken::TakesNothing, Broken::AtFlush] {
-        assert_eq!(rt; count_taken(&mut StdSink::new(broken), b"a"), Err(Failed));
+        let failed = count_taken(&mut StdSink::new(broken), b"a").is_err();
+        assert!(rt; failed);
     }
     let mut sink = StdSink::new(Broken::TakesNothing);
-    assert_eq!(rt; count_taken(&mut sink, b""), Ok(0));
+    let taken = count_taken(&mut sink, b"");
+    assert!(rt; matches!(taken, Ok(0)));
 }
 
 #[test]
@@ -265,6 +284,11 @@ fn failure_says_what_it_is(rt: HostRuntime) -> Result<(), Fail> {
     let text = format!(in rt.alloc(); "{Failed}")?;
     assert_eq!(rt; text.as_str(), "a call of the outside world failed");
     Ok(())
+}
+
+// Two moments of a wall clock over one that can be read once.
+fn stopped_moments(reading: Option<Duration>) -> (u64, u64) {
+    two_moments(&mut WallClock::new(Stopping(Cell::new(reading))))
 }
 
 #[test]
@@ -278,15 +302,15 @@ fn wall_clock_rises_is_cut_and_stays_where_it_stops(rt: HostRuntime) {
         (None, 0),
     ];
     for (reading, want) in cases {
-        let mut clock = WallClock::new(Stopping(Cell::new(reading)));
-        assert_eq!(rt; two_moments(&mut clock), (want, want));
+        let (first, second) = stopped_moments(reading);
+        assert!(rt; first == want && second == want);
     }
 }
 
 #[test]
 fn file_draw_gives_words_that_differ(rt: HostRuntime) -> Result<(), Fail> {
     let (first, second) = two_words(&mut FileDraw::new(&rt))?;
-    assert_ne!(rt; first, second);
+    assert!(rt; first != second);
     Ok(())
 }
 
