@@ -1,11 +1,12 @@
 //! The answers to replies, by their exact bytes.
-use super::{check_answer, check_text, replied};
-use crate::answer_of;
+use super::replies::{
+    add, check_done, check_empty, check_refused, check_session, namespace, plain, text, two,
+};
 use pol_access::Privilege;
-use pol_commands::{Answer, OptionName, Quantity, Refusal, Reply, SecurableName};
+use pol_commands::{Answer, OptionName, Quantity, Refusal, SecurableName};
 use pol_content::CatalogRow;
 use pol_locations::{Location, LocationRefused};
-use pol_names::{Namespace, Plain};
+use pol_names::Namespace;
 use pol_properties::{Properties, Property};
 use pol_types::{Listed, OutOfMemory, Text};
 use std::alloc::{AllocError, Global};
@@ -23,26 +24,15 @@ const LAKE: &str =
 const BARE: &str =
     r#"{"name":"bare","properties":{"default-base-location":"lake://b/c"},"storageConfigInfo":{"allowedLocations":[]},"type":"INTERNAL"}"#;
 
-fn text(alloc: Global, word: &str) -> Result<Text, AllocError> {
-    Ok(Text::from(String::from_str(alloc, word)?))
-}
-
-fn plain(alloc: Global, word: &str) -> Result<Plain, Fail> {
-    Ok(Plain::new(alloc, word)?)
+#[test]
+fn an_opened_session_answers_its_token(rt: HostRuntime) -> Result<(), Fail> {
+    let expected =
+        "HTTP/1.1 200 OK\r\ncontent-type: application/json\r\ncontent-length: 175\r\ncache-control: no-store\r\npragma: no-cache\r\n\r\n{\"access_token\":\"0123456789abcdef0000000000000001ffffffffffffffff\",\"expires_in\":3600,\"issued_token_type\":\"urn:ietf:params:oauth:token-type:access_token\",\"token_type\":\"bearer\"}";
+    check_session(rt.alloc(), 0x0123_4567_89ab_cdef, 1, u64::MAX, expected)
 }
 
 fn location(alloc: Global, word: &str) -> Result<Location, Fail> {
     Ok(Location::parse(alloc, word)?)
-}
-
-fn namespace(alloc: Global, segment: &str) -> Result<Namespace, Fail> {
-    Ok(Namespace::from_segment(alloc, segment)?)
-}
-
-/// Adds an item to a list.
-fn add<T: Drop>(list: &mut Vec<T>, item: T) -> Result<(), OutOfMemory> {
-    list.push(item)?;
-    Ok(())
 }
 
 /// Adds a text to a list.
@@ -148,35 +138,9 @@ fn bare(alloc: Global) -> Result<CatalogRow, Fail> {
 
 /// The catalogues `bare` and `lake`.
 fn two_catalogs(alloc: Global) -> Result<Listed<CatalogRow>, Fail> {
-    let mut rows = Vec::new(alloc);
-    let row = bare(alloc)?;
-    add(&mut rows, row)?;
-    let row = lake(alloc)?;
-    add(&mut rows, row)?;
-    Ok(Listed::from(rows))
-}
-
-/// Fails unless the answer to a reply has that status line and that JSON.
-fn check(alloc: Global, reply: &Reply, status: &str, json: &str) -> Result<(), Fail> {
-    check_answer(alloc, answer_of(alloc, reply), status, json)
-}
-
-/// The same of an answer of a command that is done.
-fn check_done(alloc: Global, answer: Answer, status: &str, json: &str) -> Result<(), Fail> {
-    let reply = Reply::Answered(answer);
-    check(alloc, &reply, status, json)
-}
-
-/// The same of a refusal, with what its error's object holds.
-fn check_error(alloc: Global, reply: &Reply, status: &str, error: &str) -> Result<(), Fail> {
-    let json = format!(in alloc; "{{\"error\":{error}}}")?;
-    check(alloc, reply, status, json.as_str())
-}
-
-/// The same by the cause of the refusal.
-fn check_refused(alloc: Global, why: Refusal, status: &str, error: &str) -> Result<(), Fail> {
-    let reply = Reply::Refused(why);
-    check_error(alloc, &reply, status, error)
+    let bare = bare(alloc)?;
+    let lake = lake(alloc)?;
+    Ok(two(alloc, bare, lake)?)
 }
 
 /// Fails unless a config is answered.
@@ -293,15 +257,6 @@ fn namespaces_are_answered(rt: HostRuntime) -> Result<(), Fail> {
     check_changed_properties(rt.alloc())
 }
 
-/// Fails unless a command that is done is answered without a body.
-fn check_empty(alloc: Global, answer: Answer) -> Result<(), Fail> {
-    let reply = Reply::Answered(answer);
-    let text = replied(alloc, &reply);
-    drop(reply);
-    let text = text?;
-    check_text(text.as_str(), "HTTP/1.1 204 No Content\r\n\r\n", "no body")
-}
-
 #[test]
 fn what_is_dropped_or_there_is_answered_without_a_body(rt: HostRuntime) -> Result<(), Fail> {
     check_empty(rt.alloc(), Answer::CatalogDropped)?;
@@ -391,82 +346,81 @@ fn refusals_of_names_are_told(rt: HostRuntime) -> Result<(), Fail> {
     check_key_twice(rt.alloc())
 }
 
-fn limit(quantity: Quantity, bound: u64) -> Reply {
-    Reply::Refused(Refusal::Limit { quantity, bound })
-}
-
-/// Fails unless the answer to each refusal has the status line and the error's object that stand beside it.
-fn check_errors(alloc: Global, cases: &[(Reply, &str, &str)]) -> Result<(), Fail> {
-    for (reply, status, error) in cases {
-        check_error(alloc, reply, status, error)?;
-    }
-    Ok(())
+fn limit(quantity: Quantity, bound: u64) -> Refusal {
+    Refusal::Limit { quantity, bound }
 }
 
 #[test]
 fn other_refusals_are_told(rt: HostRuntime) -> Result<(), Fail> {
-    let cases = [
-        (
-            Reply::Refused(Refusal::InvalidClient),
-            "401 Unauthorized",
-            "\"invalid_client\"",
-        ),
-        (
-            Reply::Refused(Refusal::InvalidScope),
-            "400 Bad Request",
-            "\"invalid_scope\"",
-        ),
-        (
-            Reply::Refused(Refusal::Unauthenticated),
-            "401 Unauthorized",
-            r#"{"code":401,"message":"Unauthenticated","type":"NotAuthorizedException"}"#,
-        ),
-        (
-            Reply::Refused(Refusal::Forbidden {
-                privilege: Privilege::ServiceManageAccess,
-                securable: SecurableName::Realm,
-            }),
-            "403 Forbidden",
-            r#"{"code":403,"message":"Forbidden: SERVICE_MANAGE_ACCESS on realm","type":"ForbiddenException"}"#,
-        ),
-        (
-            Reply::Refused(Refusal::RunFull {
-                charged: 1_073_741_824,
-                charge: 512,
-            }),
-            "503 Service Unavailable",
-            r#"{"code":503,"message":"RunFull: 1073741824 and 512","type":"ServiceUnavailableException"}"#,
-        ),
-        (
-            Reply::Refused(Refusal::BadLocation {
-                table: 0,
-                why: LocationRefused::DotSegment,
-            }),
-            "400 Bad Request",
-            r#"{"code":400,"message":"BadLocation of table 0: DotSegment","type":"BadRequestException"}"#,
-        ),
-        (
-            Reply::Refused(Refusal::Unsupported {
-                name: OptionName::Type,
-            }),
-            "406 Not Acceptable",
-            r#"{"code":406,"message":"Unsupported: type","type":"UnsupportedOperationException"}"#,
-        ),
-        (
-            limit(Quantity::NextSerial, 4_611_686_018_427_387_904),
-            "400 Bad Request",
-            r#"{"code":400,"message":"Limit: next_serial 4611686018427387904","type":"BadRequestException"}"#,
-        ),
-        (
-            limit(Quantity::Namespaces, 100_000),
-            "400 Bad Request",
-            r#"{"code":400,"message":"Limit: namespaces 100000","type":"BadRequestException"}"#,
-        ),
-        (
-            limit(Quantity::AllowedLocations, 100),
-            "400 Bad Request",
-            r#"{"code":400,"message":"Limit: allowed locations 100","type":"BadRequestException"}"#,
-        ),
-    ];
-    check_errors(rt.alloc(), &cases)
+    check_refused(
+        rt.alloc(),
+        Refusal::InvalidClient,
+        "401 Unauthorized",
+        "\"invalid_client\"",
+    )?;
+    check_refused(
+        rt.alloc(),
+        Refusal::InvalidScope,
+        "400 Bad Request",
+        "\"invalid_scope\"",
+    )?;
+    check_refused(
+        rt.alloc(),
+        Refusal::Unauthenticated,
+        "401 Unauthorized",
+        r#"{"code":401,"message":"Unauthenticated","type":"NotAuthorizedException"}"#,
+    )?;
+    check_refused(
+        rt.alloc(),
+        Refusal::Forbidden {
+            privilege: Privilege::ServiceManageAccess,
+            securable: SecurableName::Realm,
+        },
+        "403 Forbidden",
+        r#"{"code":403,"message":"Forbidden: SERVICE_MANAGE_ACCESS on realm","type":"ForbiddenException"}"#,
+    )?;
+    check_refused(
+        rt.alloc(),
+        Refusal::RunFull {
+            charged: 1_073_741_824,
+            charge: 512,
+        },
+        "503 Service Unavailable",
+        r#"{"code":503,"message":"RunFull: 1073741824 and 512","type":"ServiceUnavailableException"}"#,
+    )?;
+    check_refused(
+        rt.alloc(),
+        Refusal::BadLocation {
+            table: 0,
+            why: LocationRefused::DotSegment,
+        },
+        "400 Bad Request",
+        r#"{"code":400,"message":"BadLocation of table 0: DotSegment","type":"BadRequestException"}"#,
+    )?;
+    check_refused(
+        rt.alloc(),
+        Refusal::Unsupported {
+            name: OptionName::Type,
+        },
+        "406 Not Acceptable",
+        r#"{"code":406,"message":"Unsupported: type","type":"UnsupportedOperationException"}"#,
+    )?;
+    check_refused(
+        rt.alloc(),
+        limit(Quantity::NextSerial, 4_611_686_018_427_387_904),
+        "400 Bad Request",
+        r#"{"code":400,"message":"Limit: next_serial 4611686018427387904","type":"BadRequestException"}"#,
+    )?;
+    check_refused(
+        rt.alloc(),
+        limit(Quantity::Namespaces, 100_000),
+        "400 Bad Request",
+        r#"{"code":400,"message":"Limit: namespaces 100000","type":"BadRequestException"}"#,
+    )?;
+    check_refused(
+        rt.alloc(),
+        limit(Quantity::AllowedLocations, 100),
+        "400 Bad Request",
+        r#"{"code":400,"message":"Limit: allowed locations 100","type":"BadRequestException"}"#,
+    )
 }

@@ -1,11 +1,12 @@
 //! The answers to management requests, by their exact bytes.
-use super::{check_answer, check_text, replied};
-use crate::answer_of;
+use super::replies::{
+    check_added, check_done, check_empty, check_refused, namespace, plain, text, two,
+};
 use pol_access::{PrincipalRow, Privilege};
-use pol_commands::{Answer, Grant, GrantedOn, Refusal, Reply};
-use pol_names::{Identifier, Name, Namespace, Plain};
-use pol_types::{Listed, OutOfMemory, Text};
-use std::alloc::{AllocError, Global};
+use pol_commands::{Answer, Grant, GrantedOn, Refusal};
+use pol_names::{Identifier, Name};
+use pol_types::Listed;
+use std::alloc::Global;
 use std::test::Fail;
 
 /// The credentials of a new principal.
@@ -27,37 +28,6 @@ const GRANTS: &str =
 /// Grants on a table and on a view.
 const TABLE_GRANTS: &str =
     r#"{"grants":[{"namespace":["a","b"],"privilege":"TABLE_DROP","tableName":"t","type":"table"},{"namespace":["a","b"],"privilege":"VIEW_LIST","type":"view","viewName":"v"}]}"#;
-
-fn text(alloc: Global, word: &str) -> Result<Text, AllocError> {
-    Ok(Text::from(String::from_str(alloc, word)?))
-}
-
-fn plain(alloc: Global, word: &str) -> Result<Plain, Fail> {
-    Ok(Plain::new(alloc, word)?)
-}
-
-/// Fails unless the answer to a reply has that status line and that JSON.
-fn check(alloc: Global, reply: &Reply, status: &str, json: &str) -> Result<(), Fail> {
-    check_answer(alloc, answer_of(alloc, reply), status, json)
-}
-
-/// The same of what is done.
-fn check_done(alloc: Global, answer: Answer, status: &str, json: &str) -> Result<(), Fail> {
-    let reply = Reply::Answered(answer);
-    check(alloc, &reply, status, json)
-}
-
-/// The same of a refusal, with what its error's object holds.
-fn check_error(alloc: Global, reply: &Reply, status: &str, error: &str) -> Result<(), Fail> {
-    let json = format!(in alloc; "{{\"error\":{error}}}")?;
-    check(alloc, reply, status, json.as_str())
-}
-
-/// The same by the cause of the refusal.
-fn check_refused(alloc: Global, why: Refusal, status: &str, error: &str) -> Result<(), Fail> {
-    let reply = Reply::Refused(why);
-    check_error(alloc, &reply, status, error)
-}
 
 /// Fails unless a new principal is answered with its credentials.
 fn check_new_principal(alloc: Global) -> Result<(), Fail> {
@@ -101,14 +71,6 @@ fn check_principal(alloc: Global) -> Result<(), Fail> {
     let row = principal(alloc, 1, "root", "root")?;
     let json = r#"{"clientId":"root","name":"root"}"#;
     check_done(alloc, Answer::PrincipalLoaded(row), "200 OK", json)
-}
-
-/// A list of two items.
-fn two<T: Drop>(alloc: Global, first: T, second: T) -> Result<Listed<T>, OutOfMemory> {
-    let mut list = Vec::new(alloc);
-    list.push(first)?;
-    list.push(second)?;
-    Ok(Listed::from(list))
 }
 
 /// Fails unless principals are answered in their order.
@@ -165,14 +127,9 @@ fn roles_are_answered(rt: HostRuntime) -> Result<(), Fail> {
     check_role(rt.alloc())
 }
 
-/// The namespace `a`, `b`.
-fn namespace(alloc: Global) -> Result<Namespace, Fail> {
-    Ok(Namespace::from_segment(alloc, "a\u{1f}b")?)
-}
-
-/// The table or the view of a name in it.
+/// The table or the view of a name in the namespace `a`, `b`.
 fn identifier(alloc: Global, name: &str) -> Result<Identifier, Fail> {
-    let namespace = namespace(alloc)?;
+    let namespace = namespace(alloc, "a\u{1f}b")?;
     let name = Name::new(alloc, name)?;
     Ok(Identifier { namespace, name })
 }
@@ -183,7 +140,7 @@ fn grant(privilege: Privilege, on: GrantedOn) -> Grant {
 
 /// Fails unless grants on a namespace and a catalogue are answered in their order.
 fn check_grants(alloc: Global) -> Result<(), Fail> {
-    let namespace = namespace(alloc)?;
+    let namespace = namespace(alloc, "a\u{1f}b")?;
     let first = grant(Privilege::NamespaceList, GrantedOn::Namespace(namespace));
     let second = grant(Privilege::CatalogManageAccess, GrantedOn::Catalog);
     let grants = two(alloc, first, second)?;
@@ -206,29 +163,6 @@ fn grants_are_answered(rt: HostRuntime) -> Result<(), Fail> {
     check_table_grants(rt.alloc())
 }
 
-/// Fails unless what is done is answered by this text.
-fn check_bytes(alloc: Global, answer: Answer, expected: &str) -> Result<(), Fail> {
-    let reply = Reply::Answered(answer);
-    let text = replied(alloc, &reply);
-    drop(reply);
-    let text = text?;
-    check_text(text.as_str(), expected, "an answer")
-}
-
-/// Fails unless what is added is answered with its status alone.
-fn check_added(alloc: Global, answer: Answer) -> Result<(), Fail> {
-    check_bytes(
-        alloc,
-        answer,
-        "HTTP/1.1 201 Created\r\ncontent-length: 0\r\n\r\n",
-    )
-}
-
-/// The same of what has ended.
-fn check_ended(alloc: Global, answer: Answer) -> Result<(), Fail> {
-    check_bytes(alloc, answer, "HTTP/1.1 204 No Content\r\n\r\n")
-}
-
 #[test]
 fn what_is_added_is_answered_without_a_body(rt: HostRuntime) -> Result<(), Fail> {
     check_added(rt.alloc(), Answer::RoleCreated)?;
@@ -240,10 +174,10 @@ fn what_is_added_is_answered_without_a_body(rt: HostRuntime) -> Result<(), Fail>
 
 #[test]
 fn what_has_ended_is_answered_without_a_body(rt: HostRuntime) -> Result<(), Fail> {
-    check_ended(rt.alloc(), Answer::PrincipalDropped)?;
-    check_ended(rt.alloc(), Answer::RoleDropped)?;
-    check_ended(rt.alloc(), Answer::MemberEnded)?;
-    check_ended(rt.alloc(), Answer::JoinEnded)
+    check_empty(rt.alloc(), Answer::PrincipalDropped)?;
+    check_empty(rt.alloc(), Answer::RoleDropped)?;
+    check_empty(rt.alloc(), Answer::MemberEnded)?;
+    check_empty(rt.alloc(), Answer::JoinEnded)
 }
 
 /// Fails unless a table that isn't there is told.

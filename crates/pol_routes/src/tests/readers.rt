@@ -92,7 +92,7 @@ const BEARERS: [(&str, &str); 14] = [
 ];
 
 /// What was read, or `!` and the field that can't be.
-fn shown<T: fmt::Display>(
+fn read_text<T: fmt::Display>(
     alloc: Global,
     read: &Result<T, RouteRefused>,
 ) -> Result<String, AllocError> {
@@ -102,24 +102,30 @@ fn shown<T: fmt::Display>(
     }
 }
 
+/// The same, where what was read is done with.
+fn shown<T: fmt::Display + Drop>(
+    alloc: Global,
+    read: Result<T, RouteRefused>,
+) -> Result<String, AllocError> {
+    let text = read_text(alloc, &read);
+    drop(read);
+    text
+}
+
 fn shown_text(alloc: Global, segment: &[u8]) -> Result<String, AllocError> {
-    let read = segment_text(alloc, segment);
-    shown(alloc, &read)
+    shown(alloc, segment_text(alloc, segment))
 }
 
 fn shown_plain(alloc: Global, segment: &str) -> Result<String, AllocError> {
-    let read = plain_segment(alloc, segment.as_bytes());
-    shown(alloc, &read)
+    shown(alloc, plain_segment(alloc, segment.as_bytes()))
 }
 
 fn shown_name(alloc: Global, segment: &str) -> Result<String, AllocError> {
-    let read = name_segment(alloc, segment.as_bytes());
-    shown(alloc, &read)
+    shown(alloc, name_segment(alloc, segment.as_bytes()))
 }
 
 fn shown_namespace(alloc: Global, segment: &str) -> Result<String, AllocError> {
-    let read = namespace_segment(alloc, segment.as_bytes());
-    shown(alloc, &read)
+    shown(alloc, namespace_segment(alloc, segment.as_bytes()))
 }
 
 /// Fails unless a segment is read as this text.
@@ -247,7 +253,9 @@ fn shown_value(
 /// The value of a key of a query, as it is shown.
 fn value_of(alloc: Global, query: &str, key: &str) -> Result<String, AllocError> {
     let read = query_value(alloc, query.as_bytes(), key);
-    shown_value(alloc, &read)
+    let text = shown_value(alloc, &read);
+    drop(read);
+    text
 }
 
 /// Fails unless a key of a query has this value.

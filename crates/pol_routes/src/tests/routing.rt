@@ -293,7 +293,9 @@ const STATUSES: [(&str, u16); 65] = [
 /// The status of the answer to a refused request.
 fn refused_status(alloc: Global, why: &RouteRefused) -> Result<u16, OutOfMemory> {
     let answer = refusal_answer(alloc, why)?;
-    Ok(answer.status)
+    let status = answer.status;
+    drop(answer);
+    Ok(status)
 }
 
 /// The status of the answer where there is no plan, or 0.
@@ -307,11 +309,21 @@ fn status_told(
     }
 }
 
+/// The same, where the plan is done with.
+fn status_of(
+    alloc: Global,
+    planned: Option<Result<Planned, RouteRefused>>,
+) -> Result<u16, OutOfMemory> {
+    let status = status_told(alloc, &planned);
+    drop(planned);
+    status
+}
+
 /// The status of the answer to a request of this method and target, or 0 where it has a plan.
 fn status(alloc: Global, routes: &Routes, line: &str) -> Result<u16, OutOfMemory> {
     let bytes = request_of(alloc, line, b"")?;
     let planned = plan_of_request(alloc, routes, bytes.as_slice());
-    status_told(alloc, &planned)
+    status_of(alloc, planned)
 }
 
 /// Fails unless the answer to a request has this status, or it has a plan and the status is 0.
@@ -340,7 +352,9 @@ fn endpoint(alloc: Global, routes: &Routes, line: &str) -> Result<String, AllocE
         return Ok(String::new(alloc));
     };
     let found = routes.endpoint(method.as_bytes(), target);
-    endpoint_text(alloc, &found)
+    let text = endpoint_text(alloc, &found);
+    drop(found);
+    text
 }
 
 /// Fails unless a request asks for this.
@@ -361,7 +375,9 @@ fn check_asked(alloc: Global, routes: &Routes, rows: &[(&str, &str, u16)]) -> Re
 #[test]
 fn each_method_of_each_path_is_asked_for(rt: HostRuntime) -> Result<(), Fail> {
     let routes = Routes::new(rt.alloc())?;
-    check_asked(rt.alloc(), &routes, &ASKED)
+    let checked = check_asked(rt.alloc(), &routes, &ASKED);
+    drop(routes);
+    checked
 }
 
 /// Fails unless the answer to each request has the status that stands beside it.
@@ -375,5 +391,7 @@ fn check_statuses(alloc: Global, routes: &Routes, rows: &[(&str, u16)]) -> Resul
 #[test]
 fn other_requests_are_told_apart(rt: HostRuntime) -> Result<(), Fail> {
     let routes = Routes::new(rt.alloc())?;
-    check_statuses(rt.alloc(), &routes, &STATUSES)
+    let checked = check_statuses(rt.alloc(), &routes, &STATUSES);
+    drop(routes);
+    checked
 }
