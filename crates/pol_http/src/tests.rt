@@ -80,9 +80,10 @@ fn first_difference(input: &[u8], asks_from: usize, last: Told, settled: usize) 
     None
 }
 
-/// The input, the length of its head where it asks (else 0), the last answer, and after how many
-/// bytes that is given.
-const INPUTS: [(&[u8], usize, Told, usize); 34] = [
+/// An input, the length of its head where it asks (else 0), the last answer, and after how many bytes that is given.
+type Input<'a> = (&'a [u8], usize, Told, usize);
+
+const INPUTS: [Input<'static>; 34] = [
     // the shortest head
     (b"GET / HTTP/1.1\r\n\r\n", 0, WHOLE, 18),
     // HTTP/1.0 closes, whatever it says
@@ -284,23 +285,40 @@ fn is_settled(input: &[u8], last: Told, settled: usize) -> bool {
     input.len() == settled && first_difference(input, 0, last, settled).is_none()
 }
 
-#[test]
-fn inputs_are_answered_alike_however_they_are_cut(rt: HostRuntime) -> Result<(), Fail> {
-    for (input, asks_from, last, settled) in INPUTS {
-        let different = first_difference(input, asks_from, last, settled);
-        assert!(rt; different.is_none(), "at {input:?}");
-    }
-    for (padding, more, last, settled) in [
-        (16_362, 0, WHOLE, 16_384),
-        (16_363, 0, BAD_HEAD, 16_385),
-        (0, 63, WHOLE, 274),
-        (0, 64, BAD_HEAD, 278),
-    ] {
-        let input = head_with(rt.alloc(), padding, more)?;
-        let is_settled = is_settled(&input, last, settled);
-        assert!(rt; is_settled, "at {settled} bytes");
+/// Fails unless each of these inputs is answered alike however it is cut.
+fn check_inputs(cases: &[Input<'_>]) -> Result<(), Fail> {
+    for (input, asks_from, last, settled) in cases {
+        if first_difference(input, *asks_from, *last, *settled).is_some() {
+            return Err(Fail::new(format_args!("at {input:?}")));
+        }
     }
     Ok(())
+}
+
+/// Fails unless a head of a long field and so many empty ones has so many bytes, and is answered so once they are there.
+fn check_head(
+    alloc: Global,
+    padding: usize,
+    more: usize,
+    last: Told,
+    settled: usize,
+) -> Result<(), Fail> {
+    let input = head_with(alloc, padding, more)?;
+    let is_right = is_settled(&input, last, settled);
+    drop(input);
+    if is_right {
+        return Ok(());
+    }
+    Err(Fail::new(format_args!("at {settled} bytes")))
+}
+
+#[test]
+fn inputs_are_answered_alike_however_they_are_cut(rt: HostRuntime) -> Result<(), Fail> {
+    check_inputs(&INPUTS)?;
+    check_head(rt.alloc(), 16_362, 0, WHOLE, 16_384)?;
+    check_head(rt.alloc(), 16_363, 0, BAD_HEAD, 16_385)?;
+    check_head(rt.alloc(), 0, 63, WHOLE, 274)?;
+    check_head(rt.alloc(), 0, 64, BAD_HEAD, 278)
 }
 
 /// The bytes that the span covers.
@@ -310,6 +328,16 @@ fn covered(input: &[u8], span: Span) -> Option<&[u8]>
     input.get(span.start..span.end)
 }
 
+/// Whether each of these spans covers the bytes of its text.
+fn cover(input: &[u8], spans: &[(Span, &str)]) -> bool {
+    for (span, wanted) in spans {
+        if covered(input, *span) != Some(wanted.as_bytes()) {
+            return false;
+        }
+    }
+    true
+}
+
 #[test]
 fn parts_are_ranges_of_the_bytes(rt: HostRuntime) {
     let input = b"\r\nPUT /a?b HTTP/1.1\nHost: \t l \r\nContent-Length:4\r\n\r\nPAR1GET ";
@@ -317,7 +345,7 @@ fn parts_are_ranges_of_the_bytes(rt: HostRuntime) {
         panic!(rt; "no message");
     };
     assert!(rt; head.minor == 1 && head.count == 2 && taken == 56);
-    for (span, wanted) in [
+    let spans = [
         (head.method, "PUT"),
         (head.target, "/a?b"),
         (head.fields[0].name, "Host"),
@@ -325,9 +353,8 @@ fn parts_are_ranges_of_the_bytes(rt: HostRuntime) {
         (head.fields[1].name, "Content-Length"),
         (head.fields[1].value, "4"),
         (body, "PAR1"),
-    ] {
-        assert!(rt; covered(input, span) == Some(wanted.as_bytes()), "{wanted}");
-    }
+    ];
+    assert!(rt; cover(input, &spans));
 }
 
 const MISSING: [(&[u8], Option<usize>); 5] = [
@@ -344,11 +371,19 @@ const MISSING: [(&[u8], Option<usize>); 5] = [
     (b"PUT / HTTP/1.1\r\ntransfer-encoding: x\r\n\r\n", None),
 ];
 
-#[test]
-fn missing_bytes_are_counted(rt: HostRuntime) {
-    for (input, missing) in MISSING {
-        assert!(rt; missing_bytes(input) == missing, "at {input:?}");
+/// Fails unless each of these inputs lacks so many bytes.
+fn check_missing(cases: &[(&[u8], Option<usize>)]) -> Result<(), Fail> {
+    for (input, missing) in cases {
+        if missing_bytes(input) != *missing {
+            return Err(Fail::new(format_args!("at {input:?}")));
+        }
     }
+    Ok(())
+}
+
+#[test]
+fn missing_bytes_are_counted(_rt: HostRuntime) -> Result<(), Fail> {
+    check_missing(&MISSING)
 }
 
 #[test]
@@ -398,9 +433,11 @@ const TOKEN: &str = concat!(
     r#""issued_token_type":"urn:ietf:params:oauth:token-type:access_token","token_type":"bearer"}"#
 );
 
-/// The status, the body, whether the connection ends and the request was HEAD, the head of the
-/// answer's text, and what follows it.
-const ANSWERS: [(u16, Kind, &str, (bool, bool), &str, &str); 8] = [
+/// A status, a body, whether the connection ends and the request was HEAD, the head of the answer's text, and what
+/// follows it.
+type Written<'a> = (u16, Kind, &'a str, (bool, bool), &'a str, &'a str);
+
+const ANSWERS: [Written<'static>; 8] = [
     (
         404,
         Kind::Json,
@@ -491,13 +528,27 @@ fn is_head_and_content(bytes: &[u8], head: &str, content: &str) -> bool {
     bytes.strip_prefix(head.as_bytes()) == Some(content.as_bytes())
 }
 
-#[test]
-fn answers_have_their_lines_in_order(rt: HostRuntime) -> Result<(), Fail> {
-    for (status, kind, text, (close, head_only), head, content) in ANSWERS {
-        let body = body(rt.alloc(), kind, text)?;
-        let written = written(rt.alloc(), status, body, close, head_only)?;
-        let is_right = is_head_and_content(written.as_slice(), head, content);
-        assert!(rt; is_right, "at {status}");
+/// Fails unless an answer is written so.
+fn check_written(alloc: Global, case: Written<'_>) -> Result<(), Fail> {
+    let (status, kind, text, (close, head_only), head, content) = case;
+    let body = body(alloc, kind, text)?;
+    let bytes = written(alloc, status, body, close, head_only)?;
+    let is_right = is_head_and_content(bytes.as_slice(), head, content);
+    drop(bytes);
+    if is_right {
+        return Ok(());
+    }
+    Err(Fail::new(format_args!("at {status}")))
+}
+
+fn check_all_written(alloc: Global, cases: &[Written<'_>]) -> Result<(), Fail> {
+    for case in cases {
+        check_written(alloc, *case)?;
     }
     Ok(())
+}
+
+#[test]
+fn answers_have_their_lines_in_order(rt: HostRuntime) -> Result<(), Fail> {
+    check_all_written(rt.alloc(), &ANSWERS)
 }

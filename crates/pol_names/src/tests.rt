@@ -46,13 +46,22 @@ fn refusals(
     Ok((name, plain))
 }
 
-#[test]
-fn names_are_judged_in_order(rt: HostRuntime) -> Result<(), Fail> {
-    for (piece, count, name, plain) in NAMES {
-        let found = refusals(rt.alloc(), piece, count)?;
-        assert!(rt; found == (name, plain), "{count} times {piece:?}");
+/// A piece, how often it is repeated, and the refusals of that as a name and as a plain name.
+type NameCase<'a> = (&'a str, usize, Option<NameRefused>, Option<NameRefused>);
+
+/// Fails unless each of these has its refusals.
+fn check_names(alloc: Global, cases: &[NameCase<'_>]) -> Result<(), Fail> {
+    for (piece, count, name, plain) in cases {
+        if refusals(alloc, piece, *count)? != (*name, *plain) {
+            return Err(Fail::new("a name has other refusals"));
+        }
     }
     Ok(())
+}
+
+#[test]
+fn names_are_judged_in_order(rt: HostRuntime) -> Result<(), Fail> {
+    check_names(rt.alloc(), &NAMES)
 }
 
 /// A piece and how often it is repeated, the end of that segment, and the refusal of the segment.
@@ -92,13 +101,22 @@ fn refusal_of_segment(
     Ok(Namespace::from_segment(alloc, segment.as_str()).err())
 }
 
-#[test]
-fn first_bad_level_of_a_segment_is_named(rt: HostRuntime) -> Result<(), Fail> {
-    for (piece, count, end, refused) in SEGMENTS {
-        let found = refusal_of_segment(rt.alloc(), piece, count, end)?;
-        assert!(rt; found == refused, "{count} times {piece:?} and {end:?}");
+/// Fails unless each of these segments has its refusal.
+fn check_segments(
+    alloc: Global,
+    cases: &[(&str, usize, &str, Option<NamespaceRefused>)],
+) -> Result<(), Fail> {
+    for (piece, count, end, refused) in cases {
+        if refusal_of_segment(alloc, piece, *count, end)? != *refused {
+            return Err(Fail::new("a segment has another refusal"));
+        }
     }
     Ok(())
+}
+
+#[test]
+fn first_bad_level_of_a_segment_is_named(rt: HostRuntime) -> Result<(), Fail> {
+    check_segments(rt.alloc(), &SEGMENTS)
 }
 
 /// The refusal of a level `a` and one of so many pieces.
@@ -112,24 +130,35 @@ fn refusal_of_levels(
     Ok(Namespace::from_levels(alloc, &[first, second]).err())
 }
 
+/// Fails unless a list with each of these levels behind its first has its refusal.
+fn check_levels(
+    alloc: Global,
+    cases: &[(&str, usize, Option<NamespaceRefused>)],
+) -> Result<(), Fail> {
+    for (piece, count, refused) in cases {
+        if refusal_of_levels(alloc, piece, *count)? != *refused {
+            return Err(Fail::new("a list of levels has another refusal"));
+        }
+    }
+    Ok(())
+}
+
 #[test]
 fn first_bad_level_of_a_list_is_named(rt: HostRuntime) -> Result<(), Fail> {
     let none = Namespace::from_levels(rt.alloc(), &[]).err();
     assert!(rt; none == Some(NamespaceRefused::TooDeep { levels: 0 }));
-    let cases = [
-        ("a", 128, None),
-        ("a", 129, Some(NamespaceRefused::LongLevel { level: 1 })),
-        (
-            "\u{1f}",
-            1,
-            Some(NamespaceRefused::ControlByte { level: 1 }),
-        ),
-    ];
-    for (piece, count, refused) in cases {
-        let found = refusal_of_levels(rt.alloc(), piece, count)?;
-        assert!(rt; found == refused, "{count} times {piece:?}");
-    }
-    Ok(())
+    check_levels(
+        rt.alloc(),
+        &[
+            ("a", 128, None),
+            ("a", 129, Some(NamespaceRefused::LongLevel { level: 1 })),
+            (
+                "\u{1f}",
+                1,
+                Some(NamespaceRefused::ControlByte { level: 1 }),
+            ),
+        ],
+    )
 }
 
 /// Whether the namespace has this segment.

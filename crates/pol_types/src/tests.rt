@@ -80,21 +80,46 @@ fn row_of(alloc: Global, digest: [u8; 4], level: &str, role: u64) -> Result<Row,
     }
 }
 
+/// Whether a row equals the row of these.
+fn equals_row_of(
+    row: &Row,
+    alloc: Global,
+    digest: [u8; 4],
+    level: &str,
+    role: u64,
+) -> Result<bool, AllocError> {
+    let other = row_of(alloc, digest, level, role)?;
+    let same = other == *row;
+    drop(other);
+    Ok(same)
+}
+
+/// Which of these rows a row equals: the row of the same fields, and those that differ from it in one.
+fn rows_equal(row: &Row, alloc: Global) -> Result<[bool; 5], AllocError> {
+    Ok([
+        equals_row_of(row, alloc, [1, 2, 3, 4], "a", 2)?,
+        equals_row_of(row, alloc, [1, 2, 3, 5], "a", 2)?,
+        equals_row_of(row, alloc, [1, 2, 3, 4], "b", 2)?,
+        equals_row_of(row, alloc, [1, 2, 3, 4], "a", 3)?,
+        equals_row_of(row, alloc, [1, 2, 3, 4], "a", 0)?,
+    ])
+}
+
+/// Whether a row equals its copy.
+fn equals_its_copy(row: &Row) -> Result<bool, AllocError> {
+    let copy = row.clone()?;
+    let same = copy == *row;
+    drop(copy);
+    Ok(same)
+}
+
 #[test]
 fn derived_equality_reads_each_field(rt: HostRuntime) -> Result<(), Fail> {
-    let whole = row_of(rt.alloc(), [1, 2, 3, 4], "a", 2)?;
-    let cases = [
-        ([1, 2, 3, 4], "a", 2, true),
-        ([1, 2, 3, 5], "a", 2, false),
-        ([1, 2, 3, 4], "b", 2, false),
-        ([1, 2, 3, 4], "a", 3, false),
-        ([1, 2, 3, 4], "a", 0, false),
-    ];
-    for (digest, level, role, same) in cases {
-        let other = row_of(rt.alloc(), digest, level, role)?;
-        assert!(rt; (other == whole) == same);
-    }
-    assert!(rt; whole.clone()? == whole);
+    let row = row_of(rt.alloc(), [1, 2, 3, 4], "a", 2)?;
+    let equal = rows_equal(&row, rt.alloc());
+    let copied = equals_its_copy(&row);
+    drop(row);
+    assert!(rt; equal? == [true, false, false, false, false] && copied?);
     Ok(())
 }
 
@@ -105,22 +130,30 @@ fn compared(alloc: Global, left: &str, right: &str) -> Result<(Ordering, bool), 
     Ok((left.cmp(&right), left == right))
 }
 
-#[test]
-fn texts_compare_by_bytes(rt: HostRuntime) -> Result<(), Fail> {
-    let cases = [
-        ("", "", Ordering::Equal),
-        ("", "a", Ordering::Less),
-        ("a", "ab", Ordering::Less),
-        ("b", "ab", Ordering::Greater),
-        ("Z", "a", Ordering::Less),
-        ("z", "é", Ordering::Less),
-        ("é", "é", Ordering::Equal),
-    ];
+/// Fails unless the texts of each pair compare so.
+fn check_compared(alloc: Global, cases: &[(&str, &str, Ordering)]) -> Result<(), Fail> {
     for (left, right, order) in cases {
-        let (found, same) = compared(rt.alloc(), left, right)?;
-        assert!(rt; found == order && same == (order == Ordering::Equal));
+        if compared(alloc, left, right)? != (*order, *order == Ordering::Equal) {
+            return Err(Fail::new("texts compare otherwise"));
+        }
     }
     Ok(())
+}
+
+#[test]
+fn texts_compare_by_bytes(rt: HostRuntime) -> Result<(), Fail> {
+    check_compared(
+        rt.alloc(),
+        &[
+            ("", "", Ordering::Equal),
+            ("", "a", Ordering::Less),
+            ("a", "ab", Ordering::Less),
+            ("b", "ab", Ordering::Greater),
+            ("Z", "a", Ordering::Less),
+            ("z", "é", Ordering::Less),
+            ("é", "é", Ordering::Equal),
+        ],
+    )
 }
 
 /// Whether the text prints so, plainly and for programmers.
