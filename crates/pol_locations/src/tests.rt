@@ -42,13 +42,22 @@ fn refusal_of(
     Ok(Location::parse(alloc, text.as_str()).err())
 }
 
-#[test]
-fn texts_are_judged_in_order(rt: HostRuntime) -> Result<(), Fail> {
-    for (front, count, end, refused) in TEXTS {
-        let found = refusal_of(rt.alloc(), front, count, end)?;
-        assert!(rt; found == refused, "{front:?}, {count} times a, and {end:?}");
+/// Fails unless each of these texts has its refusal.
+fn check_texts(
+    alloc: Global,
+    cases: &[(&str, usize, &str, Option<LocationRefused>)],
+) -> Result<(), Fail> {
+    for (front, count, end, refused) in cases {
+        if refusal_of(alloc, front, *count, end)? != *refused {
+            return Err(Fail::new("a text has another refusal"));
+        }
     }
     Ok(())
+}
+
+#[test]
+fn texts_are_judged_in_order(rt: HostRuntime) -> Result<(), Fail> {
+    check_texts(rt.alloc(), &TEXTS)
 }
 
 /// The location `lake://b/t1`, joined.
@@ -117,19 +126,27 @@ fn related(alloc: Global, a: &str, b: &str) -> Result<(bool, bool), LocationRefu
     found
 }
 
-#[test]
-fn cover_goes_by_whole_segments(rt: HostRuntime) -> Result<(), Fail> {
-    let cases = [
-        ("lake://b", "lake://b/t1", true, true),
-        ("lake://b/t1", "lake://b", false, true),
-        ("lake://b/t1", "lake://b/t10", false, false),
-        ("lake://b", "lake://b", true, true),
-    ];
+/// Fails unless the first location of each covers the second, and they overlap, as is said.
+fn check_related(alloc: Global, cases: &[(&str, &str, bool, bool)]) -> Result<(), Fail> {
     for (a, b, covering, overlapping) in cases {
-        let found = related(rt.alloc(), a, b)?;
-        assert!(rt; found == (covering, overlapping), "{a} and {b}");
+        if related(alloc, a, b)? != (*covering, *overlapping) {
+            return Err(Fail::new("locations are related otherwise"));
+        }
     }
     Ok(())
+}
+
+#[test]
+fn cover_goes_by_whole_segments(rt: HostRuntime) -> Result<(), Fail> {
+    check_related(
+        rt.alloc(),
+        &[
+            ("lake://b", "lake://b/t1", true, true),
+            ("lake://b/t1", "lake://b", false, true),
+            ("lake://b/t1", "lake://b/t10", false, false),
+            ("lake://b", "lake://b", true, true),
+        ],
+    )
 }
 
 /// Adds a member where its location is free and its owner has none, and tells whether it did.

@@ -81,22 +81,30 @@ fn put_page(table: &mut Table<Page>, id: u64, visits: u64) -> Result<(), Fail> {
     Ok(())
 }
 
-fn check_page_steps(alloc: Global, table: &mut Table<Page>) -> Result<(), Fail> {
-    let steps: [(bool, u64, u64, &[(u64, u64)]); 8] = [
-        (true, 5, 1, &[(5, 1)]),
-        (true, 2, 1, &[(5, 1), (2, 1)]),
-        (true, 9, 1, &[(5, 1), (2, 1), (9, 1)]),
-        (true, 2, 7, &[(5, 1), (2, 7), (9, 1)]),
-        (false, 7, 0, &[(5, 1), (2, 7), (9, 1)]),
-        (false, 5, 0, &[(2, 7), (9, 1)]),
-        (true, 5, 3, &[(2, 7), (9, 1), (5, 3)]),
-        (false, 9, 0, &[(2, 7), (5, 3)]),
-    ];
+/// A page is put, with so many visits, or taken; and the pages then.
+type PageStep<'a> = (bool, u64, u64, &'a [(u64, u64)]);
+
+const PAGE_STEPS: [PageStep<'static>; 8] = [
+    (true, 5, 1, &[(5, 1)]),
+    (true, 2, 1, &[(5, 1), (2, 1)]),
+    (true, 9, 1, &[(5, 1), (2, 1), (9, 1)]),
+    (true, 2, 7, &[(5, 1), (2, 7), (9, 1)]),
+    (false, 7, 0, &[(5, 1), (2, 7), (9, 1)]),
+    (false, 5, 0, &[(2, 7), (9, 1)]),
+    (true, 5, 3, &[(2, 7), (9, 1), (5, 3)]),
+    (false, 9, 0, &[(2, 7), (5, 3)]),
+];
+
+fn check_page_steps(
+    alloc: Global,
+    table: &mut Table<Page>,
+    steps: &[PageStep<'_>],
+) -> Result<(), Fail> {
     for (puts, id, visits, rows) in steps {
-        if puts {
-            put_page(table, id, visits)?;
+        if *puts {
+            put_page(table, *id, *visits)?;
         } else {
-            table.take(id);
+            table.take(*id);
         }
         check_pages(alloc, table, rows)?;
     }
@@ -106,7 +114,7 @@ fn check_page_steps(alloc: Global, table: &mut Table<Page>) -> Result<(), Fail> 
 #[test]
 fn a_table_keeps_rows_by_id_in_their_order(rt: HostRuntime) -> Result<(), Fail> {
     let mut table = Table::new(rt.alloc());
-    let checked = check_page_steps(rt.alloc(), &mut table);
+    let checked = check_page_steps(rt.alloc(), &mut table, &PAGE_STEPS);
     drop(table);
     checked
 }
@@ -160,20 +168,31 @@ fn put_member(facts: &mut Facts<Member>, principal: u64, role: u64) -> Result<()
     Ok(())
 }
 
-fn check_member_steps(alloc: Global, facts: &mut Facts<Member>) -> Result<(), Fail> {
-    let steps: [(bool, u64, u64, &[(u64, u64)]); 6] = [
-        (true, 2, 1, &[(2, 1)]),
-        (true, 1, 1, &[(2, 1), (1, 1)]),
-        (true, 2, 1, &[(2, 1), (1, 1)]),
-        (false, 1, 2, &[(2, 1), (1, 1)]),
-        (false, 2, 1, &[(1, 1)]),
-        (true, 2, 1, &[(1, 1), (2, 1)]),
-    ];
+/// A member is put or taken, and the members then.
+type MemberStep<'a> = (bool, u64, u64, &'a [(u64, u64)]);
+
+const MEMBER_STEPS: [MemberStep<'static>; 6] = [
+    (true, 2, 1, &[(2, 1)]),
+    (true, 1, 1, &[(2, 1), (1, 1)]),
+    (true, 2, 1, &[(2, 1), (1, 1)]),
+    (false, 1, 2, &[(2, 1), (1, 1)]),
+    (false, 2, 1, &[(1, 1)]),
+    (true, 2, 1, &[(1, 1), (2, 1)]),
+];
+
+fn check_member_steps(
+    alloc: Global,
+    facts: &mut Facts<Member>,
+    steps: &[MemberStep<'_>],
+) -> Result<(), Fail> {
     for (puts, principal, role, held) in steps {
-        if puts {
-            put_member(facts, principal, role)?;
+        if *puts {
+            put_member(facts, *principal, *role)?;
         } else {
-            facts.take(&Member { principal, role });
+            facts.take(&Member {
+                principal: *principal,
+                role: *role,
+            });
         }
         check_members(alloc, facts, held)?;
     }
@@ -186,7 +205,7 @@ fn has_member(facts: &Facts<Member>, principal: u64, role: u64) -> bool {
 
 fn check_facts(alloc: Global, facts: &mut Facts<Member>) -> Result<(), Fail> {
     check(facts.is_empty(), "there are facts at first")?;
-    check_member_steps(alloc, facts)?;
+    check_member_steps(alloc, facts, &MEMBER_STEPS)?;
     let copy = facts.clone()?;
     let copied = copy.len() == 2 && has_member(&copy, 2, 1) && !has_member(&copy, 2, 2);
     drop(copy);
@@ -297,31 +316,41 @@ fn check_boxes(alloc: Global, table: &NamedTable<Box>, rows: &[(u64, u64)]) -> R
     check(held.as_slice() == rows, "the table has other boxes")
 }
 
-fn check_box_steps(alloc: Global, table: &mut NamedTable<Box>) -> Result<(), Fail> {
-    // The step (a label is put under an id, or 0: the id is taken), the rows, a label, and the id found.
-    let steps: [(u64, u64, &[(u64, u64)], u64, Option<u64>); 9] = [
-        (1, 10, &[(1, 10)], 12, None),
-        (2, 12, &[(1, 10), (2, 12)], 12, Some(2)),
-        (3, 14, &[(1, 10), (2, 12), (3, 14)], 14, Some(3)),
-        (2, 0, &[(1, 10), (3, 14)], 12, None),
-        (1, 0, &[(3, 14)], 14, Some(3)),
-        (3, 15, &[(3, 15)], 14, None),
-        (4, 14, &[(3, 15), (4, 14)], 15, Some(3)),
-        (3, 16, &[(3, 16), (4, 14)], 16, Some(3)),
-        (4, 16, &[(3, 16), (4, 16)], 14, None),
-    ];
+/// A label is put under an id, or 0: the id is taken; the boxes then; a label, and the id that is found by it.
+type BoxStep<'a> = (u64, u64, &'a [(u64, u64)], u64, Option<u64>);
+
+const BOX_STEPS: [BoxStep<'static>; 9] = [
+    (1, 10, &[(1, 10)], 12, None),
+    (2, 12, &[(1, 10), (2, 12)], 12, Some(2)),
+    (3, 14, &[(1, 10), (2, 12), (3, 14)], 14, Some(3)),
+    (2, 0, &[(1, 10), (3, 14)], 12, None),
+    (1, 0, &[(3, 14)], 14, Some(3)),
+    (3, 15, &[(3, 15)], 14, None),
+    (4, 14, &[(3, 15), (4, 14)], 15, Some(3)),
+    (3, 16, &[(3, 16), (4, 14)], 16, Some(3)),
+    (4, 16, &[(3, 16), (4, 16)], 14, None),
+];
+
+fn check_box_steps(
+    alloc: Global,
+    table: &mut NamedTable<Box>,
+    steps: &[BoxStep<'_>],
+) -> Result<(), Fail> {
     for (id, label, rows, sought, found) in steps {
-        let done = put_or_take(table, id, label)?;
+        let done = put_or_take(table, *id, *label)?;
         check(done, "the box that is taken was not there")?;
         check_boxes(alloc, table, rows)?;
-        check(id_named(table, sought) == found, "another box has the name")?;
+        check(
+            id_named(table, *sought) == *found,
+            "another box has the name",
+        )?;
     }
     Ok(())
 }
 
 fn check_named_boxes(alloc: Global, table: &mut NamedTable<Box>) -> Result<(), Fail> {
     check(table.is_empty(), "a new table has boxes")?;
-    check_box_steps(alloc, table)?;
+    check_box_steps(alloc, table, &BOX_STEPS)?;
     let copy = table.clone()?;
     let copied = copy.len() == 2 && copy.find(4).is_some() && id_named(&copy, 12).is_none();
     drop(copy);
@@ -337,14 +366,8 @@ fn rows_are_found_by_names_that_share_numbers(rt: HostRuntime) -> Result<(), Fai
 }
 
 #[test]
-fn names_have_the_numbers_that_rust_hashes_them_to(rt: HostRuntime) -> Result<(), Fail> {
-    let cases = [
-        ("", 0x3040_6ea5_23c5_3def),
-        ("abc", 0xef09_e0f4_895a_251d),
-        ("a longer name of 24 bytes", 0x498e_0c64_463c_1862),
-    ];
-    for (name, number) in cases {
-        assert_eq!(rt; number_of(&name), number);
-    }
-    Ok(())
+fn names_have_the_numbers_that_rust_hashes_them_to(rt: HostRuntime) {
+    assert!(rt; number_of(&"") == 0x3040_6ea5_23c5_3def);
+    assert!(rt; number_of(&"abc") == 0xef09_e0f4_895a_251d);
+    assert!(rt; number_of(&"a longer name of 24 bytes") == 0x498e_0c64_463c_1862);
 }
