@@ -1,10 +1,10 @@
 -- Names of tables, views and namespace levels, and why a text is none.
-use Rattle.std.specs.Prelude.{◌≡◌, ◌≢◌, ◌≤◌, ℕ, ◌&&◌, ◌==◌, Bool, not, nat_le, nat_lt, List, [], length, Option, Some, None, if◌then◌else◌}
+use Rattle.std.specs.Prelude.{◌≡◌, ◌≢◌, ◌≤◌, ℕ, ◌&&◌, ◌==◌, Bool, not, nat_le, nat_lt, List, [], length, Option, Some, None, if◌then◌else◌, codes}
 use Rattle.std.specs.Bool.{⊤}
 use Rattle.std.specs.List.{AllPass, list_all}
 use Rattle.std.specs.Str.{IsUtf8}
 use Rattle.pol_names.specs.declared.name.NameRefused.{NameRefused}
-use Rattle.pol_names.specs.declared.name.NameRefused.TheVariants.{Empty, Long, ControlByte, OutOfMemory}
+use Rattle.pol_names.specs.declared.name.NameRefused.TheVariants.{Empty, Long, ControlByte, NotPlain, OutOfMemory}
 
 -- the bytes of names: those from 0x20 on but 0x7F
 abbrev pub is_name_byte : ℕ → Bool
@@ -24,6 +24,14 @@ name_refusal text =
     else if nat_lt 128 (length text) then Some Long
     else if not (list_all is_name_byte text) then Some ControlByte
     else None
+
+-- the text of a refusal
+abbrev pub name_refusal_text : NameRefused → List ℕ
+name_refusal_text Empty = codes "the name is empty"
+name_refusal_text Long = codes "the name has more than 128 bytes"
+name_refusal_text ControlByte = codes "the name has a control byte"
+name_refusal_text NotPlain = codes "the name has a byte that no plain name has"
+name_refusal_text OutOfMemory = codes "out of memory"
 
 -- what a reader of names may answer in place of one: the first refusal, or want of memory
 abbrev pub IsNameRefusal : List ℕ → NameRefused → Type 0

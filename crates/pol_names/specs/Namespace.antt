@@ -1,5 +1,5 @@
 -- Namespaces, why a list of levels is none, and the two texts of a namespace.
-use Rattle.std.specs.Prelude.{◌≡◌, ◌≢◌, ◌≤◌, ℕ, ◌+◌, ◌-◌, ◌||◌, ◌==◌, nat_lt, List, [], ◌∷◌, ◌++◌, length, map, take, Option, Some, None, if◌then◌else◌, All}
+use Rattle.std.specs.Prelude.{◌≡◌, ◌≢◌, ◌≤◌, ℕ, ◌+◌, ◌-◌, ◌||◌, ◌==◌, nat_lt, List, [], ◌∷◌, ◌++◌, length, map, take, Option, Some, None, if◌then◌else◌, All, codes, decimal}
 use Rattle.std.specs.Bool.{⊤}
 use Rattle.std.specs.Borrow.{Bor}
 use Rattle.std.specs.List.{join_with_byte, slice_split}
@@ -35,6 +35,14 @@ unfoldable pub namespace_refusal : List (List ℕ) → Option NamespaceRefused
 namespace_refusal levels =
     if length levels == 0 || nat_lt 16 (length levels) then Some (TooDeep (length levels))
     else level_refusal 0 levels
+
+-- the text of a refusal
+abbrev pub namespace_refusal_text : NamespaceRefused → List ℕ
+namespace_refusal_text (TooDeep levels) = codes "a namespace has 1 to 16 levels, and this has " ++ decimal levels
+namespace_refusal_text (EmptyLevel level) = codes "level " ++ (decimal level ++ codes " is empty")
+namespace_refusal_text (LongLevel level) = codes "level " ++ (decimal level ++ codes " has more than 128 bytes")
+namespace_refusal_text (ControlByte level) = codes "level " ++ (decimal level ++ codes " has a control byte")
+namespace_refusal_text OutOfMemory = codes "out of memory"
 
 -- what a reader of namespaces may answer in place of one: the first refusal, or want of memory
 abbrev pub IsNamespaceRefusal : List (List ℕ) → NamespaceRefused → Type 0

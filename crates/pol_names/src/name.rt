@@ -28,6 +28,10 @@ pub enum NameRefused {
 }
 
 impl fmt::Display for NameRefused {
+    ghost use Rattle.pol_names.specs.Name.{name_refusal_text};
+
+    ghost output = { λ why. Some (name_refusal_text why) };
+
     fn fmt<W: fmt::Write>(&self, f: &mut fmt::Formatter<W>) -> fmt::Result {
         f.write_str(match self {
             NameRefused::Empty => "the name is empty",

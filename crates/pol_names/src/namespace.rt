@@ -53,6 +53,10 @@ impl NamespaceRefused {
 }
 
 impl fmt::Display for NamespaceRefused {
+    ghost use Rattle.pol_names.specs.Namespace.{namespace_refusal_text};
+
+    ghost output = { λ why. Some (namespace_refusal_text why) };
+
     fn fmt<W: fmt::Write>(&self, f: &mut fmt::Formatter<W>) -> fmt::Result {
         match self {
             NamespaceRefused::TooDeep { levels } => {
