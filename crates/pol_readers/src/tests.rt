@@ -65,42 +65,60 @@ fn print_update(text: &mut String, update: &Update<Levels>) -> Result<(), AllocE
     Ok(())
 }
 
-#[test]
-fn first_bad_field_is_told(rt: HostRuntime) -> Result<(), Fail> {
-    let cases = [
-        ("", "body"),
-        ("3", "body"),
-        ("null", "body"),
-        ("[{}]", "body"),
-        ("{", "body"),
-        ("{} {}", "body"),
-        ("{}", "catalog"),
-        (r#"{"catalog":null}"#, "catalog"),
-        (r#"{"catalog":[]}"#, "catalog"),
-        (
-            r#"{"updates":[],"catalog":{"properties":1}}"#,
-            "catalog.name",
-        ),
-        (r#"{"catalog":{"name":null}}"#, "catalog.name"),
-        (r#"{"catalog":{"name":""}}"#, "catalog.name"),
-        (
-            r#"{"updates":1,"catalog":{"internal":1,"name":"c","properties":1}}"#,
-            "catalog.properties",
-        ),
-        (
-            r#"{"catalog":{"name":"c","properties":{"b":1,"a":2}}}"#,
-            "catalog.properties.a",
-        ),
-        (
-            r#"{"catalog":{"name":"c","internal":"true"}}"#,
-            "catalog.internal",
-        ),
-        (r#"{"catalog":{"name":"c"},"updates":{}}"#, "updates"),
-    ];
-    for (body, path) in cases {
-        assert_eq!(rt; told(rt.alloc(), body.as_bytes())?.as_str(), path, "{body}");
+/// Fails unless this is told of a body.
+fn check_told(alloc: Global, body: &[u8], expected: &str) -> Result<(), Fail> {
+    let text = told(alloc, body)?;
+    let same = text.as_str() == expected;
+    drop(text);
+    if same {
+        return Ok(());
+    }
+    Err(Fail::new(format_args!("{expected} is not told")))
+}
+
+/// Fails unless of each of these bodies is told what stands beside it.
+fn check_all_told(alloc: Global, cases: &[(&str, &str)]) -> Result<(), Fail> {
+    for (body, expected) in cases {
+        check_told(alloc, body.as_bytes(), expected)?;
     }
     Ok(())
+}
+
+/// Bodies that can't be read, and the first bad field of each.
+const BAD_BODIES: [(&str, &str); 16] = [
+    ("", "body"),
+    ("3", "body"),
+    ("null", "body"),
+    ("[{}]", "body"),
+    ("{", "body"),
+    ("{} {}", "body"),
+    ("{}", "catalog"),
+    (r#"{"catalog":null}"#, "catalog"),
+    (r#"{"catalog":[]}"#, "catalog"),
+    (
+        r#"{"updates":[],"catalog":{"properties":1}}"#,
+        "catalog.name",
+    ),
+    (r#"{"catalog":{"name":null}}"#, "catalog.name"),
+    (r#"{"catalog":{"name":""}}"#, "catalog.name"),
+    (
+        r#"{"updates":1,"catalog":{"internal":1,"name":"c","properties":1}}"#,
+        "catalog.properties",
+    ),
+    (
+        r#"{"catalog":{"name":"c","properties":{"b":1,"a":2}}}"#,
+        "catalog.properties.a",
+    ),
+    (
+        r#"{"catalog":{"name":"c","internal":"true"}}"#,
+        "catalog.internal",
+    ),
+    (r#"{"catalog":{"name":"c"},"updates":{}}"#, "updates"),
+];
+
+#[test]
+fn first_bad_field_is_told(rt: HostRuntime) -> Result<(), Fail> {
+    check_all_told(rt.alloc(), &BAD_BODIES)
 }
 
 /// A body with one update.
@@ -108,36 +126,36 @@ fn with_update(alloc: Global, update: &str) -> Result<String, AllocError> {
     format!(in alloc; "{{\"catalog\":{{\"name\":\"c\"}},\"updates\":[{update}]}}")
 }
 
+/// Fails unless of a body with each of these updates is told what stands beside it.
+fn check_updates(alloc: Global, cases: &[(&str, &str)]) -> Result<(), Fail> {
+    for (update, expected) in cases {
+        let body = with_update(alloc, update)?;
+        let checked = check_told(alloc, body.as_bytes(), expected);
+        drop(body);
+        checked?;
+    }
+    Ok(())
+}
+
+/// Updates that can't be read, and the first bad field of each.
+const BAD_UPDATES: [(&str, &str); 6] = [
+    ("1", "updates[0]"),
+    (r#"{"action":"add"}"#, "updates[0].kind"),
+    (r#"{"kind":"updates"}"#, "updates[0].kind"),
+    (r#"{"kind":"update","action":"Add"}"#, "updates[0].action"),
+    (
+        r#"{"kind":"update","action":1,"snapshot":0}"#,
+        "updates[0].action",
+    ),
+    (
+        r#"{"kind":"update","action":"add","snapshot":1},{"kind":"update","action":"add","snapshot":1},{"kind":"update","action":"add"},{}"#,
+        "updates[2].snapshot",
+    ),
+];
+
 #[test]
 fn bad_field_of_a_member_is_told_by_its_place(rt: HostRuntime) -> Result<(), Fail> {
-    let good = r#"{"kind":"update","action":"add","snapshot":1}"#;
-    let cases = [
-        ("1", "updates[0]"),
-        (r#"{"action":"add"}"#, "updates[0].kind"),
-        (r#"{"kind":"updates"}"#, "updates[0].kind"),
-        (r#"{"kind":"update","action":"Add"}"#, "updates[0].action"),
-        (
-            r#"{"kind":"update","action":1,"snapshot":0}"#,
-            "updates[0].action",
-        ),
-    ];
-    for (update, path) in cases {
-        let body = with_update(rt.alloc(), update)?;
-        assert_eq!(rt;
-            told(rt.alloc(), body.as_bytes())?.as_str(),
-            path,
-            "{update}"
-        );
-    }
-    let third = format!(in rt.alloc();
-        "{good},{good},{{\"kind\":\"update\",\"action\":\"add\"}},{{}}"
-    )?;
-    let body = with_update(rt.alloc(), third.as_str())?;
-    assert_eq!(rt;
-        told(rt.alloc(), body.as_bytes())?.as_str(),
-        "updates[2].snapshot"
-    );
-    Ok(())
+    check_updates(rt.alloc(), &BAD_UPDATES)
 }
 
 /// A body with one update that has one field more.
@@ -146,104 +164,100 @@ fn with_field(alloc: Global, field: &str) -> Result<String, AllocError> {
     with_update(alloc, update.as_str())
 }
 
-#[test]
-fn numbers_are_whole_and_within_bounds(rt: HostRuntime) -> Result<(), Fail> {
-    let snapshot = "updates[0].snapshot";
-    let schema = "updates[0].schema";
-    let cases = [
-        (r#""snapshot":0"#, snapshot),
-        (r#""snapshot":-1"#, snapshot),
-        (r#""snapshot":1.0"#, snapshot),
-        (r#""snapshot":1e0"#, snapshot),
-        (r#""snapshot":"1""#, snapshot),
-        (r#""snapshot":null"#, snapshot),
-        (r#""snapshot":9223372036854775808"#, snapshot),
-        (r#""snapshot":18446744073709551617"#, snapshot),
-        (r#""snapshot":1,"schema":-2"#, schema),
-        (r#""snapshot":1,"schema":-0"#, schema),
-        (r#""snapshot":1,"schema":-1.0"#, schema),
-        (r#""snapshot":1,"schema":2147483648"#, schema),
-        (r#""snapshot":1"#, "c; Remove 1"),
-        (
-            r#""snapshot":9223372036854775807,"schema":0"#,
-            "c; Remove 9223372036854775807 0",
-        ),
-        (
-            r#""snapshot":2,"schema":2147483647"#,
-            "c; Remove 2 2147483647",
-        ),
-        (r#""snapshot":3,"schema":-1"#, "c; Remove 3 last"),
-    ];
-    for (field, outcome) in cases {
-        let body = with_field(rt.alloc(), field)?;
-        assert_eq!(rt;
-            told(rt.alloc(), body.as_bytes())?.as_str(),
-            outcome,
-            "{field}"
-        );
+/// Fails unless of a body whose one update has each of these fields more is told what stands beside it.
+fn check_fields(alloc: Global, cases: &[(&str, &str)]) -> Result<(), Fail> {
+    for (field, expected) in cases {
+        let body = with_field(alloc, field)?;
+        let checked = check_told(alloc, body.as_bytes(), expected);
+        drop(body);
+        checked?;
     }
     Ok(())
 }
+
+const SNAPSHOT: &str = "updates[0].snapshot";
+
+const SCHEMA: &str = "updates[0].schema";
+
+/// Fields with numbers, and what is told of them.
+const NUMBERS: [(&str, &str); 16] = [
+    (r#""snapshot":0"#, SNAPSHOT),
+    (r#""snapshot":-1"#, SNAPSHOT),
+    (r#""snapshot":1.0"#, SNAPSHOT),
+    (r#""snapshot":1e0"#, SNAPSHOT),
+    (r#""snapshot":"1""#, SNAPSHOT),
+    (r#""snapshot":null"#, SNAPSHOT),
+    (r#""snapshot":9223372036854775808"#, SNAPSHOT),
+    (r#""snapshot":18446744073709551617"#, SNAPSHOT),
+    (r#""snapshot":1,"schema":-2"#, SCHEMA),
+    (r#""snapshot":1,"schema":-0"#, SCHEMA),
+    (r#""snapshot":1,"schema":-1.0"#, SCHEMA),
+    (r#""snapshot":1,"schema":2147483648"#, SCHEMA),
+    (r#""snapshot":1"#, "c; Remove 1"),
+    (
+        r#""snapshot":9223372036854775807,"schema":0"#,
+        "c; Remove 9223372036854775807 0",
+    ),
+    (
+        r#""snapshot":2,"schema":2147483647"#,
+        "c; Remove 2 2147483647",
+    ),
+    (r#""snapshot":3,"schema":-1"#, "c; Remove 3 last"),
+];
+
+#[test]
+fn numbers_are_whole_and_within_bounds(rt: HostRuntime) -> Result<(), Fail> {
+    check_fields(rt.alloc(), &NUMBERS)
+}
+
+/// Fields with a namespace, and what is told of them.
+const NAMESPACES: [(&str, &str); 4] = [
+    (r#""snapshot":1,"namespace":"a""#, "updates[0].namespace"),
+    (
+        r#""snapshot":1,"namespace":["a",1]"#,
+        "updates[0].namespace",
+    ),
+    (r#""snapshot":1,"namespace":[]"#, "updates[0].namespace"),
+    (r#""snapshot":1,"namespace":["a","b"]"#, "c; Remove 1 .a .b"),
+];
 
 #[test]
 fn no_path_goes_into_a_whole_value(rt: HostRuntime) -> Result<(), Fail> {
-    let cases = [
-        (r#""snapshot":1,"namespace":"a""#, "updates[0].namespace"),
-        (
-            r#""snapshot":1,"namespace":["a",1]"#,
-            "updates[0].namespace",
-        ),
-        (r#""snapshot":1,"namespace":[]"#, "updates[0].namespace"),
-        (r#""snapshot":1,"namespace":["a","b"]"#, "c; Remove 1 .a .b"),
-    ];
-    for (field, outcome) in cases {
-        let body = with_field(rt.alloc(), field)?;
-        assert_eq!(rt;
-            told(rt.alloc(), body.as_bytes())?.as_str(),
-            outcome,
-            "{field}"
-        );
-    }
-    Ok(())
+    check_fields(rt.alloc(), &NAMESPACES)
 }
+
+/// Bodies, and what is told of them.
+const BODIES: [(&str, &str); 7] = [
+    (r#"{"catalog":{"name":"é"},"updates":[]}"#, "é"),
+    (
+        r#" {"updates":[],"more":[null],"catalog":{"name":"c","owner":{}}} "#,
+        "c",
+    ),
+    (
+        r#"{"catalog":{"name":"c","properties":null,"internal":null},"updates":[]}"#,
+        "c",
+    ),
+    (
+        r#"{"catalog":1,"updates":2,"catalog":{"name":3,"name":"c"},"updates":[]}"#,
+        "c",
+    ),
+    (
+        r#"{"catalog":{"name":"a","name":3},"updates":[]}"#,
+        "catalog.name",
+    ),
+    (
+        r#"{"catalog":{"name":"c","internal":false,"properties":{}},"updates":[]}"#,
+        "c false",
+    ),
+    (
+        r#"{"catalog":{"name":"c","properties":{"b":"1","a":"2","é":"3","Z":"4","b":"5"}},"updates":[]}"#,
+        "c Z=4 a=2 b=5 é=3",
+    ),
+];
 
 #[test]
 fn bodies_are_read(rt: HostRuntime) -> Result<(), Fail> {
-    let cases = [
-        (r#"{"catalog":{"name":"é"},"updates":[]}"#, "é"),
-        (
-            r#" {"updates":[],"more":[null],"catalog":{"name":"c","owner":{}}} "#,
-            "c",
-        ),
-        (
-            r#"{"catalog":{"name":"c","properties":null,"internal":null},"updates":[]}"#,
-            "c",
-        ),
-        (
-            r#"{"catalog":1,"updates":2,"catalog":{"name":3,"name":"c"},"updates":[]}"#,
-            "c",
-        ),
-        (
-            r#"{"catalog":{"name":"a","name":3},"updates":[]}"#,
-            "catalog.name",
-        ),
-        (
-            r#"{"catalog":{"name":"c","internal":false,"properties":{}},"updates":[]}"#,
-            "c false",
-        ),
-        (
-            r#"{"catalog":{"name":"c","properties":{"b":"1","a":"2","é":"3","Z":"4","b":"5"}},"updates":[]}"#,
-            "c Z=4 a=2 b=5 é=3",
-        ),
-    ];
-    for (body, outcome) in cases {
-        assert_eq!(rt;
-            told(rt.alloc(), body.as_bytes())?.as_str(),
-            outcome,
-            "{body}"
-        );
-    }
-    Ok(())
+    check_all_told(rt.alloc(), &BODIES)
 }
 
 /// A body with so many arrays in one another under a key that no field has.
@@ -259,20 +273,22 @@ fn with_arrays(alloc: Global, depth: usize) -> Result<String, AllocError> {
     Ok(body)
 }
 
+/// Fails unless of a body with so many arrays in one another is told this.
+fn check_depth(alloc: Global, depth: usize, expected: &str) -> Result<(), Fail> {
+    let body = with_arrays(alloc, depth)?;
+    let checked = check_told(alloc, body.as_bytes(), expected);
+    drop(body);
+    checked
+}
+
 #[test]
 fn bodies_are_utf8_and_nest_to_a_depth(rt: HostRuntime) -> Result<(), Fail> {
-    for bytes in [b"{\"\xff\":1}", b"{\"\xc3\":1}", b"{}\xed\xa0\x80  "] {
-        assert_eq!(rt; told(rt.alloc(), bytes)?.as_str(), "body");
-    }
-    for (depth, outcome) in [(126, "catalog"), (127, "body"), (128, "body")] {
-        let body = with_arrays(rt.alloc(), depth)?;
-        assert_eq!(rt;
-            told(rt.alloc(), body.as_bytes())?.as_str(),
-            outcome,
-            "{depth}"
-        );
-    }
-    Ok(())
+    check_told(rt.alloc(), b"{\"\xff\":1}", "body")?;
+    check_told(rt.alloc(), b"{\"\xc3\":1}", "body")?;
+    check_told(rt.alloc(), b"{}\xed\xa0\x80  ", "body")?;
+    check_depth(rt.alloc(), 126, "catalog")?;
+    check_depth(rt.alloc(), 127, "body")?;
+    check_depth(rt.alloc(), 128, "body")
 }
 
 /// What is told of a value that is read by itself.

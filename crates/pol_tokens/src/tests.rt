@@ -5,6 +5,16 @@ use pol_names::Scope;
 use pol_types::Listed;
 use std::test::Fail;
 
+/// Whether the token of each serial and two words has this text.
+fn have_texts(cases: &[((u64, u64, u64), &[u8; 48])]) -> bool {
+    for ((serial, word_a, word_b), text) in cases {
+        if token_text(*serial, *word_a, *word_b).as_slice() != text.as_slice() {
+            return false;
+        }
+    }
+    true
+}
+
 #[test]
 fn text_of_a_token_has_its_serial_and_both_words(rt: HostRuntime) -> Result<(), Fail> {
     let cases = [
@@ -21,13 +31,8 @@ fn text_of_a_token_has_its_serial_and_both_words(rt: HostRuntime) -> Result<(), 
             b"ffffffffffffffff00000000000000001000000000000000",
         ),
     ];
-    for ((serial, word_a, word_b), text) in cases {
-        assert_eq!(rt;
-            token_text(serial, word_a, word_b).as_slice(),
-            text.as_slice()
-        );
-    }
-    assert_eq!(rt; SESSION_LIFE, 3_600_000);
+    assert!(rt; have_texts(&cases));
+    assert!(rt; SESSION_LIFE == 3_600_000);
     Ok(())
 }
 
@@ -56,6 +61,24 @@ fn session_is_found_by_its_serial(rt: HostRuntime) -> Result<(), Fail> {
     assert_eq!(rt; tokens.session(9), Some(&session(9, roles)));
     assert_eq!(rt; tokens.session(5), None);
     Ok(())
+}
+
+/// The serial of the session that is found by a text at a time.
+fn serial_found(tokens: &Tokens, text: &[u8], now: u64) -> Option<u64> {
+    match tokens.find_session(text, now) {
+        Some(row) => Some(row.serial),
+        None => None,
+    }
+}
+
+/// Whether by each of these texts at its time the session of this serial is found, or none.
+fn are_found(tokens: &Tokens, cases: &[(&[u8], u64, Option<u64>)]) -> bool {
+    for (text, now, serial) in cases {
+        if serial_found(tokens, text, *now) != *serial {
+            return false;
+        }
+    }
+    true
 }
 
 #[test]
@@ -99,9 +122,8 @@ fn session_is_found_by_its_text_until_it_expires(rt: HostRuntime) -> Result<(), 
         (b"000000000000000g00000000000000070000000000000008", 0, None),
         (b"", 0, None),
     ];
-    for (text, now, serial) in cases {
-        let found = tokens.find_session(text, now);
-        assert_eq!(rt; found.map(|row| row.serial), serial);
-    }
+    let found = are_found(&tokens, &cases);
+    drop(tokens);
+    assert!(rt; found);
     Ok(())
 }

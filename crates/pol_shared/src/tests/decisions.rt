@@ -234,15 +234,16 @@ const INVALID: [&str; 6] = [
     "PRINCIPAL_ROLE:ALL nobody",
 ];
 
-fn check_invalid(alloc: Global, state: &State) -> Result<(), Fail>
+/// Checks that each of these scopes is refused.
+fn check_invalid(alloc: Global, state: &State, scopes: &[&str]) -> Result<(), Fail>
     requires { IsSound state.now.rows }
 {
-    for scope in INVALID {
+    for scope in scopes {
         check_refused(
             alloc,
             state,
             "s3cr3t",
-            Some(scope),
+            Some(*scope),
             0,
             Refusal::InvalidScope,
         )?;
@@ -256,7 +257,7 @@ fn check_scopes(alloc: Global, state: &State) -> Result<(), Fail>
     check_granted(alloc, state, ALL.as_slice(), Scope::All)?;
     let admin = Scope::Roles(RoleIds::from(vec![in alloc; 2]?));
     check_granted(alloc, state, &[Some("PRINCIPAL_ROLE:service_admin")], admin)?;
-    check_invalid(alloc, state)
+    check_invalid(alloc, state, &INVALID)
 }
 
 #[test]
