@@ -1,15 +1,10 @@
 ghost use Rattle.std.specs.Prelude.{◌≤◌, length, vec_len, IfOk};
 
-mod answers;
 mod asked;
-mod management;
-mod management_answers;
-mod planned;
 mod readers;
 mod refused;
 mod replies;
 mod routing;
-mod tokens;
 
 use super::*;
 use pol_http::{Answer, Next, next_message, write_answer};

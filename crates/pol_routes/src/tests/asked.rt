@@ -1,4 +1,8 @@
 //! What requests ask for, as texts.
+mod management;
+mod planned;
+mod tokens;
+
 use super::{plan_of_request, refusal_text, request};
 use crate::{Planned, RouteRefused, Routes};
 use pol_commands::{Action, Grant, GrantedOn};
@@ -272,12 +276,7 @@ fn plan_told(
 
 /// How many words a request of that line and body needs, and what it asks for; or why it has no plan: `!` and the
 /// field that can't be read, or another cause.
-pub(super) fn told(
-    alloc: Global,
-    routes: &Routes,
-    line: &str,
-    body: &[u8],
-) -> Result<String, AllocError> {
+fn told(alloc: Global, routes: &Routes, line: &str, body: &[u8]) -> Result<String, AllocError> {
     let bytes = request(alloc, line, body)?;
     let planned = plan_of_request(alloc, routes, bytes.as_slice());
     plan_told(alloc, planned)
@@ -292,7 +291,7 @@ fn check_row(text: &str, expected: &str, line: &str, body: &str) -> Result<(), F
 }
 
 /// Fails unless a request of that line and body asks for this.
-pub(super) fn check_told(
+fn check_told(
     alloc: Global,
     routes: &Routes,
     line: &str,
@@ -304,7 +303,7 @@ pub(super) fn check_told(
 }
 
 /// The same of a request of this method and target.
-pub(super) fn check_asked(
+fn check_asked(
     alloc: Global,
     routes: &Routes,
     asked: &str,

@@ -1,4 +1,7 @@
 //! The replies whose answers are tested, and what they are made of.
+mod answers;
+mod management_answers;
+
 use super::{check_answer, check_bytes};
 use crate::answer_of;
 use pol_commands::{Answer, Refusal, Reply};
@@ -7,26 +10,26 @@ use pol_types::{Listed, OutOfMemory, Text};
 use std::alloc::{AllocError, Global};
 use std::test::Fail;
 
-pub(super) fn text(alloc: Global, word: &str) -> Result<Text, AllocError> {
+fn text(alloc: Global, word: &str) -> Result<Text, AllocError> {
     Ok(Text::from(String::from_str(alloc, word)?))
 }
 
-pub(super) fn plain(alloc: Global, word: &str) -> Result<Plain, Fail> {
+fn plain(alloc: Global, word: &str) -> Result<Plain, Fail> {
     Ok(Plain::new(alloc, word)?)
 }
 
-pub(super) fn namespace(alloc: Global, segment: &str) -> Result<Namespace, Fail> {
+fn namespace(alloc: Global, segment: &str) -> Result<Namespace, Fail> {
     Ok(Namespace::from_segment(alloc, segment)?)
 }
 
 /// Adds an item to a list.
-pub(super) fn add<T: Drop>(list: &mut Vec<T>, item: T) -> Result<(), OutOfMemory> {
+fn add<T: Drop>(list: &mut Vec<T>, item: T) -> Result<(), OutOfMemory> {
     list.push(item)?;
     Ok(())
 }
 
 /// A list of two items.
-pub(super) fn two<T: Drop>(alloc: Global, first: T, second: T) -> Result<Listed<T>, OutOfMemory> {
+fn two<T: Drop>(alloc: Global, first: T, second: T) -> Result<Listed<T>, OutOfMemory> {
     let mut list = Vec::new(alloc);
     list.push(first)?;
     list.push(second)?;
@@ -47,22 +50,12 @@ fn check_error(alloc: Global, reply: &Reply, status: &str, error: &str) -> Resul
 }
 
 /// The same of an answer of a command that is done.
-pub(super) fn check_done(
-    alloc: Global,
-    answer: Answer,
-    status: &str,
-    json: &str,
-) -> Result<(), Fail> {
+fn check_done(alloc: Global, answer: Answer, status: &str, json: &str) -> Result<(), Fail> {
     check_reply(alloc, Reply::Answered(answer), status, json)
 }
 
 /// The same by the cause of the refusal.
-pub(super) fn check_refused(
-    alloc: Global,
-    why: Refusal,
-    status: &str,
-    error: &str,
-) -> Result<(), Fail> {
+fn check_refused(alloc: Global, why: Refusal, status: &str, error: &str) -> Result<(), Fail> {
     let reply = Reply::Refused(why);
     let checked = check_error(alloc, &reply, status, error);
     drop(reply);
@@ -78,7 +71,7 @@ fn check_done_bytes(alloc: Global, answer: Answer, expected: &str) -> Result<(),
 }
 
 /// Fails unless what is added is answered with its status alone.
-pub(super) fn check_added(alloc: Global, answer: Answer) -> Result<(), Fail> {
+fn check_added(alloc: Global, answer: Answer) -> Result<(), Fail> {
     check_done_bytes(
         alloc,
         answer,
@@ -87,12 +80,12 @@ pub(super) fn check_added(alloc: Global, answer: Answer) -> Result<(), Fail> {
 }
 
 /// Fails unless what has ended or is there is answered without a body.
-pub(super) fn check_empty(alloc: Global, answer: Answer) -> Result<(), Fail> {
+fn check_empty(alloc: Global, answer: Answer) -> Result<(), Fail> {
     check_done_bytes(alloc, answer, "HTTP/1.1 204 No Content\r\n\r\n")
 }
 
 /// Fails unless an opened session, whose token is of these words, is answered by these bytes.
-pub(super) fn check_session(
+fn check_session(
     alloc: Global,
     serial: u64,
     word_a: u64,

@@ -1,5 +1,5 @@
 //! Management requests: what is read of their paths and bodies.
-use super::asked::check_asked;
+use super::check_asked;
 use crate::Routes;
 use std::alloc::{AllocError, Global};
 use std::test::Fail;

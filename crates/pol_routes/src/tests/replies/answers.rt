@@ -1,5 +1,5 @@
 //! The answers to replies, by their exact bytes.
-use super::replies::{
+use super::{
     add, check_done, check_empty, check_refused, check_session, namespace, plain, text, two,
 };
 use pol_access::Privilege;

@@ -1,7 +1,5 @@
 //! The answers to management requests, by their exact bytes.
-use super::replies::{
-    check_added, check_done, check_empty, check_refused, namespace, plain, text, two,
-};
+use super::{check_added, check_done, check_empty, check_refused, namespace, plain, text, two};
 use pol_access::{PrincipalRow, Privilege};
 use pol_commands::{Answer, Grant, GrantedOn, Refusal};
 use pol_names::{Identifier, Name};

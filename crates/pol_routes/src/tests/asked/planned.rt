@@ -1,5 +1,5 @@
 //! Requests of catalogues and namespaces: what is read of their paths, queries and bodies.
-use super::asked::check_asked;
+use super::check_asked;
 use crate::Routes;
 use std::alloc::Global;
 use std::test::Fail;

@@ -1,6 +1,6 @@
 //! Token requests, and the commands of plans.
-use super::asked::{check_told, told};
-use super::{check_text, plan_of_request, request};
+use super::{check_told, told};
+use crate::tests::{check_text, plan_of_request, request};
 use crate::{Planned, Routes, command_of};
 use pol_commands::{Caller, Command, Words4};
 use std::alloc::{AllocError, Global};
