@@ -2,8 +2,7 @@ ghost use Rattle.std.specs.Prelude.{Some, ◌≡◌, ◌==◌, ◌+◌, [], ◌�
 ghost use Rattle.pol_turn.specs.Known.{items_by};
 
 use super::*;
-use pol_types::OutOfMemory;
-use std::alloc::Global;
+use std::alloc::{AllocError, AllocFailed, Global};
 use std::sync::Wait;
 use std::test::*;
 use std::thread;
@@ -66,7 +65,7 @@ impl Account {
 }
 
 /// The lock over an empty account.
-fn open(alloc: Global) -> Result<(Turns<Account>, Pass<Account>), OutOfMemory>
+fn open(alloc: Global) -> Result<(Turns<Account>, Pass<Account>), AllocError>
     ensures lock { IfOk result (λ made. made.1.lock ≡ made.0) }
     ensures founds { IfOk result (λ made. (made.1.number ≡ 0) × (made.1.made ≡ 1) × (made.1.gathered ≡ []) × (made.1.has_turn ≡ false)) }
 {
@@ -74,12 +73,12 @@ fn open(alloc: Global) -> Result<(Turns<Account>, Pass<Account>), OutOfMemory>
         opening: 7,
         entries: Vec::new(alloc),
     };
-    Turns::new(alloc, account).map_err(|(account, error)| {
+    Turns::new(alloc, account).map_err(|AllocFailed { value: account }| {
         let Account {
             opening: _,
             entries: _,
         } = account;
-        error
+        AllocError
     })
 }
 
@@ -89,7 +88,7 @@ fn enter<R: Wait>(
     turns: &Turns<Account>,
     pass: &mut Pass<Account>,
     amount: u64,
-) -> Result<(), OutOfMemory>
+) -> Result<(), AllocError>
     requires lock { pass.old.lock ≡ turns.now }
     requires free { pass.old.has_turn ≡ false }
     ensures pass { pass.new ≡ record pass.old { front = pass.new.front; own = pass.new.own } }
@@ -108,7 +107,7 @@ fn enter_many<R: Wait>(
     rt: &R,
     turns: &Turns<Account>,
     pass: &mut Pass<Account>,
-) -> Result<(), OutOfMemory>
+) -> Result<(), AllocError>
     requires lock { pass.old.lock ≡ turns.now }
     requires free { pass.old.has_turn ≡ false }
     ensures pass { pass.new ≡ record pass.old { front = pass.new.front; own = pass.new.own } }
@@ -145,7 +144,7 @@ fn enter_two<R: Wait>(
     rt: &R,
     turns: Turns<Account>,
     mut founder: Pass<Account>,
-) -> Result<Account, OutOfMemory>
+) -> Result<Account, AllocError>
     requires lock { founder.lock ≡ turns }
     requires founds { (founder.number ≡ 0) × (founder.made ≡ 1) × (founder.gathered ≡ []) × (founder.has_turn ≡ false) }
     ensures founder { IfOk result (λ account. items_by (λ entry. entry.number) 0 account.entries.items ≡ founder.own) }

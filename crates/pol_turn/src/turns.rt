@@ -7,8 +7,7 @@ use crate::plays::{Cut, Draw, Gather, Look, Order, SERVING, Serve, Settle, Shut,
 use crate::standing::Standing;
 use crate::view::View;
 use atomic_table::{Refused, Table};
-use pol_types::OutOfMemory;
-use std::alloc::Global;
+use std::alloc::{AllocFailed, Global};
 use std::marker::Model;
 use std::snapshot::Snapshot;
 use std::sync::Wait;
@@ -47,17 +46,17 @@ pub struct Held<S> {
 impl<S: Standing> Turns<S> {
     /// The lock over the value, and its founding pass, which has number 0. Where there is no memory the value comes back.
     /// The items that it stands for already count as the founding pass's own.
-    pub fn new(alloc: Global, value: S) -> Result<(Turns<S>, Pass<S>), (S, OutOfMemory)>
+    pub fn new(alloc: Global, value: S) -> Result<(Turns<S>, Pass<S>), AllocFailed<S>>
         requires { All (λ item. S.number item ≡ 0) (S.items value) }
         ensures lock { IfOk result (λ made. (made.1.lock ≡ made.0) × (made.0.fixed ≡ Some (S.fixed value))) }
         ensures front { IfOk result (λ made. (made.1.front ≡ S.items value) × (made.1.own ≡ S.items value)) }
         ensures founds { IfOk result (λ made. (made.1.number ≡ 0) × (made.1.made ≡ 1) × (made.1.gathered ≡ []) × (made.1.has_turn ≡ false)) }
-        ensures refused { IfErr result (λ back. back.0 ≡ value) }
+        ensures refused { IfErr result (λ refused. refused.value ≡ value) }
     {
         let opened = Snapshot::of(&value);
         let mut slots = match Vec::with_capacity(alloc, 1) {
             Ok(slots) => slots,
-            Err(_) => return Err((value, OutOfMemory)),
+            Err(_) => return Err(AllocFailed { value }),
         };
         slots.push_reserved(Some(value));
         match Table::new(alloc, &[0, 0], slots, &opened) {
@@ -69,7 +68,7 @@ impl<S: Standing> Turns<S> {
                     seat,
                 },
             )),
-            Err(Refused { slots }) => Err((only(slots), OutOfMemory)),
+            Err(Refused { slots }) => Err(AllocFailed { value: only(slots) }),
         }
     }
 
