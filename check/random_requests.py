@@ -1,0 +1,225 @@
+"""Random requests, most of which make sense, and some of which are odd in one place."""
+
+import json
+from random import Random
+from urllib.parse import urlencode
+
+from privileges import GRANTABLE, PRIVILEGES
+from routes import ROUTES
+
+NAMES = {
+    "prefix": ["lake", "lake", "lake", "sea", "pond"],
+    "catalog": ["lake", "lake", "lake", "sea", "pond"],
+    "principal": ["ann", "bob", "root"],
+    "role": ["readers", "writers", "service_admin"],
+    "catalog_role": ["reads", "reads", "writes", "catalog_admin"],
+}
+ODD_NAMES = ["a b", "é", "x" * 129, "a.b", "", "..", "A-_9"]
+LEVELS = ["a", "b", "c", "é x", "B"]
+ODD_LEVELS = ["", "\x1f", "a\n", "x" * 129, "\x7f"]
+KEYS = ["k1", "k2", "k3", "é", "default-base-location"]
+VALUES = ["v", "w", "", "é\n"]
+LOCATIONS = ["lake://b", "lake://b/x", "lake://c/", "lake://é/y z"]
+ODD_LOCATIONS = ["lake://", "lake:///", "lake://b//", "lake://b/../c", "lake://b/.", "Lake://b", "", "lake://b/\n"]
+LONG_LOCATIONS = ["lake://" + "a" * 1017, "lake://" + "a" * 1018, "lake://" + "a" * 1017 + "/", "x" * 1025]
+ODD_VALUES = [None, 1, True, "x", "", [], {}, ["a"], {"a": 1}, 1.5, "é", [1], {"b": None}]
+WAREHOUSES = ["", "warehouse", "x=1&warehouse=lake", "w%61rehouse=lake", "warehouse=%ff", "warehouse=la+ke"]
+PARENTS = ["", "parent=", "parent=%ff", "parent=%1F"]
+SCOPES = ["ALL", "readers", "readers", "writers", "service_admin", "", "no one"]
+
+# How often an action is asked for, where it is not as often as most.
+WEIGHTS = {None: 0.15, "open_session": 6, "create_namespace": 6, "load_namespace": 5, "add_grant": 8}
+WEIGHTS |= {"add_join": 4, "add_member": 4, "update_properties": 4, "drop_catalog": 0.6, "drop_principal": 0.7}
+WEIGHTS |= {"drop_principal_role": 0.7, "drop_catalog_role": 0.7, "end_member": 1, "end_join": 1, "rotate": 0.7}
+
+
+class RandomRequests:
+    """Requests of a seed, by clients that know the tokens and secrets that were given before."""
+
+    def __init__(self, seed):
+        self.random = Random(seed)
+        self.tokens = []
+        self.secrets = {"root": "s3cr3t"}
+
+    def seldom(self, often=0.05):
+        return self.random.random() < often
+
+    def pick(self, usual, odd, often=0.05):
+        return self.random.choice(odd if self.seldom(often) else usual)
+
+    def next(self):
+        """The method, target, fields, content and bearer of a request."""
+        method, path, action = self.random.choices(ROUTES, [WEIGHTS.get(row[2], 2) for row in ROUTES])[0]
+        target = self.target_of(path, action)
+        content = self.content_of(action)
+        if self.seldom(0.02):
+            method = self.random.choice(["GET", "POST", "PUT", "DELETE", "HEAD", "PATCH", "get"])
+        fields, bearer = self.bearer()
+        return method, target, fields, content, bearer
+
+    # Targets
+
+    def target_of(self, path, action):
+        parts = [self.segment(part[1:-1]) if part.startswith("{") else part for part in path.split("/")]
+        target = "/".join(parts)
+        if self.seldom(0.02):
+            target = self.random.choice([target + "/", target + "//", target + "x", "/", "/api", "/" + target])
+        query = self.query_of(action)
+        return target if query is None else f"{target}?{query}"
+
+    def segment(self, parameter):
+        if parameter == "*path":
+            return "b/x"
+        if parameter == "namespace":
+            return self.encoded("\x1f".join(self.levels()))
+        return self.encoded(self.pick(NAMES.get(parameter, ["t"]), ODD_NAMES))
+
+    def encoded(self, text):
+        """A text as a segment, in which more bytes than need be may be encoded, and seldom wrongly."""
+        found = ""
+        for byte in text.encode():
+            is_plain = chr(byte).isalnum() and byte < 0x80 or chr(byte) in "_-."
+            found += chr(byte) if is_plain and not self.seldom(0.08) else self.random.choice(["%%%02X", "%%%02x"]) % byte
+        return found + self.random.choice(["%", "%z1", "%ff", "%2"]) if self.seldom(0.01) else found
+
+    def levels(self):
+        count = self.pick([1, 1, 1, 2, 2, 3], [0, 16, 17], 0.03)
+        return [self.pick(LEVELS, ODD_LEVELS, 0.015) for _ in range(count)]
+
+    def query_of(self, action):
+        if action == "get_config":
+            named = f"warehouse={self.segment('catalog')}"
+            return self.pick([named, named, f"warehouse=lake&{named}"], WAREHOUSES, 0.3)
+        if action == "list_namespaces":
+            named = f"parent={self.segment('namespace')}"
+            return self.pick([None, named, f"parent=zz&{named}"], PARENTS, 0.3)
+        return "x=y" if self.seldom(0.03) else None
+
+    # Contents
+
+    def content_of(self, action):
+        if action == "open_session":
+            return self.form()
+        bodies = {
+            "create_namespace": self.new_namespace,
+            "update_properties": self.property_updates,
+            "create_catalog": self.new_catalog,
+            "create_principal": lambda: {"principal": {"name": self.name("principal"), "type": "SERVICE"}},
+            "create_principal_role": lambda: {"principalRole": {"name": self.name("role")}},
+            "add_member": lambda: {"principalRole": {"name": self.name("role")}},
+            "create_catalog_role": lambda: {"catalogRole": {"name": self.name("catalog_role")}},
+            "add_join": lambda: {"catalogRole": {"name": self.name("catalog_role")}},
+            "add_grant": self.grant,
+            "revoke": self.grant,
+        }
+        if action not in bodies:
+            return b"xx" if self.seldom() else b""
+        return self.printed(self.altered(bodies[action]()))
+
+    def form(self):
+        client_id = self.random.choice(list(self.secrets))
+        secret = "zz" if self.seldom() else self.secrets[client_id]
+        pairs = [("grant_type", "client_credentials"), ("client_id", client_id), ("client_secret", secret)]
+        if self.seldom(0.5):
+            words = [f"PRINCIPAL_ROLE:{self.random.choice(SCOPES)}" for _ in range(self.pick([0, 1, 1, 2], [16, 17]))]
+            pairs.append(("scope", self.pick([" "], ["  "]).join(words)))
+        self.random.shuffle(pairs)
+        if self.seldom(0.1):
+            place = self.random.randrange(len(pairs))
+            key, value = pairs.pop(place)
+            pairs += self.random.choice([[], [(key, "")], [(key, value)] * 2, [(key, value), ("other", "v")]])
+        form = urlencode(pairs).encode()
+        if self.seldom(0.02):
+            form = self.random.choice([form + b"&z=%ff", form.replace(b"client_credentials", b"password")])
+        return form
+
+    def name(self, parameter):
+        return self.pick(NAMES[parameter], ODD_NAMES)
+
+    def texts(self):
+        return {self.random.choice(KEYS): self.random.choice(VALUES) for _ in range(self.random.randrange(4))}
+
+    def location(self):
+        return self.pick(LOCATIONS, ODD_LOCATIONS + LONG_LOCATIONS, 0.1)
+
+    def new_namespace(self):
+        body = {"namespace": self.levels(), "properties": self.texts()}
+        if self.seldom(0.2):
+            del body["properties"]
+        return body
+
+    def property_updates(self):
+        removals = [self.random.choice([*KEYS, "zz"]) for _ in range(self.random.randrange(4))]
+        return {"removals": removals, "updates": self.texts()}
+
+    def new_catalog(self):
+        catalog = {
+            "name": self.name("catalog"),
+            "type": self.pick(["INTERNAL"], ["EXTERNAL", "internal"], 0.15),
+            "properties": {**self.texts(), "default-base-location": self.location()},
+            "storageConfigInfo": {"allowedLocations": [self.location() for _ in range(self.random.randrange(3))]},
+        }
+        for key in ("type", "storageConfigInfo"):
+            if self.seldom(0.3):
+                del catalog[key]
+        return {"catalog": catalog}
+
+    def grant(self):
+        kind = self.random.choice(["catalog", "namespace", "namespace", "table", "view"])
+        grant = {"type": kind, "privilege": self.pick(sorted(GRANTABLE[kind]), PRIVILEGES)}
+        if kind != "catalog":
+            grant["namespace"] = self.levels()
+        if kind in ("table", "view"):
+            grant[f"{kind}Name"] = self.pick(["t"], ["", "t\n"], 0.1)
+        return {"grant": grant}
+
+    def altered(self, body):
+        """A body with, at times, one place of it left out or made another value."""
+        if not self.seldom(0.14):
+            return body
+        holder, key = self.random.choice([(None, None), *places_in(body)])
+        if holder is None:
+            return self.random.choice(ODD_VALUES)
+        if isinstance(holder, dict) and self.seldom(0.3):
+            del holder[key]
+        else:
+            holder[key] = self.random.choice(ODD_VALUES)
+        return body
+
+    def printed(self, body):
+        """A body as text, at times with blanks, a key twice, cut short or with more behind it."""
+        separators = self.random.choice([(",", ":"), (", ", " : ")])
+        text = json.dumps(body, ensure_ascii=self.seldom(0.5), separators=separators)
+        if isinstance(body, dict) and body and self.seldom(0.03):
+            key = json.dumps(self.random.choice(list(body)))
+            text = f"{{{key}:{json.dumps(self.random.choice(ODD_VALUES))},{text[1:]}"
+        if self.seldom(0.02):
+            text = text[: self.random.randrange(len(text) + 1)]
+        if self.seldom(0.01):
+            text += self.random.choice([" ", "x", "{}", "\n"])
+        return text.encode() + b"\xff" * self.seldom(0.005)
+
+    # Bearers
+
+    def bearer(self):
+        """The fields of a request that tell its bearer, and the token that is read from them."""
+        kind = self.random.random()
+        if not self.tokens or kind > 0.93:
+            return ([], None) if kind > 0.97 else ([("authorization", "Bearer zz")], "zz")
+        token = self.random.choice(self.tokens[-12:]) if self.seldom(0.6) else self.tokens[0]
+        name = self.random.choice(["authorization", "Authorization", "AUTHORIZATION"])
+        fields = [(name, f"{self.random.choice(['Bearer', 'bearer', 'BEARER'])} {token}")]
+        other = ("authorization", "Bearer zz")
+        odd = [
+            ([*fields, other], token),
+            ([other, *fields], "zz"),
+            ([("authorization", f"Basic {token}")], None),
+            ([("authorization", f"Bearer  {token}")], f" {token}"),
+        ]
+        return self.random.choice(odd) if self.seldom() else (fields, token)
+
+
+def places_in(value):
+    """Each place of a value of JSON, as what holds it and its key there."""
+    members = list(value.items() if isinstance(value, dict) else enumerate(value) if isinstance(value, list) else [])
+    return [place for key, part in members for place in [(value, key), *places_in(part)]]

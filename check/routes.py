@@ -1,0 +1,105 @@
+"""The table of requests (Iceberg REST OpenAPI; Apache Polaris Management Service; the object server's own paths)."""
+
+from reading import refuse
+
+CATALOG = "/api/catalog/v1"
+PREFIX = f"{CATALOG}/{{prefix}}"
+NAMESPACE = f"{PREFIX}/namespaces/{{namespace}}"
+TABLE = f"{NAMESPACE}/tables/{{table}}"
+VIEW = f"{NAMESPACE}/views/{{view}}"
+MANAGEMENT = "/api/management/v1"
+PRINCIPAL = f"{MANAGEMENT}/principals/{{principal}}"
+PRINCIPAL_ROLE = f"{MANAGEMENT}/principal-roles/{{role}}"
+CATALOG_ROLE = f"{MANAGEMENT}/catalogs/{{catalog}}/catalog-roles/{{catalog_role}}"
+
+# Each method of each path, with its action; one without an action isn't built.
+ROUTES = [
+    ("POST", f"{CATALOG}/oauth/tokens", "open_session"),
+    ("GET", f"{CATALOG}/config", "get_config"),
+    ("GET", f"{PREFIX}/namespaces", "list_namespaces"),
+    ("POST", f"{PREFIX}/namespaces", "create_namespace"),
+    ("GET", NAMESPACE, "load_namespace"),
+    ("HEAD", NAMESPACE, "head_namespace"),
+    ("DELETE", NAMESPACE, "drop_namespace"),
+    ("POST", f"{NAMESPACE}/properties", "update_properties"),
+    ("GET", f"{NAMESPACE}/tables", None),
+    ("POST", f"{NAMESPACE}/tables", None),
+    ("GET", TABLE, None),
+    ("HEAD", TABLE, None),
+    ("POST", TABLE, None),
+    ("DELETE", TABLE, None),
+    ("GET", f"{TABLE}/credentials", None),
+    ("POST", f"{TABLE}/metrics", None),
+    ("POST", f"{PREFIX}/tables/rename", None),
+    ("POST", f"{PREFIX}/transactions/commit", None),
+    ("GET", f"{NAMESPACE}/views", None),
+    ("POST", f"{NAMESPACE}/views", None),
+    ("GET", VIEW, None),
+    ("HEAD", VIEW, None),
+    ("POST", VIEW, None),
+    ("DELETE", VIEW, None),
+    ("POST", f"{PREFIX}/views/rename", None),
+    ("GET", f"{MANAGEMENT}/catalogs", "list_catalogs"),
+    ("POST", f"{MANAGEMENT}/catalogs", "create_catalog"),
+    ("GET", f"{MANAGEMENT}/catalogs/{{catalog}}", "get_catalog"),
+    ("DELETE", f"{MANAGEMENT}/catalogs/{{catalog}}", "drop_catalog"),
+    ("GET", f"{MANAGEMENT}/principals", "list_principals"),
+    ("POST", f"{MANAGEMENT}/principals", "create_principal"),
+    ("GET", PRINCIPAL, "get_principal"),
+    ("DELETE", PRINCIPAL, "drop_principal"),
+    ("POST", f"{PRINCIPAL}/rotate", "rotate"),
+    ("GET", f"{PRINCIPAL}/principal-roles", "list_members"),
+    ("PUT", f"{PRINCIPAL}/principal-roles", "add_member"),
+    ("DELETE", f"{PRINCIPAL}/principal-roles/{{role}}", "end_member"),
+    ("GET", f"{MANAGEMENT}/principal-roles", "list_principal_roles"),
+    ("POST", f"{MANAGEMENT}/principal-roles", "create_principal_role"),
+    ("GET", PRINCIPAL_ROLE, "get_principal_role"),
+    ("DELETE", PRINCIPAL_ROLE, "drop_principal_role"),
+    ("GET", f"{PRINCIPAL_ROLE}/catalog-roles/{{catalog}}", "list_joins"),
+    ("PUT", f"{PRINCIPAL_ROLE}/catalog-roles/{{catalog}}", "add_join"),
+    ("DELETE", f"{PRINCIPAL_ROLE}/catalog-roles/{{catalog}}/{{catalog_role}}", "end_join"),
+    ("GET", f"{MANAGEMENT}/catalogs/{{catalog}}/catalog-roles", "list_catalog_roles"),
+    ("POST", f"{MANAGEMENT}/catalogs/{{catalog}}/catalog-roles", "create_catalog_role"),
+    ("GET", CATALOG_ROLE, "get_catalog_role"),
+    ("DELETE", CATALOG_ROLE, "drop_catalog_role"),
+    ("GET", f"{CATALOG_ROLE}/grants", "list_grants"),
+    ("PUT", f"{CATALOG_ROLE}/grants", "add_grant"),
+    ("POST", f"{CATALOG_ROLE}/grants", "revoke"),
+    ("GET", "/objects/{*path}", None),
+    ("HEAD", "/objects/{*path}", None),
+    ("PUT", "/objects/{*path}", None),
+    ("DELETE", "/objects/{*path}", None),
+    ("GET", "/list/{*path}", None),
+]
+
+# What a config tells of the rows behind a catalogue's prefix.
+ENDPOINTS = [
+    f"{method} /v1{path[len(CATALOG):]}" for method, path, _ in ROUTES if path.startswith(PREFIX)
+]
+
+
+def segments_of(pattern, path):
+    """The segments of a path that a row's path leaves open, or none where it is another path."""
+    parts, found = pattern.split("/"), path.split(b"/")
+    if parts[-1].startswith("{*"):
+        parts, found = parts[:-1] + ["{}"], found[: len(parts) - 1] + [b"/".join(found[len(parts) - 1 :])]
+    if len(parts) != len(found):
+        return None
+    pairs = list(zip(parts, found))
+    if not all(segment if part.startswith("{") else part.encode() == segment for part, segment in pairs):
+        return None
+    return [segment for part, segment in pairs if part.startswith("{")]
+
+
+def route_of(method, path):
+    """The action of a request, and the open segments of its path."""
+    rows = [(row[0], row[2], segments_of(row[1], path)) for row in ROUTES]
+    rows = [row for row in rows if row[2] is not None]
+    if not rows:
+        refuse("No route")
+    rows = [row for row in rows if row[0] == method]
+    if not rows:
+        refuse("Wrong method")
+    if rows[0][1] is None:
+        refuse("Not built")
+    return rows[0][1:]

@@ -1,0 +1,585 @@
+"""The catalogue's rules as a plain program, written apart from the proved one so that the two can be compared.
+
+`Rules.answer` answers one request after another. Of what the program draws at random, which is told by its own answer,
+it takes the program's word. No session expires here, and of the bounds on quantities only those on allowed locations
+and properties are known."""
+
+import hashlib
+import re
+from dataclasses import dataclass, field
+
+from privileges import GRANTABLE, IMPLIED, PRIVILEGES
+from reading import (
+    Refused,
+    body_of,
+    compact,
+    dotted,
+    form_pairs,
+    is_name,
+    is_namespace,
+    is_plain,
+    is_utf8,
+    levels,
+    location_of,
+    location_text,
+    meeting,
+    namespace_segment,
+    object_at,
+    optional,
+    plain_segment,
+    query_value,
+    refuse,
+    required,
+    text,
+    text_map,
+    texts,
+    under,
+    unreadable,
+)
+from routes import ENDPOINTS, route_of
+
+plain = meeting(is_plain)
+BASE = b"default-base-location"
+FIRST_GRANTS = ("CATALOG_MANAGE_ACCESS", "CATALOG_MANAGE_CONTENT")
+SCOPE = b"PRINCIPAL_ROLE:"
+TOKEN = {
+    "expires_in": 3600,
+    "issued_token_type": "urn:ietf:params:oauth:token-type:access_token",
+    "token_type": "bearer",
+}
+
+
+@dataclass
+class Principal:
+    id: int
+    client_id: bytes
+    digest: bytes
+
+
+@dataclass
+class Catalog:
+    id: int
+    base: list
+    allowed: list
+    properties: dict
+    roles: dict
+    namespaces: dict = field(default_factory=dict)
+
+
+@dataclass
+class Namespace:
+    id: int
+    properties: dict
+
+
+@dataclass
+class Request:
+    """A request, with the token of its bearer, and the answer's body, from which what was drawn is read."""
+
+    method: str
+    target: bytes
+    bearer: str
+    content: bytes
+    answered: str = ""
+
+    @property
+    def query(self):
+        return self.target.partition(b"?")[2]
+
+    def body(self):
+        return body_of(self.content)
+
+
+def digest_of(secret):
+    return hashlib.sha256(secret).digest()
+
+
+def named(key):
+    """The reader of a body that holds one name, in an object under this key."""
+    return lambda body: required(body, key, lambda value, path: required(object_at(value, path), "name", plain, path))
+
+
+principal_name = named("principal")
+principal_role_name = named("principalRole")
+catalog_role_name = named("catalogRole")
+
+
+def new_catalog(value, path):
+    """The name, type, base, properties and allowed locations of a new catalogue."""
+    value = object_at(value, path)
+    name = required(value, "name", plain, path)
+    kind = optional(value, "type", text, b"INTERNAL", path)
+    properties = required(value, "properties", text_map, path)
+    if BASE not in properties:
+        unreadable(under(path, f"properties.{BASE.decode()}"))
+    base = properties.pop(BASE)
+    storage = optional(value, "storageConfigInfo", object_at, {}, path)
+    allowed = optional(storage, "allowedLocations", texts, [], under(path, "storageConfigInfo"))
+    return name, kind, base, properties, allowed
+
+
+def new_grant(value, path):
+    """The type and privilege of a grant, and the namespace and the name that it is on, where there are such."""
+    value = object_at(value, path)
+    kind = required(value, "type", meeting(lambda word: word.decode() in GRANTABLE), path).decode()
+    privilege = required(value, "privilege", meeting(lambda word: word.decode() in GRANTABLE[kind]), path).decode()
+    namespace = required(value, "namespace", levels, path) if kind != "catalog" else None
+    key = {"table": "tableName", "view": "viewName"}.get(kind)
+    return kind, privilege, namespace, required(value, key, meeting(is_name), path) if key else None
+
+
+class Rules:
+    """The rows of a catalogue, and what requests are answered over them."""
+
+    def __init__(self, root_secret):
+        self.next_id = 3
+        self.next_serial = 0
+        self.principals = {b"root": Principal(1, b"root", digest_of(root_secret))}
+        self.principal_roles = {b"service_admin": 2}
+        self.members = [(1, 2)]
+        self.catalogs = {}
+        self.joins = []
+        self.grants = []
+        self.sessions = {}
+
+    def answer(self, request):
+        """The status of the answer to a request, and its body, if it has one."""
+        try:
+            action, segments = route_of(request.method, request.target.partition(b"?")[0])
+            status, body = getattr(self, action)(request, *segments)
+        except Refused as refused:
+            status, body = refused.status, refused.body
+        return status, None if request.method == "HEAD" else body
+
+    # Sessions and needs
+
+    def open_session(self, request):
+        pairs = form_pairs(request.content)
+        known = (b"grant_type", b"client_id", b"client_secret", b"scope")
+        form = {key: value for key, value in pairs if key in known}
+        words = form[b"scope"].split(b" ") if form.get(b"scope") else []
+        is_form = all(is_utf8(part) for pair in pairs for part in pair) and all(form.get(key) for key in known[:3])
+        if not is_form or sum(key in known for key, _ in pairs) > len(form) or len(words) > 16:
+            return 400, compact({"error": "invalid_request"})
+        if form[b"grant_type"] != b"client_credentials":
+            return 400, compact({"error": "unsupported_grant_type"})
+        return self.session_of_client(request, form[b"client_id"], digest_of(form[b"client_secret"]), words)
+
+    def session_of_client(self, request, client_id, digest, words):
+        clients = [row for row in self.principals.values() if (row.client_id, row.digest) == (client_id, digest)]
+        if not clients:
+            return 401, compact({"error": "invalid_client"})
+        everything = SCOPE + b"ALL"
+        roles = [self.principal_roles.get(word[len(SCOPE) :]) for word in words if word != everything]
+        is_scope = all(word.startswith(SCOPE) for word in words)
+        if not is_scope or any((clients[0].id, role) not in self.members for role in roles):
+            return 400, compact({"error": "invalid_scope"})
+        token = drawn(request, r'"access_token":"(%016x[0-9a-f]{32})"' % self.next_serial)
+        self.next_serial += 1
+        self.sessions[token] = (clients[0].id, None if not words or everything in words else roles)
+        return 200, compact({"access_token": token, **TOKEN})
+
+    def active_roles(self, request):
+        """The roles that count in the caller's session."""
+        principal, scope = self.sessions.get(request.bearer, (None, None))
+        if principal not in [row.id for row in self.principals.values()]:
+            refuse("Unauthenticated")
+        return {role for member, role in self.members if member == principal and (scope is None or role in scope)}
+
+    def in_realm(self, request):
+        if self.principal_roles[b"service_admin"] not in self.active_roles(request):
+            refuse("Forbidden", b"SERVICE_MANAGE_ACCESS on realm")
+
+    def catalog(self, name):
+        if name not in self.catalogs:
+            refuse("NoCatalogue", name)
+        return self.catalogs[name]
+
+    def in_catalog(self, request, name, privilege, path=()):
+        """The catalogue of a name, on which, or on the deepest part of a path in it, the caller has a privilege."""
+        roles = self.active_roles(request)
+        catalog = self.catalog(name)
+        while path and path not in catalog.namespaces:
+            path = path[:-1]
+        above = [path[:depth] for depth in range(1, len(path) + 1)]
+        chain = [("catalog", catalog.id)] + [("namespace", catalog.namespaces[part].id) for part in above]
+        joined = {catalog_role for role, catalog_role in self.joins if role in roles}
+        held = {grant[1] for grant in self.grants if grant[0] in joined and grant[2] in chain}
+        if not any(privilege in IMPLIED[word] for word in held):
+            where = b"namespace %b/%b" % (name, dotted(path)) if path else b"catalogue %b" % name
+            refuse("Forbidden", b"%b on %b" % (privilege.encode(), where))
+        return catalog
+
+    def new_id(self):
+        self.next_id += 1
+        return self.next_id - 1
+
+    # Catalogues
+
+    def get_config(self, request):
+        name = query_value(request.query, b"warehouse")
+        if name is None or not is_plain(name):
+            unreadable("warehouse")
+        self.active_roles(request)
+        self.catalog(name)
+        return 200, compact({"defaults": {}, "endpoints": ENDPOINTS, "overrides": {"prefix": name}})
+
+    def shown_catalog(self, name):
+        row = self.catalogs[name]
+        return {
+            "name": name,
+            "properties": {**row.properties, BASE: location_text(row.base)},
+            "storageConfigInfo": {"allowedLocations": [location_text(location) for location in row.allowed]},
+            "type": "INTERNAL",
+        }
+
+    def list_catalogs(self, request):
+        self.in_realm(request)
+        return 200, compact({"catalogs": [self.shown_catalog(name) for name in sorted(self.catalogs)]})
+
+    def create_catalog(self, request):
+        name, kind, base, properties, allowed = required(request.body(), "catalog", new_catalog)
+        self.in_realm(request)
+        if name in self.catalogs:
+            refuse("NameTaken", name)
+        locations = [location_of(text) for text in [base, *allowed]]
+        if kind != b"INTERNAL":
+            refuse("Unsupported", b"type")
+        if len(allowed) > 100:
+            refuse("Limit", b"allowed locations 100")
+        refuse_many(properties)
+        row = Catalog(self.new_id(), locations[0], locations[1:], properties, {b"catalog_admin": self.new_id()})
+        self.catalogs[name] = row
+        admin = row.roles[b"catalog_admin"]
+        self.joins.append((self.principal_roles[b"service_admin"], admin))
+        self.grants += [(admin, privilege, ("catalog", row.id)) for privilege in FIRST_GRANTS]
+        return 201, compact(self.shown_catalog(name))
+
+    def get_catalog(self, request, segment):
+        name = plain_segment(segment)
+        self.in_catalog(request, name, "CATALOG_READ_PROPERTIES")
+        return 200, compact(self.shown_catalog(name))
+
+    def drop_catalog(self, request, segment):
+        name = plain_segment(segment)
+        self.active_roles(request)
+        row = self.catalog(name)
+        self.in_realm(request)
+        if row.namespaces or len(row.roles) > 1:
+            refuse("NotEmpty", name)
+        del self.catalogs[name]
+        self.forget_catalog_role(row.roles[b"catalog_admin"])
+        return 204, None
+
+    # Namespaces
+
+    def list_namespaces(self, request, segment):
+        name = plain_segment(segment)
+        value = query_value(request.query, b"parent")
+        parent = tuple(value.split(b"\x1f")) if value else ()
+        if parent and not is_namespace(parent):
+            unreadable("parent")
+        row = self.in_catalog(request, name, "NAMESPACE_LIST", parent)
+        refuse_missing(row, parent)
+        children = [path for path in row.namespaces if path[:-1] == parent]
+        return 200, compact({"namespaces": sorted(children)})
+
+    def create_namespace(self, request, segment):
+        name = plain_segment(segment)
+        body = request.body()
+        path = required(body, "namespace", levels)
+        properties = optional(body, "properties", text_map, {})
+        row = self.in_catalog(request, name, "NAMESPACE_CREATE", path[:-1])
+        refuse_missing(row, path[:-1])
+        if path in row.namespaces:
+            refuse("NameTaken", dotted(path))
+        refuse_many(properties)
+        row.namespaces[path] = Namespace(self.new_id(), properties)
+        return 200, compact({"namespace": path, "properties": properties})
+
+    def in_namespace(self, request, name, path, privilege):
+        """The catalogue of a name, and the namespace of a path, which must be there."""
+        row = self.in_catalog(request, name, privilege, path)
+        refuse_missing(row, path)
+        return row, row.namespaces[path]
+
+    def load_namespace(self, request, segment, second):
+        name, path = plain_segment(segment), namespace_segment(second)
+        _, namespace = self.in_namespace(request, name, path, "NAMESPACE_READ_PROPERTIES")
+        return 200, compact({"namespace": path, "properties": namespace.properties})
+
+    def head_namespace(self, request, segment, second):
+        self.load_namespace(request, segment, second)
+        return 204, None
+
+    def drop_namespace(self, request, segment, second):
+        name, path = plain_segment(segment), namespace_segment(second)
+        row, namespace = self.in_namespace(request, name, path, "NAMESPACE_DROP")
+        if any(other[: len(path)] == path and other != path for other in row.namespaces):
+            refuse("NotEmpty", dotted(path))
+        del row.namespaces[path]
+        self.grants = [grant for grant in self.grants if grant[2] != ("namespace", namespace.id)]
+        return 204, None
+
+    def update_properties(self, request, segment, second):
+        name, path = plain_segment(segment), namespace_segment(second)
+        body = request.body()
+        removals = optional(body, "removals", texts, [])
+        updates = optional(body, "updates", text_map, {})
+        _, namespace = self.in_namespace(request, name, path, "NAMESPACE_WRITE_PROPERTIES")
+        for key in removals:
+            if key in updates:
+                refuse("KeyTwice", key)
+        before = namespace.properties
+        after = {key: value for key, value in before.items() if key not in removals} | updates
+        refuse_many(after)
+        namespace.properties = after
+        lists = {"missing": set(removals) - set(before), "removed": set(removals) & set(before), "updated": set(updates)}
+        return 200, compact({key: sorted(keys) for key, keys in lists.items()})
+
+    # Principals and principal roles
+
+    def principal(self, name):
+        if name not in self.principals:
+            refuse("NoSuchRole", name)
+        return self.principals[name]
+
+    def principal_role(self, name):
+        if name not in self.principal_roles:
+            refuse("NoSuchRole", name)
+        return self.principal_roles[name]
+
+    def shown_principal(self, name):
+        return {"clientId": self.principals[name].client_id, "name": name}
+
+    def credentials(self, status, name, secret):
+        shown = {"clientId": self.principals[name].client_id, "clientSecret": secret}
+        return status, compact({"credentials": shown, "principal": self.shown_principal(name)})
+
+    def list_principals(self, request):
+        self.in_realm(request)
+        return 200, compact({"principals": [self.shown_principal(name) for name in sorted(self.principals)]})
+
+    def create_principal(self, request):
+        name = principal_name(request.body())
+        self.in_realm(request)
+        if name in self.principals:
+            refuse("NameTaken", name)
+        client_id = drawn(request, r'"clientId":"([0-9a-f]{16})"').encode()
+        secret = drawn(request, r'"clientSecret":"([0-9a-f]{32})"').encode()
+        self.principals[name] = Principal(self.new_id(), client_id, digest_of(secret))
+        return self.credentials(201, name, secret)
+
+    def get_principal(self, request, segment):
+        name = plain_segment(segment)
+        self.in_realm(request)
+        self.principal(name)
+        return 200, compact(self.shown_principal(name))
+
+    def drop_principal(self, request, segment):
+        name = plain_segment(segment)
+        self.in_realm(request)
+        row = self.principal(name)
+        if name == b"root":
+            refuse("Reserved", name)
+        del self.principals[name]
+        self.members = [member for member in self.members if member[0] != row.id]
+        return 204, None
+
+    def rotate(self, request, segment):
+        name = plain_segment(segment)
+        self.in_realm(request)
+        row = self.principal(name)
+        secret = drawn(request, r'"clientSecret":"([0-9a-f]{32})"').encode()
+        row.digest = digest_of(secret)
+        return self.credentials(200, name, secret)
+
+    def list_members(self, request, segment):
+        name = plain_segment(segment)
+        self.in_realm(request)
+        row = self.principal(name)
+        return 200, roles_listed(self.principal_roles, [role for member, role in self.members if member == row.id])
+
+    def add_member(self, request, segment):
+        name = plain_segment(segment)
+        role_name = principal_role_name(request.body())
+        self.in_realm(request)
+        add(self.members, (self.principal(name).id, self.principal_role(role_name)))
+        return 201, ""
+
+    def end_member(self, request, segment, second):
+        name, role_name = plain_segment(segment), plain_segment(second)
+        self.in_realm(request)
+        member = (self.principal(name).id, self.principal_role(role_name))
+        if member not in self.members:
+            refuse("NoSuchRole", role_name)
+        if (name, role_name) == (b"root", b"service_admin"):
+            refuse("Reserved", name)
+        self.members.remove(member)
+        return 204, None
+
+    def list_principal_roles(self, request):
+        self.in_realm(request)
+        return 200, roles_listed(self.principal_roles, self.principal_roles.values())
+
+    def create_principal_role(self, request):
+        name = principal_role_name(request.body())
+        self.in_realm(request)
+        if name in self.principal_roles:
+            refuse("NameTaken", name)
+        self.principal_roles[name] = self.new_id()
+        return 201, ""
+
+    def get_principal_role(self, request, segment):
+        name = plain_segment(segment)
+        self.in_realm(request)
+        self.principal_role(name)
+        return 200, compact({"name": name})
+
+    def drop_principal_role(self, request, segment):
+        name = plain_segment(segment)
+        self.in_realm(request)
+        role = self.principal_role(name)
+        if name == b"service_admin":
+            refuse("Reserved", name)
+        del self.principal_roles[name]
+        self.members = [member for member in self.members if member[1] != role]
+        self.joins = [join for join in self.joins if join[0] != role]
+        return 204, None
+
+    # Roles of catalogues, joins and grants
+
+    def managed(self, request, name):
+        """The catalogue of a name whose access the caller manages."""
+        return self.in_catalog(request, name, "CATALOG_MANAGE_ACCESS")
+
+    def forget_catalog_role(self, role):
+        self.joins = [join for join in self.joins if join[1] != role]
+        self.grants = [grant for grant in self.grants if grant[0] != role]
+
+    def list_joins(self, request, segment, second):
+        role_name, name = plain_segment(segment), plain_segment(second)
+        row = self.managed(request, name)
+        role = self.principal_role(role_name)
+        return 200, roles_listed(row.roles, [joined for other, joined in self.joins if other == role])
+
+    def add_join(self, request, segment, second):
+        role_name, name = plain_segment(segment), plain_segment(second)
+        joined_name = catalog_role_name(request.body())
+        row = self.managed(request, name)
+        add(self.joins, (self.principal_role(role_name), catalog_role(row, joined_name)))
+        return 201, ""
+
+    def end_join(self, request, segment, second, third):
+        role_name, name, joined_name = plain_segment(segment), plain_segment(second), plain_segment(third)
+        row = self.managed(request, name)
+        join = (self.principal_role(role_name), catalog_role(row, joined_name))
+        if join not in self.joins:
+            refuse("NoSuchRole", joined_name)
+        if (role_name, joined_name) == (b"service_admin", b"catalog_admin"):
+            refuse("Reserved", joined_name)
+        self.joins.remove(join)
+        return 204, None
+
+    def list_catalog_roles(self, request, segment):
+        row = self.managed(request, plain_segment(segment))
+        return 200, roles_listed(row.roles, row.roles.values())
+
+    def create_catalog_role(self, request, segment):
+        name = plain_segment(segment)
+        role_name = catalog_role_name(request.body())
+        row = self.managed(request, name)
+        if role_name in row.roles:
+            refuse("NameTaken", role_name)
+        row.roles[role_name] = self.new_id()
+        return 201, ""
+
+    def get_catalog_role(self, request, segment, second):
+        name, role_name = plain_segment(segment), plain_segment(second)
+        catalog_role(self.managed(request, name), role_name)
+        return 200, compact({"name": role_name})
+
+    def drop_catalog_role(self, request, segment, second):
+        name, role_name = plain_segment(segment), plain_segment(second)
+        row = self.managed(request, name)
+        role = catalog_role(row, role_name)
+        if role_name == b"catalog_admin":
+            refuse("Reserved", role_name)
+        del row.roles[role_name]
+        self.forget_catalog_role(role)
+        return 204, None
+
+    def list_grants(self, request, segment, second):
+        name, role_name = plain_segment(segment), plain_segment(second)
+        row = self.managed(request, name)
+        role = catalog_role(row, role_name)
+        paths = {namespace.id: path for path, namespace in row.namespaces.items()}
+        listed = []
+        for _, privilege, (kind, id) in sorted(filter(lambda grant: grant[0] == role, self.grants), key=place_of_grant):
+            within = {"namespace": paths[id]} if kind == "namespace" else {}
+            listed.append({**within, "privilege": privilege, "type": kind})
+        return 200, compact({"grants": listed})
+
+    def grant(self, request, name, role_name):
+        """The catalogue of a name, and the grant that a body names, of its role, on what is there."""
+        kind, privilege, path, part = required(request.body(), "grant", new_grant)
+        row = self.managed(request, name)
+        refuse_missing(row, path or ())
+        if part is not None:
+            refuse({"table": "NoTable", "view": "NoView"}[kind], b"%b.%b" % (dotted(path), part))
+        on = ("namespace", row.namespaces[path].id) if path else ("catalog", row.id)
+        return row, (catalog_role(row, role_name), privilege, on)
+
+    def add_grant(self, request, segment, second):
+        _, grant = self.grant(request, plain_segment(segment), plain_segment(second))
+        add(self.grants, grant)
+        return 201, ""
+
+    def revoke(self, request, segment, second):
+        name, role_name = plain_segment(segment), plain_segment(second)
+        row, grant = self.grant(request, name, role_name)
+        if grant not in self.grants:
+            refuse("NoSuchRole", grant[1].encode())
+        if role_name == b"catalog_admin" and grant[1] in FIRST_GRANTS and grant[2] == ("catalog", row.id):
+            refuse("Reserved", role_name)
+        self.grants.remove(grant)
+        return 201, ""
+
+
+def drawn(request, pattern):
+    """What the program drew, as its answer tells it. An answer that tells none is another one than is due."""
+    found = re.search(pattern, request.answered)
+    return found.group(1) if found else "nothing was drawn"
+
+
+def add(facts, fact):
+    if fact not in facts:
+        facts.append(fact)
+
+
+def catalog_role(row, name):
+    if name not in row.roles:
+        refuse("NoSuchRole", name)
+    return row.roles[name]
+
+
+def refuse_missing(row, path):
+    """Refuses a path that isn't there by its first part that isn't."""
+    for depth in range(1, len(path) + 1):
+        if path[:depth] not in row.namespaces:
+            refuse("NoNamespace", dotted(path[:depth]))
+
+
+def refuse_many(properties):
+    if len(properties) > 1000:
+        refuse("Limit", b"properties 1000")
+
+
+def place_of_grant(grant):
+    """Grants are listed by privilege, then by what they are on: the catalogue first, then namespaces by their ids."""
+    _, privilege, on = grant
+    return PRIVILEGES.index(privilege), on
+
+
+def roles_listed(names, ids):
+    return compact({"roles": [{"name": name} for name in sorted(names) if names[name] in ids]})
