@@ -2,6 +2,9 @@
 //! ends with its status.
 #![tactic(auto)]
 
+ghost use Rattle.std.specs.Prelude.{◌≡◌};
+ghost use Rattle.pol_cli.specs.Run.{status_of};
+
 mod program;
 mod report;
 #[cfg(test)]
@@ -28,7 +31,9 @@ fn main(rt: HostRuntime) -> ExitCode {
 
 /// Runs the words that the program was started with over the real devices. A word that isn't UTF-8 makes a faulty
 /// line.
-fn run_words(rt: &HostRuntime) -> Report {
+fn run_words(rt: &HostRuntime) -> Report
+    ensures status { result.status ≡ status_of result.reason }
+{
     let alloc = rt.alloc();
     let words = match words_of(rt) {
         Ok(words) => words,
