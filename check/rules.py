@@ -1,4 +1,4 @@
-"""The catalogue's rules as a plain program, written apart from the proved one so that the two can be compared.
+"""The catalogue's rules written a second time, as a plain program, so that the proved one can be compared with it.
 
 `Rules.answer` answers one request after another. Of what the program draws at random, which is told by its own answer,
 it takes the program's word. No session expires here, and of the bounds on quantities only those on allowed locations
