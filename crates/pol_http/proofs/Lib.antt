@@ -1,3 +1,4 @@
+mod AnswerLemmas
 pub mod FieldLemmas
 pub mod TextLemmas
 pub mod TargetLemmas

@@ -1,5 +1,5 @@
 //! Answers and their bytes.
-ghost use Rattle.std.specs.Prelude.{◌≡◌, ◌++◌, vec_len, IfOk, OnOk, decimal};
+ghost use Rattle.std.specs.Prelude.{◌≡◌, ◌++◌, IfOk, string_bytes};
 ghost use Rattle.pol_http.specs.Answer as spec;
 
 use http::StatusCode;
@@ -39,33 +39,19 @@ pub enum Body {
 }
 
 /// The bytes of the answer.
-#[tactic(auto, unfolding(crate::specs::Answer::answer_text))]
 pub fn write_answer(alloc: Global, answer: &Answer) -> Result<Vec<u8>, OutOfMemory>
     ensures { IfOk result (λ text. text.items ≡ spec.answer_text answer.now) }
 {
-    let mut out = Vec::new(alloc);
-    write_status_line(alloc, &mut out, answer.status)?;
-    write_body_fields(alloc, &mut out, answer)?;
-    write_close(&mut out, answer.close)?;
-    out.extend_from_slice(b"\r\n")?;
-    out.extend_from_slice(content(answer))?;
-    Ok(out)
-}
-
-#[tactic(auto, unfolding(crate::specs::Answer::status_line))]
-fn write_status_line(alloc: Global, out: &mut Vec<u8>, status: u16) -> Result<(), OutOfMemory>
-    ensures { OnOk result (out.new.items ≡ out.old.items ++ spec.status_line status) }
-{
-    out.extend_from_slice(b"HTTP/1.1 ")?;
-    write_number(alloc, out, u64::from(status))?;
-    out.extend_from_slice(b" ")?;
-    out.extend_from_slice(phrase(status).as_bytes())?;
-    out.extend_from_slice(b"\r\n")?;
-    Ok(())
+    let fields = body_fields(alloc, answer)?;
+    let (fields, close) = (fields.as_str(), close_field(answer.close));
+    let (status, phrase) = (answer.status, phrase(answer.status));
+    let head = format!(in alloc; "HTTP/1.1 {status} {phrase}\r\n{fields}{close}\r\n")?;
+    let mut text = head.into_bytes();
+    text.extend_from_slice(content(answer))?;
+    Ok(text)
 }
 
 /// The phrase of the status code, if it has one.
-#[tactic(auto, unfolding(crate::specs::Answer::phrase))]
 fn phrase(status: u16) -> &'static str
     ensures { result.now ≡ spec.phrase status }
 {
@@ -79,69 +65,47 @@ fn phrase(status: u16) -> &'static str
 }
 
 /// The fields that speak of the body, if the answer has any.
-#[tactic(auto, unfolding(crate::specs::Answer::body_fields))]
-fn write_body_fields(alloc: Global, out: &mut Vec<u8>, answer: &Answer) -> Result<(), OutOfMemory>
-    ensures { OnOk result (out.new.items ≡ out.old.items ++ spec.body_fields answer.now) }
+fn body_fields(alloc: Global, answer: &Answer) -> Result<String, OutOfMemory>
+    ensures { IfOk result (λ text. string_bytes text ≡ spec.body_fields answer.now) }
 {
     if is_bare(answer) {
-        return Ok(());
+        return Ok(String::new(alloc));
     }
-    write_type(out, &answer.body)?;
-    write_length(alloc, out, &answer.body)?;
-    write_cache(out, &answer.body)
+    let body = &answer.body;
+    let (kind, length, cache) = (type_field(body), length(body), cache_fields(body));
+    Ok(format!(in alloc; "{kind}content-length: {length}\r\n{cache}")?)
 }
 
+/// The type of the content, where there is some (RFC 9110, section 8.3).
 #[tactic(auto, unfolding(crate::specs::Answer::type_field))]
-fn write_type(out: &mut Vec<u8>, body: &Body) -> Result<(), OutOfMemory>
-    ensures { OnOk result (out.new.items ≡ out.old.items ++ spec.type_field body.now) }
+fn type_field(body: &Body) -> &'static str
+    ensures { result.now ≡ spec.type_field body.now }
 {
     match body {
-        Body::Nothing | Body::Length(_) => {}
-        Body::Json(_) | Body::Token(_) => {
-            out.extend_from_slice(b"content-type: application/json\r\n")?;
-        }
-        Body::Object(_) => {
-            out.extend_from_slice(b"content-type: application/octet-stream\r\n")?;
-        }
+        Body::Nothing | Body::Length(_) => "",
+        Body::Json(_) | Body::Token(_) => "content-type: application/json\r\n",
+        Body::Object(_) => "content-type: application/octet-stream\r\n",
     }
-    Ok(())
 }
 
-#[tactic(auto, unfolding(crate::specs::Answer::length_field))]
-fn write_length(alloc: Global, out: &mut Vec<u8>, body: &Body) -> Result<(), OutOfMemory>
-    ensures { OnOk result (out.new.items ≡ out.old.items ++ spec.length_field body.now) }
-{
-    out.extend_from_slice(b"content-length: ")?;
-    write_number(alloc, out, length(body))?;
-    out.extend_from_slice(b"\r\n")?;
-    Ok(())
-}
-
+/// What keeps a token out of caches (RFC 6749, section 5.1).
 #[tactic(auto, unfolding(crate::specs::Answer::cache_fields))]
-fn write_cache(out: &mut Vec<u8>, body: &Body) -> Result<(), OutOfMemory>
-    ensures { OnOk result (out.new.items ≡ out.old.items ++ spec.cache_fields body.now) }
+fn cache_fields(body: &Body) -> &'static str
+    ensures { result.now ≡ spec.cache_fields body.now }
 {
     if let Body::Token(_) = body {
-        out.extend_from_slice(b"cache-control: no-store\r\npragma: no-cache\r\n")?;
+        "cache-control: no-store\r\npragma: no-cache\r\n"
+    } else {
+        ""
     }
-    Ok(())
 }
 
+/// What tells that the connection ends after the answer (RFC 9112, section 9.6).
 #[tactic(auto, unfolding(crate::specs::Answer::close_field))]
-fn write_close(out: &mut Vec<u8>, close: bool) -> Result<(), OutOfMemory>
-    ensures { OnOk result (out.new.items ≡ out.old.items ++ spec.close_field close) }
+fn close_field(close: bool) -> &'static str
+    ensures { result.now ≡ spec.close_field close }
 {
-    if close {
-        out.extend_from_slice(b"connection: close\r\n")?;
-    }
-    Ok(())
-}
-
-fn write_number(alloc: Global, out: &mut Vec<u8>, number: u64) -> Result<(), OutOfMemory>
-    ensures { OnOk result (out.new.items ≡ out.old.items ++ decimal number) }
-{
-    out.extend_from_slice(number.to_string(alloc)?.as_bytes())?;
-    Ok(())
+    if close { "connection: close\r\n" } else { "" }
 }
 
 /// The bytes behind the head.
@@ -158,6 +122,7 @@ fn content(answer: &Answer) -> &[u8]
     }
 }
 
+/// The length that is said of the body (RFC 9110, section 8.6).
 fn length(body: &Body) -> u64
     ensures { result ≡ spec.length_of body.now }
 {

@@ -53,7 +53,7 @@ pub struct Head {
 }
 
 /// What stands at the front of the bytes.
-#[derive(Debug, Drop)]
+#[derive(Drop)]
 pub(crate) enum Front {
     Whole {
         head: Head,

@@ -14,6 +14,3 @@ pub use answer::{Answer, Body, CONTINUE, INSUFFICIENT_STORAGE, write_answer};
 pub use cut::cut_messages;
 pub use head::{BODY_LIMIT, FIELD_LIMIT, HEAD_LIMIT, Head, HeadRefused};
 pub use next::{Next, missing_bytes, next_message};
-
-#[cfg(test)]
-mod tests;

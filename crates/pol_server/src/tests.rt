@@ -1,3 +1,5 @@
+mod messages;
+
 use super::*;
 use pol_shared::Kept;
 use pol_wire::{CountingDraw, Link, MemoryClock, MemorySink, MemorySource};

@@ -1,10 +1,12 @@
 ghost use Rattle.std.specs.Prelude.{◌≡◌, ◌≤◌, ◌⊎◌, length, vec_len, IfOk, IfSome};
 ghost use Rattle.pol_http.specs.Next.{IsUnfinished};
 ghost use Rattle.pol_http.specs.Answer.{length_of};
-ghost use Rattle.pol_http.specs.declared.tests.Told.TheVariants.{Partial};
+ghost use Rattle.pol_server.specs.declared.tests.messages.Told.TheVariants.{Partial};
 
-use super::*;
 use httparse::spans::Span;
+use pol_http::{
+    Answer, Body, HeadRefused, Next, cut_messages, missing_bytes, next_message, write_answer,
+};
 use pol_types::{Bytes, OutOfMemory};
 use std::alloc::{AllocError, Global};
 use std::test::Fail;
