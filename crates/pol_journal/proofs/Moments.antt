@@ -1,7 +1,7 @@
 -- How runs of calls of a disk go on.
-use Rattle.std.proofs.Common.{inl, inr, ⊎_elim, ℕ, List, arith}
+use Rattle.std.proofs.Common.{◌≡◌, inl, inr, ⊎_elim, ℕ, List, Option, refl, ◌∙◌, arith}
 use Rattle.pol_disk.specs.Disk.{Elapses, Follows, LeavesOnly}
-use Rattle.pol_journal.specs.Crash.{After, LeavesAfter}
+use Rattle.pol_journal.specs.Crash.{After, IsSame, IsUntouched, LeavesAfter}
 
 abbrev Step : Type 1
 Step = List ℕ → List ℕ → Type 0
@@ -71,4 +71,34 @@ module _ {D : Type 0} (clock : D → ℕ) (left_since : D → ℕ → List ℕ �
     later = omega arith;
     each = λ image left. holds image (only image left);
     before = λ t image within left. inl left;
+  }
+
+-- Calls that change nothing
+module _ {D : Type 0} (clock : D → ℕ) (left_since : D → ℕ → List ℕ → Type 0) (may_leave : D → List ℕ → Type 0) (seen : D → Option (List ℕ)) (size : D → Option ℕ) where
+  abbrev Same : D → D → Type 0
+  Same = IsUntouched clock left_since may_leave seen size
+
+  pub same_after_none : (old : D) → ((image : List ℕ) → left_since old (clock old) image → may_leave old image) → Same old old
+  same_after_none old only = record {
+    seen_same = refl;
+    size_same = refl;
+    images = record {
+      moments = no_call clock left_since may_leave (After IsSame (may_leave old)) old only (λ image left. (image, left, refl));
+      now = λ image left. (image, left, refl);
+    };
+  }
+
+  pub same_after_call : (old new : D) → ((image : List ℕ) → left_since old (clock old) image → may_leave old image) → seen new ≡ seen old → size new ≡ size old
+      → ((image : List ℕ) → may_leave new image → may_leave old image) → Elapses (clock old) (clock new) (left_since old) (left_since new) (may_leave new) → Same old new
+  same_after_call old new only reads long fewer time = record {
+    seen_same = reads;
+    size_same = long;
+    images = one_call clock left_since may_leave IsSame old new (λ image. refl) only time (λ image left. (image, fewer image left, refl));
+  }
+
+  pub same_after_both : (old mid new : D) → Same old mid → Same mid new → Same old new
+  same_after_both old mid new first second = record {
+    seen_same = second.seen_same ∙ first.seen_same;
+    size_same = second.size_same ∙ first.size_same;
+    images = two_runs clock left_since may_leave IsSame IsSame IsSame old mid new (λ a b same. same) (λ a b c same more. more ∙ same) first.images second.images;
   }

@@ -1,6 +1,7 @@
 use Rattle.std.proofs.Common.{◌≡◌, Some, ◌∙◌, ℕ, ◌+◌, length, take, drop, ap, arith}
 use Rattle.std.proofs.lemmas.List.{take_at}
 use Rattle.pol_journal.specs.Format.{IsRecordOf}
+use Rattle.pol_journal.proofs.Moments.{same_after_both}
 use Rattle.pol_journal.proofs.ReadLemmas.{when_told, told_of, cannot_fail, record_fits, record_read}
 use Rattle.pol_journal.proofs.reads.read_record.Goals as goal
 
@@ -18,3 +19,18 @@ returns-clause-record g c = when_told (g.D.Disk.seen c.args.disk.now) _ (λ byte
     record_read bytes c.args.gate c.in-Some.length _ c.read_whole.new.buf stands
     (take_at c.read_whole.new.buf _ _ (omega (arith, c.read_whole.auto.buf, c.deref_mut.ensures.len, c.in_ok-body.ensures.len)))
     (read ∙ ap (λ (n : ℕ). take n (drop (c.args.gate + 9) bytes)) (omega (arith, c.deref_mut.ensures.len, c.in_ok-body.ensures.len))))
+
+pub returns-in_err-read_whole-clause-untouched : goal.returns-in_err-read_whole-clause-untouched
+returns-in_err-read_whole-clause-untouched g c =
+    let d = g.D.Disk in
+    same_after_both d.clock d.left_since d.may_leave d.seen d.size _ c.next_length.new.disk _ c.next_length.ensures.untouched c.read_whole.ensures.untouched
+
+pub returns-then-not-branch-clause-untouched : goal.returns-then-not-branch-clause-untouched
+returns-then-not-branch-clause-untouched g c =
+    let d = g.D.Disk in
+    same_after_both d.clock d.left_since d.may_leave d.seen d.size _ c.next_length.new.disk _ c.next_length.ensures.untouched c.read_whole.ensures.untouched
+
+pub returns-clause-untouched : goal.returns-clause-untouched
+returns-clause-untouched g c =
+    let d = g.D.Disk in
+    same_after_both d.clock d.left_since d.may_leave d.seen d.size _ c.next_length.new.disk _ c.next_length.ensures.untouched c.read_whole.ensures.untouched
