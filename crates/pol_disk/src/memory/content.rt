@@ -1,6 +1,6 @@
-ghost use Rattle.std.specs.Prelude.{◌≡◌, ◌≤◌, ◌+◌, IfOk, OnOk, OnErr, length, take};
+ghost use Rattle.std.specs.Prelude.{◌≡◌, ◌≤◌, ◌+◌, ◌-◌, ◌++◌, IfOk, OnOk, OnErr, length, take};
 ghost use Rattle.pol_disk.specs.Disk.{written, Follows, Torn, CutShort};
-ghost use Rattle.pol_disk.specs.Content.{settled, torn_at, torn_past, written_at, cut_to, image_of, IsImage};
+ghost use Rattle.pol_disk.specs.Content.{settled, unsure, torn_at, torn_past, written_at, cut_to, image_of, IsImage};
 
 use pol_types::OutOfMemory;
 use pol_wire::Failed;
@@ -39,7 +39,6 @@ impl Content {
     }
 
     /// The same after a write. Where it was refused, it may have reached the disk in part, and a read doesn't show it.
-    #[tactic(auto, using(crate::proofs::ImagesLemmas::images))]
     pub(crate) fn after_write(
         &self,
         alloc: Global,
@@ -53,16 +52,14 @@ impl Content {
         ensures crash { IfOk result (λ next.
             Follows (Torn at (at + length bytes.now)) (IsImage self.now) (IsImage next)) }
     {
-        let unsure = vec![in alloc; None; bytes.len()]?;
         Ok(Content {
             seen: read_after_write(alloc, &self.seen, at, bytes, answer)?,
-            sure: overwritten(alloc, &self.sure, at, &unsure)?,
+            sure: sure_after_write(alloc, &self.sure, at, bytes.len())?,
             least: self.least,
         })
     }
 
     /// The same after a cut. Where it was refused, it may have reached the disk in part, and a read doesn't show it.
-    #[tactic(auto, using(crate::proofs::ImagesLemmas::images))]
     pub(crate) fn after_cut(
         &self,
         alloc: Global,
@@ -73,12 +70,9 @@ impl Content {
         ensures err { OnErr answer (IfOk result (λ next. next ≡ torn_past kept self.now)) }
         ensures crash { IfOk result (λ next. Follows (CutShort kept) (IsImage self.now) (IsImage next)) }
     {
-        let unsure = vec![in alloc; None; self.sure.len().saturating_sub(kept)]?;
-        let mut sure = Vec::from_slice(alloc, front(&self.sure, kept))?;
-        sure.extend_from_slice(&unsure)?;
         Ok(Content {
             seen: read_after_cut(alloc, &self.seen, kept, answer)?,
-            sure,
+            sure: sure_after_cut(alloc, &self.sure, kept)?,
             least: self.least.min(kept),
         })
     }
@@ -174,6 +168,34 @@ fn read_after_cut(
         Ok(()) => Ok(Vec::from_slice(alloc, front(seen, kept))?),
         Err(Failed) => Ok(Vec::from_slice(alloc, seen)?),
     }
+}
+
+// What is sure after a write of so many bytes, cut off at any point.
+fn sure_after_write(
+    alloc: Global,
+    sure: &[Option<u8>],
+    at: usize,
+    count: usize,
+) -> Result<Vec<Option<u8>>, OutOfMemory>
+    requires { at ≤ length sure.now }
+    ensures { IfOk result (λ next. next.items ≡ written at (unsure count) sure.now) }
+{
+    let unsure = vec![in alloc; None; count]?;
+    overwritten(alloc, sure, at, &unsure)
+}
+
+// What is sure after a cut, cut off at any point.
+fn sure_after_cut(
+    alloc: Global,
+    sure: &[Option<u8>],
+    kept: usize,
+) -> Result<Vec<Option<u8>>, OutOfMemory>
+    ensures { IfOk result (λ next. next.items ≡ take kept sure.now ++ unsure (length sure.now - kept)) }
+{
+    let unsure = vec![in alloc; None; sure.len().saturating_sub(kept)]?;
+    let mut next = Vec::from_slice(alloc, front(sure, kept))?;
+    next.extend_from_slice(&unsure)?;
+    Ok(next)
 }
 
 // The first `count` items, or all where there are fewer.
