@@ -1,8 +1,8 @@
 -- Lemmas on the images of a disk in memory.
-use Rattle.std.proofs.Common.{◌≡◌, ◌⊎◌, inl, inr, ⊎_elim, ℕ, zero, suc, ◌+◌, ◌-◌, ◌<◌, ◌≤◌, min, max, List, [], ◌∷◌, ◌++◌, map, length, take, drop, replicate, Option, Some, None, refl, sym, ap, ◌∙◌, subst, arith, append-nil, length-append, length-drop, take-append-drop}
+use Rattle.std.proofs.Common.{◌≡◌, ◌⊎◌, inl, inr, ℕ, zero, suc, ◌+◌, ◌-◌, ◌<◌, ◌≤◌, min, max, List, [], ◌∷◌, ◌++◌, map, length, take, drop, replicate, Option, Some, None, refl, sym, ap, ◌∙◌, subst, arith, append-nil, length-append, length-drop}
 use Rattle.std.proofs.lemmas.List.{length-take, length-replicate, drop_all}
 use Rattle.std.proofs.lemmas.Bool.{cases_lt}
-use Rattle.pol_disk.specs.Content.{ContentState, Fits, IsImage, unsure, image_of, settled, torn_at, written_at, torn_past, cut_to}
+use Rattle.pol_disk.specs.Content.{ContentState, Fits, IsImage, unsure, image_of, settled, torn_at, torn_past}
 use Rattle.pol_disk.specs.Disk.{written, Torn, CutShort, Follows}
 
 -- the bytes of an image that has these where nothing is sure
@@ -125,15 +125,6 @@ length_written start items old within =
     length-append (take start old ++ items) (drop end old) ∙ ap (λ (front : ℕ). front + length (drop end old)) (length-append (take start old) items) in
     omega (arith, parts, length-take start old, length-drop end old)
 
--- a whole write is one that was cut off at its end
-pub written_torn : (start : ℕ) (items old : List ℕ) → start ≤ length old → Torn start (start + length items) old (written start items old)
-written_torn start items old within = record {
-  middle = items;
-  around = refl;
-  no_shorter = omega (arith, length_written start items old within);
-  no_longer = omega (arith, length_written start items old within);
-}
-
 -- what a write that didn't reach the disk may leave
 torn_after : (start count : ℕ) (old : ContentState) (seen : List ℕ) → start ≤ length old.sure → old.least ≤ length old.sure → Torn start (start + count) old.seen seen
     → Follows (Torn start (start + count)) (IsImage old) (IsImage (record (torn_at start count old) { seen = seen }))
@@ -158,15 +149,6 @@ torn_follows start count old next within least torn is =
 
 pub CutShort-refl : (kept : ℕ) (image : List ℕ) → CutShort kept image image
 CutShort-refl kept image = record { front = refl; no_longer = omega arith }
-
-take-take : (kept : ℕ) (bytes : List ℕ) → take kept (take kept bytes) ≡ take kept bytes
-take-take zero bytes = refl
-take-take (suc kept) [] = refl
-take-take (suc kept) (byte ∷ bytes) = ap (λ (rest : List ℕ). byte ∷ rest) (take-take kept bytes)
-
--- a whole cut is one that was cut off at its end
-pub take_cut_short : (kept : ℕ) (bytes : List ℕ) → CutShort kept bytes (take kept bytes)
-take_cut_short kept bytes = record { front = take-take kept bytes; no_longer = omega (arith, length-take kept bytes) }
 
 -- an image that is no longer than what a cut kept was one before
 fits_before : (kept : ℕ) (sure rest : List (Option ℕ)) (image : List ℕ) → length image ≤ kept → length image ≤ length sure → Fits (take kept sure ++ rest) image → Fits sure image
@@ -232,9 +214,3 @@ cut_follows kept old next least short sures leasts image (inr fits) =
 -- a call that did nothing
 pub torn_same : (start end : ℕ) (content : ContentState) → start ≤ end → Follows (Torn start end) (IsImage content) (IsImage content)
 torn_same start end content within image is = (image, is, Torn-refl start end image within)
-
-pub cut_same : (kept : ℕ) (content : ContentState) → Follows (CutShort kept) (IsImage content) (IsImage content)
-cut_same kept content image is = (image, is, CutShort-refl kept image)
-
--- what the calls of a disk in memory need
-pub ruleset images = (length_written, written_torn, Torn-refl, torn_same, torn_follows, CutShort-refl, take_cut_short, cut_same, cut_follows, settled_only, overlay_is_image)

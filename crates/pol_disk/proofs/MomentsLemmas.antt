@@ -1,5 +1,5 @@
 -- Lemmas on the moments of a disk in memory.
-use Rattle.std.proofs.Common.{◌≡◌, ◌⊎◌, inl, inr, ⊎_elim, ℕ, zero, suc, ◌+◌, ◌≤◌, List, [], ◌∷◌, ◌++◌, length, drop, refl, sym, ap, ◌∙◌, subst, arith, length-append}
+use Rattle.std.proofs.Common.{◌≡◌, ◌⊎◌, inl, inr, ⊎_elim, ℕ, zero, suc, ◌≤◌, List, [], ◌∷◌, ◌++◌, length, drop, refl, sym, ap, ◌∙◌, subst, arith, length-append}
 use Rattle.pol_disk.specs.Content.{ContentState, IsImage}
 use Rattle.pol_disk.specs.Disk.{Elapses}
 use Rattle.pol_disk.specs.MemoryDisk.{MemoryState, WasImage, LeftSince}

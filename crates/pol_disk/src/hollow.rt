@@ -6,7 +6,7 @@ use std::marker::Model;
 
 /// A disk that keeps its length alone, and takes no memory. It takes every write, cut and sync, and a read gives
 /// zero bytes. It never fails. It tells its length, and nothing else of what it holds.
-#[derive(Debug, Drop)]
+#[derive(Drop)]
 pub struct HollowDisk {
     length: u64,
 }

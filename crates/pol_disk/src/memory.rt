@@ -117,7 +117,6 @@ impl Disk for MemoryDisk {
         Ok(count)
     }
 
-    #[tactic(auto, using(crate::proofs::ImagesLemmas::images))]
     fn write_at(&mut self, at: u64, bytes: &[u8]) -> Result<(), Failed>
         requires within { at ≤ length self.old.content.seen }
         requires fits { at + length bytes.now ≤ 2 ^ 64 - 1 }
@@ -140,7 +139,6 @@ impl Disk for MemoryDisk {
         answer
     }
 
-    #[tactic(auto, using(crate::proofs::ImagesLemmas::images))]
     fn cut(&mut self, kept: u64) -> Result<(), Failed>
         ensures cut { OnOk result (self.new.content.seen ≡ take kept self.old.content.seen) }
         ensures cut_short { OnErr result (CutShort kept self.old.content.seen self.new.content.seen) }
@@ -159,7 +157,6 @@ impl Disk for MemoryDisk {
         answer
     }
 
-    #[tactic(auto, using(crate::proofs::ImagesLemmas::images))]
     fn sync(&mut self) -> Result<(), Failed>
         ensures durable { OnOk result ((image : List ℕ) → IsImage self.new.content image → image ≡ self.new.content.seen) }
         ensures seen { Some self.new.content.seen ≡ Some self.old.content.seen }

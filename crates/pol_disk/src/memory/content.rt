@@ -8,7 +8,7 @@ use std::alloc::Global;
 use std::marker::Model;
 
 /// What a disk in memory holds at a moment, and what a crash then may leave. Places are counted in bytes.
-#[derive(Debug, Drop)]
+#[derive(Drop)]
 pub struct Content {
     seen: Vec<u8>,
     sure: Vec<Option<u8>>,
@@ -107,7 +107,6 @@ impl Content {
 
     /// The image that has the bytes of `filling` where a crash may leave any bytes, and is as long as `filling`.
     /// Each image that isn't what a read gives is that of itself.
-    #[tactic(auto, using(crate::proofs::ImagesLemmas::images))]
     pub fn image(&self, alloc: Global, filling: &[u8]) -> Result<Vec<u8>, OutOfMemory>
         requires no_shorter { self.now.least ≤ length filling.now }
         requires no_longer { length filling.now ≤ length self.now.sure }
@@ -133,7 +132,6 @@ impl Content {
 }
 
 // What a read gives after a write, or after one that was refused.
-#[tactic(auto, using(crate::proofs::ImagesLemmas::images))]
 fn read_after_write(
     alloc: Global,
     seen: &[u8],
@@ -153,7 +151,6 @@ fn read_after_write(
 }
 
 // What a read gives after a cut, or after one that was refused.
-#[tactic(auto, using(crate::proofs::ImagesLemmas::images))]
 fn read_after_cut(
     alloc: Global,
     seen: &[u8],

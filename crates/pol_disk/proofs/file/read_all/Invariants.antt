@@ -1,4 +1,4 @@
-use Rattle.std.proofs.Common.{◌≡◌, ◌-◌, ◌≤◌, length}
+use Rattle.std.proofs.Common.{◌-◌, ◌≤◌, length}
 use Rattle.pol_disk.proofs.file.read_all.Given as goal
 
 abbrev pub invariant-loop-count : goal.invariant-loop-count
