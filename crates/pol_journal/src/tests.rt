@@ -6,6 +6,7 @@ use pol_disk::{Content, Disk, FileDisk, HollowDisk, MemoryDisk};
 use pol_wire::Failed;
 use std::alloc::Global;
 use std::fs;
+use std::rt::Files;
 use std::test::Fail;
 
 const BODIES: [&[u8]; 3] = [b"ab", b"", b"c"];
@@ -201,22 +202,32 @@ fn file_of(alloc: Global, name: &[u8], tail: &[u8]) -> Option<Vec<u8>> {
     Some(bytes)
 }
 
-// The length of an objects journal just made and, where a body is given, appended to. Its file is to have this tail.
-fn length_with(alloc: Global, body: Option<&[u8]>, tail: &[u8]) -> Option<usize> {
-    let Ok(mut journal) = begun(disk_of(alloc, b"", &[])?, Kind::Objects) else {
-        return None;
-    };
-    let answer = match body {
-        Some(body) => journal.append(body),
-        None => Ok(()),
-    };
-    let disk = journal.close();
+// An objects journal just made over a disk whose calls of these numbers are to fail.
+fn objects_journal(alloc: Global, failing: &[u64]) -> Option<Journal<MemoryDisk>>
+    ensures { IfSome result IsReady }
+{
+    begun(disk_of(alloc, b"", failing)?, Kind::Objects).ok()
+}
+
+// The disk of an objects journal just made and, where a body is given, appended to.
+fn disk_with(alloc: Global, body: Option<&[u8]>) -> Option<MemoryDisk> {
+    let mut journal = objects_journal(alloc, &[])?;
+    if let Some(body) = body {
+        journal.append(body).ok()?;
+    }
+    Some(journal.close())
+}
+
+// The length of a disk's file, which is to be that of an objects journal with this tail.
+fn length_of(alloc: Global, disk: &MemoryDisk, tail: &[u8]) -> Option<usize> {
     let want = file_of(alloc, b"POLOBJ01", tail)?;
     let file = disk.content_at(disk.moment()).seen();
-    if answer.is_err() || file != want.as_slice() {
-        return None;
-    }
-    Some(file.len())
+    (file == want.as_slice()).then_some(file.len())
+}
+
+// The same of such a disk.
+fn length_with(alloc: Global, body: Option<&[u8]>, tail: &[u8]) -> Option<usize> {
+    length_of(alloc, &disk_with(alloc, body)?, tail)
 }
 
 #[test]
@@ -299,15 +310,26 @@ fn files_stand_for_their_records_or_are_refused(rt: HostRuntime) {
     assert_eq!(rt; first_other(rt.alloc(), &files), None);
 }
 
-// Whether all is appended though this call of the disk fails, or none where that call makes the journal. Each image of
-// each moment is to stand for a front of what was appended.
-fn is_kept(alloc: Global, failing: u64, last: u8) -> Option<bool> {
-    let (disk, answer) = written(disk_of(alloc, b"", &[failing])?, Kind::Objects);
-    let rank = last_rank(alloc, &disk, last)?;
+// Whether a disk where this call failed has all that was appended, or nothing where that call makes the journal. Each
+// image of each moment is to stand for a front of what was appended.
+fn is_as_wanted(
+    alloc: Global,
+    disk: &MemoryDisk,
+    answer: Result<(), JournalRefused>,
+    failing: u64,
+    last: u8,
+) -> Option<bool> {
+    let rank = last_rank(alloc, disk, last)?;
     if 1 <= failing && failing <= 8 {
         return Some(rank == 0 && matches!(answer, Err(JournalRefused::DiskFault)));
     }
     Some(rank == 4 && answer.is_ok())
+}
+
+// The same of a disk to which all is appended.
+fn is_kept(alloc: Global, failing: u64, last: u8) -> Option<bool> {
+    let (disk, answer) = written(disk_of(alloc, b"", &[failing])?, Kind::Objects);
+    is_as_wanted(alloc, &disk, answer, failing, last)
 }
 
 #[test]
@@ -319,21 +341,33 @@ fn every_image_of_each_moment_opens_to_a_front_of_what_was_appended(rt: HostRunt
     }
 }
 
+// What a repair answers after an append that is to leave it open whether its record is there.
+fn repair_of(journal: &mut Journal<MemoryDisk>) -> Option<Result<(), JournalRefused>>
+    requires { IsReady journal.old }
+{
+    match journal.append(BODIES[0]) {
+        Err(JournalRefused::Unknown) => Some(journal.repair()),
+        _ => None,
+    }
+}
+
 // Appends to a new journal and repairs, where calls 14 and `failing` of its disk fail: what the repair answered, and the
 // ranks of the images then.
 type Repaired = (Result<(), JournalRefused>, Ranks);
 
 fn repaired(alloc: Global, failing: u64) -> Option<Repaired> {
-    let Ok(mut journal) = begun(disk_of(alloc, b"", &[14, failing])?, Kind::Objects) else {
-        return None;
-    };
-    let Err(JournalRefused::Unknown) = journal.append(BODIES[0]) else {
-        return None;
-    };
-    let answer = journal.repair();
-    let disk = journal.close();
-    let ranks = ranks_at(alloc, disk.content_at(disk.moment()), 2)?;
-    Some((answer, ranks))
+    let mut journal = objects_journal(alloc, &[14, failing])?;
+    let answer = repair_of(&mut journal);
+    with_ranks(alloc, answer, &journal.close())
+}
+
+// An answer, and the ranks of a disk's images.
+fn with_ranks(
+    alloc: Global,
+    answer: Option<Result<(), JournalRefused>>,
+    disk: &MemoryDisk,
+) -> Option<Repaired> {
+    Some((answer?, ranks_at(alloc, disk.content_at(disk.moment()), 2)?))
 }
 
 #[test]
@@ -415,12 +449,20 @@ fn made_twice<D: Disk + Drop>(disk: D) -> (Result<(), JournalRefused>, Result<()
     (answer, again)
 }
 
+// The same of a disk over the file of this path.
+fn made_twice_in<R: Files + Copy>(
+    runtime: R,
+    path: String,
+) -> (Result<(), JournalRefused>, Result<(), JournalRefused>) {
+    made_twice(FileDisk::new(runtime, path))
+}
+
 #[test]
 fn journal_is_made_on_an_empty_file_alone(rt: HostRuntime) -> Result<(), Fail> {
     let alloc = rt.alloc();
     let name = "vanloquat_journal";
     let _ = fs::remove_file(&rt, name);
-    let made = made_twice(FileDisk::new(&rt, String::from_str(alloc, name)?));
+    let made = made_twice_in(&rt, String::from_str(alloc, name)?);
     assert!(rt; matches!(made, (Ok(()), Err(JournalRefused::JournalThere))));
     let file = FileDisk::new(&rt, String::from_str(alloc, name)?);
     let count = count_of(alloc, file, Kind::Catalogue, &BODIES);
@@ -434,9 +476,7 @@ fn moved<T: Send + Drop>(_value: T) {}
 
 #[test]
 fn journals_may_cross_threads(rt: HostRuntime) {
-    if let Some(disk) = disk_of(rt.alloc(), b"", &[]) {
-        if let Ok(journal) = begun(disk, Kind::Objects) {
-            moved(journal);
-        }
+    if let Some(journal) = objects_journal(rt.alloc(), &[]) {
+        moved(journal);
     }
 }
