@@ -78,16 +78,6 @@ module _ {D : Type 0} (clock : D → ℕ) (left_since : D → ℕ → List ℕ �
   abbrev Same : D → D → Type 0
   Same = IsUntouched clock left_since may_leave seen size
 
-  pub same_after_none : (old : D) → ((image : List ℕ) → left_since old (clock old) image → may_leave old image) → Same old old
-  same_after_none old only = record {
-    seen_same = refl;
-    size_same = refl;
-    images = record {
-      moments = no_call clock left_since may_leave (After IsSame (may_leave old)) old only (λ image left. (image, left, refl));
-      now = λ image left. (image, left, refl);
-    };
-  }
-
   pub same_after_call : (old new : D) → ((image : List ℕ) → left_since old (clock old) image → may_leave old image) → seen new ≡ seen old → size new ≡ size old
       → ((image : List ℕ) → may_leave new image → may_leave old image) → Elapses (clock old) (clock new) (left_since old) (left_since new) (may_leave new) → Same old new
   same_after_call old new only reads long fewer time = record {
