@@ -64,15 +64,6 @@ module _ {D : Type 0} (clock : D → ℕ) (left_since : D → ℕ → List ℕ �
     before = λ t image within left. ⊎_elim (λ was. first.before t image within was) (λ now. inr now) (second.before t image (omega (arith, within, first.later)) left);
   }
 
-  -- no call
-  pub no_call : (P : List ℕ → Type 0) (old : D) → ((image : List ℕ) → left_since old (clock old) image → may_leave old image) → ((image : List ℕ) → may_leave old image → P image)
-      → LeavesOnly clock left_since old old P
-  no_call P old only holds = record {
-    later = omega arith;
-    each = λ image left. holds image (only image left);
-    before = λ t image within left. inl left;
-  }
-
 -- Calls that change nothing
 module _ {D : Type 0} (clock : D → ℕ) (left_since : D → ℕ → List ℕ → Type 0) (may_leave : D → List ℕ → Type 0) (seen : D → Option (List ℕ)) (size : D → Option ℕ) where
   abbrev Same : D → D → Type 0
