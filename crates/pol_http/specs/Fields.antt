@@ -42,7 +42,14 @@ abbrev pub framed : Bool → Option ℕ → Result ℕ HeadRefused
 framed coded None = Err BadHead
 framed coded (Some n) = if coded then Err LengthNeeded else (if nat_lt BODY_LIMIT n then Err BodyTooLong else Ok n)
 
+-- there is a Transfer-Encoding (RFC 9112, section 6.1)
+abbrev pub is_coded : List (List ℕ × List ℕ) → Bool
+is_coded fields = list_any (is_named (codes "transfer-encoding")) fields
+
+-- what Content-Length says
+abbrev pub said_length : List (List ℕ × List ℕ) → Option ℕ
+said_length fields = content_length (values_of (codes "content-length") fields)
+
 -- the length of the body that the fields announce (RFC 9112, section 6.3), or why their head is refused
 abbrev pub announced_length : List (List ℕ × List ℕ) → Result ℕ HeadRefused
-announced_length fields =
-    framed (list_any (is_named (codes "transfer-encoding")) fields) (content_length (values_of (codes "content-length") fields))
+announced_length fields = framed (is_coded fields) (said_length fields)

@@ -14,7 +14,7 @@ pub const INSUFFICIENT_STORAGE: &[u8] =
     b"HTTP/1.1 507 Insufficient Storage\r\ncontent-length: 0\r\n\r\n";
 
 /// An answer to a request.
-#[derive(Debug, Drop)]
+#[derive(Drop)]
 pub struct Answer {
     /// A number of three digits.
     pub status: u16,
@@ -26,7 +26,7 @@ pub struct Answer {
 }
 
 /// The body of an answer, and the type of its content.
-#[derive(Debug, Drop)]
+#[derive(Drop)]
 pub enum Body {
     Nothing,
     Json(Bytes),

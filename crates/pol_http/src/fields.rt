@@ -1,8 +1,7 @@
 //! What the fields of a head say of its message (RFC 9110, sections 5.6.1 and 8.6).
-ghost use Rattle.std.specs.Prelude.{◌≡◌, ℕ, ◌+◌, ◌&&◌, length, map, reverse, min, All, option_map, codes};
-ghost use Rattle.std.specs.List.{list_any};
+ghost use Rattle.std.specs.Prelude.{◌≡◌, ◌+◌, length, map, reverse, min, All, option_map};
 ghost use Rattle.httparse.specs.Grammar.{skip_ows, trim_ows};
-ghost use Rattle.httparse.specs.Spans.{IsHeaderWithin, header_bytes, span_bytes};
+ghost use Rattle.httparse.specs.Spans.{IsHeaderWithin, header_bytes};
 ghost use Rattle.pol_http.specs.Fields as spec;
 ghost use Rattle.pol_http.specs.declared.head.TheConstants.{BODY_LIMIT};
 
@@ -14,10 +13,10 @@ pub(crate) fn body_length(bytes: &[u8], fields: &[HeaderSpan]) -> Result<usize, 
     requires { All (IsHeaderWithin (length bytes.now)) fields.now }
     ensures { result ≡ spec.announced_length (map (header_bytes bytes.now) fields.now) }
 {
-    let Some(length) = content_length(bytes, fields) else {
+    let Some((length, coded)) = framing(bytes, fields) else {
         return Err(HeadRefused::BadHead);
     };
-    if has(bytes, fields, b"transfer-encoding") {
+    if coded {
         return Err(HeadRefused::LengthNeeded);
     }
     if length > BODY_LIMIT {
@@ -26,14 +25,16 @@ pub(crate) fn body_length(bytes: &[u8], fields: &[HeaderSpan]) -> Result<usize, 
     Ok(length)
 }
 
-/// What Content-Length says, or one above `BODY_LIMIT` where it says more. `None` where it stands
-/// twice or writes no number.
-fn content_length(bytes: &[u8], fields: &[HeaderSpan]) -> Option<usize>
+/// What Content-Length says, or one above `BODY_LIMIT` where it says more, and whether there is a
+/// Transfer-Encoding. `None` where Content-Length stands twice or writes no number.
+fn framing(bytes: &[u8], fields: &[HeaderSpan]) -> Option<(usize, bool)>
     requires { All (IsHeaderWithin (length bytes.now)) fields.now }
-    ensures { result ≡ option_map (min (BODY_LIMIT + 1)) (spec.content_length
-        (spec.values_of (codes "content-length") (map (header_bytes bytes.now) fields.now))) }
+    ensures { result ≡ option_map
+        (λ said. (min (BODY_LIMIT + 1) said, spec.is_coded (map (header_bytes bytes.now) fields.now)))
+        (spec.said_length (map (header_bytes bytes.now) fields.now)) }
 {
     let mut found: Option<Span> = None;
+    let mut coded = false;
     for field in fields {
         if is_named(bytes, field, b"content-length") {
             if found.is_some() {
@@ -41,11 +42,13 @@ fn content_length(bytes: &[u8], fields: &[HeaderSpan]) -> Option<usize>
             }
             found = Some(field.value);
         }
+        coded |= is_named(bytes, field, b"transfer-encoding");
     }
-    match found {
-        Some(value) => number(value.of(bytes)),
-        None => Some(0),
-    }
+    let length = match found {
+        Some(value) => number(value.of(bytes))?,
+        None => 0,
+    };
+    Some((length, coded))
 }
 
 /// The number that decimal digits write, or one above `BODY_LIMIT` where it is greater.
@@ -63,14 +66,6 @@ fn number(digits: &[u8]) -> Option<usize>
         value = (value * 10 + usize::from(digit - b'0')).min(BODY_LIMIT + 1);
     }
     Some(value)
-}
-
-/// Whether a field of that name is there.
-fn has(bytes: &[u8], fields: &[HeaderSpan], name: &[u8]) -> bool
-    requires { All (IsHeaderWithin (length bytes.now)) fields.now }
-    ensures { result ≡ list_any (spec.is_named name.now) (map (header_bytes bytes.now) fields.now) }
-{
-    fields.iter().any(|field| is_named(bytes, field, name))
 }
 
 /// Whether a field of that name lists the word, in any case.

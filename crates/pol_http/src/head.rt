@@ -35,7 +35,7 @@ pub enum HeadRefused {
 }
 
 /// The head of a request, as ranges of the bytes that it was read from.
-#[derive(Debug, Drop)]
+#[derive(Drop)]
 pub struct Head {
     pub method: Span,
     /// The request target, as it was sent.

@@ -10,7 +10,7 @@ use crate::head::{Front, Head, HeadRefused, read_front};
 use httparse::spans::Span;
 
 /// What stands at the front of the bytes of a connection.
-#[derive(Debug, Drop)]
+#[derive(Drop)]
 pub enum Next {
     /// A whole message of `taken` bytes.
     Whole {
