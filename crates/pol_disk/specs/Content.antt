@@ -1,5 +1,5 @@
 -- What a disk in memory holds, and what a crash may make of it.
-use Rattle.std.specs.Prelude.{ℕ, ◌≡◌, ◌+◌, ◌-◌, ◌≤◌, ◌⊎◌, min, List, [], ◌∷◌, ◌++◌, map, length, take, replicate, Option, Some, None, unwrap_or, ⊤}
+use Rattle.std.specs.Prelude.{ℕ, ◌≡◌, ◌-◌, ◌≤◌, ◌⊎◌, min, List, [], ◌∷◌, ◌++◌, map, length, take, replicate, Option, Some, None, unwrap_or, ⊤}
 use Rattle.std.specs.List.{zip}
 use Rattle.pol_disk.specs.Disk.{written}
 

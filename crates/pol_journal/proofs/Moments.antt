@@ -77,9 +77,11 @@ module _ {D : Type 0} (clock : D → ℕ) (left_since : D → ℕ → List ℕ �
     images = one_call clock left_since may_leave IsSame old new (λ image. refl) only time (λ image left. (image, fewer image left, refl));
   }
 
-  pub same_after_both : (old mid new : D) → Same old mid → Same mid new → Same old new
-  same_after_both old mid new first second = record {
-    seen_same = second.seen_same ∙ first.seen_same;
-    size_same = second.size_same ∙ first.size_same;
-    images = two_runs clock left_since may_leave IsSame IsSame IsSame old mid new (λ a b same. same) (λ a b c same more. more ∙ same) first.images second.images;
-  }
+-- one that changes nothing, and then another
+pub same_after_both : {D : Type 0} {clock : D → ℕ} {left_since : D → ℕ → List ℕ → Type 0} {may_leave : D → List ℕ → Type 0} {seen : D → Option (List ℕ)} {size : D → Option ℕ} {old mid new : D}
+    → IsUntouched clock left_since may_leave seen size old mid → IsUntouched clock left_since may_leave seen size mid new → IsUntouched clock left_since may_leave seen size old new
+same_after_both {D} {clock} {left_since} {may_leave} {seen} {size} {old} {mid} {new} first second = record {
+  seen_same = second.seen_same ∙ first.seen_same;
+  size_same = second.size_same ∙ first.size_same;
+  images = two_runs clock left_since may_leave IsSame IsSame IsSame old mid new (λ a b same. same) (λ a b c same more. more ∙ same) first.images second.images;
+}

@@ -22,6 +22,24 @@ fn read_whole<D: Disk>(disk: &mut D, at: u64, buf: &mut [u8]) -> Result<bool, Fa
     Ok(disk.read(at, buf)? == buf.len())
 }
 
+// The disk's length, with what a call that only looks leaves.
+fn length_of<D: Disk>(disk: &mut D) -> Result<u64, Failed>
+    ensures length { IfOk result (λ length. IfSome (D.size disk.old) (λ size. length ≡ size)) }
+    ensures untouched { IsUntouched D.clock D.left_since D.may_leave D.seen D.size disk.old disk.new }
+    ensures count { CountsFaults (D.fault_count disk.old) (D.fault_count disk.new) result }
+{
+    disk.length()
+}
+
+// Syncs the disk, which changes nothing that is read of it.
+fn synced<D: Disk>(disk: &mut D) -> Result<(), Failed>
+    ensures durable { OnOk result (IsDurable (D.seen disk.new) (D.may_leave disk.new)) }
+    ensures untouched { IsUntouched D.clock D.left_since D.may_leave D.seen D.size disk.old disk.new }
+    ensures count { CountsFaults (D.fault_count disk.old) (D.fault_count disk.new) result }
+{
+    disk.sync()
+}
+
 /// Whether the disk, which is synced first, has a header of this kind and a byte behind it.
 pub(crate) fn has_header<D: Disk>(disk: &mut D, kind: Kind) -> Result<bool, Failed>
     ensures header { IfOk result (λ is. IfSome (D.seen disk.old) (JudgesHeader is kind)) }
@@ -29,8 +47,8 @@ pub(crate) fn has_header<D: Disk>(disk: &mut D, kind: Kind) -> Result<bool, Fail
     ensures untouched { IsUntouched D.clock D.left_since D.may_leave D.seen D.size disk.old disk.new }
     ensures count { CountsFaults (D.fault_count disk.old) (D.fault_count disk.new) result }
 {
-    disk.sync()?;
-    if disk.length()? < SHORTEST {
+    synced(disk)?;
+    if length_of(disk)? < SHORTEST {
         return Ok(false);
     }
     let mut front = [0; 64];
@@ -59,7 +77,7 @@ fn next_length<D: Disk>(disk: &mut D, gate: u64) -> Result<Option<u64>, JournalR
     ensures bounded { D.fault_count disk.new ≤ 2 ^ 64 - 1 }
 {
     let bad = JournalRefused::BadRecord { at: gate };
-    let left = disk.length()?.saturating_sub(gate);
+    let left = length_of(disk)?.saturating_sub(gate);
     if left == 0 {
         return Err(bad);
     }

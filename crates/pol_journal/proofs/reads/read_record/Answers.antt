@@ -21,16 +21,10 @@ returns-clause-record g c = when_told (g.D.Disk.seen c.args.disk.now) _ (λ byte
     (read ∙ ap (λ (n : ℕ). take n (drop (c.args.gate + 9) bytes)) (omega (arith, c.deref_mut.ensures.len, c.in_ok-body.ensures.len))))
 
 pub returns-in_err-read_whole-clause-untouched : goal.returns-in_err-read_whole-clause-untouched
-returns-in_err-read_whole-clause-untouched g c =
-    let d = g.D.Disk in
-    same_after_both d.clock d.left_since d.may_leave d.seen d.size _ c.next_length.new.disk _ c.next_length.ensures.untouched c.read_whole.ensures.untouched
+returns-in_err-read_whole-clause-untouched g c = same_after_both c.next_length.ensures.untouched c.read_whole.ensures.untouched
 
 pub returns-then-not-branch-clause-untouched : goal.returns-then-not-branch-clause-untouched
-returns-then-not-branch-clause-untouched g c =
-    let d = g.D.Disk in
-    same_after_both d.clock d.left_since d.may_leave d.seen d.size _ c.next_length.new.disk _ c.next_length.ensures.untouched c.read_whole.ensures.untouched
+returns-then-not-branch-clause-untouched g c = same_after_both c.next_length.ensures.untouched c.read_whole.ensures.untouched
 
 pub returns-clause-untouched : goal.returns-clause-untouched
-returns-clause-untouched g c =
-    let d = g.D.Disk in
-    same_after_both d.clock d.left_since d.may_leave d.seen d.size _ c.next_length.new.disk _ c.next_length.ensures.untouched c.read_whole.ensures.untouched
+returns-clause-untouched g c = same_after_both c.next_length.ensures.untouched c.read_whole.ensures.untouched
