@@ -1,12 +1,12 @@
 -- What the making of a journal leaves of a disk without bytes.
 use Rattle.std.proofs.Common.{◌≡◌, inl, Option, IsSome, IfSome, ℕ, ◌+◌, List, [], ◌∷◌, ◌++◌, length, refl, sym, ◌∙◌, ap, subst, arith, length-append}
-use Rattle.pol_disk.specs.Disk.{Elapses, IsDurable, LeavesOnly, Told, Torn, written}
-use Rattle.pol_journal.specs.Crash.{IsSame, KeepsFront, LeavesAfter}
+use Rattle.pol_disk.specs.Disk.{IsDurable, LeavesOnly, Told, Torn, written}
+use Rattle.pol_journal.specs.Crash.{IsSame, IsUntouched, KeepsFront, LeavesAfter}
 use Rattle.pol_journal.specs.Format.{name_of, area_of, records_of, StandsFor, IsNoneOrStandsFor}
 use Rattle.pol_journal.specs.Journal.{IsBlank, Stands}
 use Rattle.pol_journal.specs.declared.kind.Kind.{Kind}
 use Rattle.pol_journal.proofs.FormatLemmas.{blank, after_name, length-name, length-records, short_is_none, blank_written, blank_is_none, rest_written, name_torn, name_written}
-use Rattle.pol_journal.proofs.Moments.{one_call, leaves_only, and_then}
+use Rattle.pol_journal.proofs.Moments.{leaves_only, and_then}
 use Rattle.pol_journal.proofs.RecordLemmas.{still_told, written_image}
 
 module _ {D : Type 0} (clock : D → ℕ) (left_since : D → ℕ → List ℕ → Type 0) (may_leave : D → List ℕ → Type 0) (seen : D → Option (List ℕ))
@@ -70,21 +70,21 @@ module _ {D : Type 0} (clock : D → ℕ) (left_since : D → ℕ → List ℕ �
 pub only_nothing : (seen : Option (List ℕ)) (left : List ℕ → Type 0) → IsBlank seen left → (image : List ℕ) → left image → image ≡ []
 only_nothing seen left none image is = subst (λ o. IsDurable o left) none.told none.durable image is
 
--- a call that left the bytes
-pub blank_after : (seen seen' : Option (List ℕ)) (left left' : List ℕ → Type 0) → IsBlank seen left → seen' ≡ seen → ((image : List ℕ) → left' image → left image) → IsBlank seen' left'
-blank_after seen seen' left left' none same fewer = record {
-  told = same ∙ none.told;
-  durable = subst (λ o. IsDurable o left') (sym (same ∙ none.told)) (λ image is. only_nothing seen left none image (fewer image is));
+-- an untouched disk without bytes has none
+pub blank_after : {D : Type 0} {clock : D → ℕ} {left_since : D → ℕ → List ℕ → Type 0} {may_leave : D → List ℕ → Type 0} {seen : D → Option (List ℕ)} {size : D → Option ℕ} {old new : D}
+    → IsBlank (seen old) (may_leave old) → IsUntouched clock left_since may_leave seen size old new → IsBlank (seen new) (may_leave new)
+blank_after {may_leave = may_leave} {seen = seen} {old = old} {new = new} none same = record {
+  told = same.seen_same ∙ none.told;
+  durable = subst (λ o. IsDurable o (may_leave new)) (sym (same.seen_same ∙ none.told))
+      (λ image left. let from = same.images.now image left in from.2 ∙ only_nothing (seen old) (may_leave old) none from.0 from.1);
 }
 
 pub nothing_is_none : (kind : Kind) (bodies : List (List ℕ)) (image : List ℕ) → image ≡ [] → IsNoneOrStandsFor kind bodies image
 nothing_is_none kind bodies image none = inl (inl (omega (arith, ap length none)))
 
--- a call that leaves a disk without bytes as it was
-pub looked : {D : Type 0} (clock : D → ℕ) (left_since : D → ℕ → List ℕ → Type 0) (may_leave : D → List ℕ → Type 0) (seen : D → Option (List ℕ)) (kind : Kind) (bodies : List (List ℕ)) (old new : D)
-    → IsBlank (seen old) (may_leave old) → ((image : List ℕ) → left_since old (clock old) image → may_leave old image) → ((image : List ℕ) → may_leave new image → may_leave old image)
-    → Elapses (clock old) (clock new) (left_since old) (left_since new) (may_leave new) → LeavesOnly clock left_since old new (IsNoneOrStandsFor kind bodies)
-looked clock left_since may_leave seen kind bodies old new none only fewer time =
+-- at each moment an untouched disk without bytes has no journal
+pub looked : {D : Type 0} {clock : D → ℕ} {left_since : D → ℕ → List ℕ → Type 0} {may_leave : D → List ℕ → Type 0} {seen : D → Option (List ℕ)} {size : D → Option ℕ} {old new : D} (kind : Kind) (bodies : List (List ℕ))
+    → IsBlank (seen old) (may_leave old) → IsUntouched clock left_since may_leave seen size old new → LeavesOnly clock left_since old new (IsNoneOrStandsFor kind bodies)
+looked {clock = clock} {left_since = left_since} {may_leave = may_leave} {seen = seen} {old = old} {new = new} kind bodies none same =
     leaves_only clock left_since may_leave IsSame (IsNoneOrStandsFor kind bodies) old new
-    (λ before image left same. nothing_is_none kind bodies image (same ∙ only_nothing (seen old) (may_leave old) none before left))
-    (one_call clock left_since may_leave IsSame old new (λ image. refl) only time (λ image left. (image, fewer image left, refl)))
+    (λ before image left is. nothing_is_none kind bodies image (is ∙ only_nothing (seen old) (may_leave old) none before left)) same.images

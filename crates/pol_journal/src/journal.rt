@@ -7,7 +7,7 @@ ghost use Rattle.pol_journal.specs.Journal.{GivesNext, HasFailed, HasRead, IsAtR
 ghost use Rattle.pol_journal.specs.Refused.{AppendRefused, CreateRefused, IsBadIn, NextRefused, OpenRefused, RepairRefused};
 
 use crate::format::{HEADER, LONGEST, RECORD};
-use crate::reads::{has_header, read_record};
+use crate::reads::{has_header, length_of, read_record};
 use crate::records::{take_back, write_journal, write_record};
 use crate::stage::Stage;
 use crate::{JournalRefused, Kind};
@@ -60,7 +60,7 @@ impl<D: Disk> Journal<D> {
         ensures kept { D.fault_count disk.old ≤ D.fault_count disk.new }
         ensures bounded { D.fault_count disk.new ≤ 2 ^ 64 - 1 }
     {
-        if disk.length()? != 0 {
+        if length_of(disk)? != 0 {
             return Err(JournalRefused::JournalThere);
         }
         write_journal(disk, kind, first)?;

@@ -22,8 +22,8 @@ fn read_whole<D: Disk>(disk: &mut D, at: u64, buf: &mut [u8]) -> Result<bool, Fa
     Ok(disk.read(at, buf)? == buf.len())
 }
 
-// The disk's length, with what a call that only looks leaves.
-fn length_of<D: Disk>(disk: &mut D) -> Result<u64, Failed>
+/// The disk's length, with what a call that only looks leaves.
+pub(crate) fn length_of<D: Disk>(disk: &mut D) -> Result<u64, Failed>
     ensures length { IfOk result (λ length. IfSome (D.size disk.old) (λ size. length ≡ size)) }
     ensures untouched { IsUntouched D.clock D.left_since D.may_leave D.seen D.size disk.old disk.new }
     ensures count { CountsFaults (D.fault_count disk.old) (D.fault_count disk.new) result }
