@@ -1,6 +1,6 @@
 -- The text of an answer, piece by piece.
-use Rattle.std.proofs.Common.{◌≡◌, ℕ, ◌&&◌, nat_le, nat_lt, arith, if◌then◌else◌, List, [], ◌++◌, Option, unwrap_or, codes, decimal, sym, ap, ◌∙◌, append_assoc}
-use Rattle.std.proofs.lemmas.Bool.Decides.{nat_tests}
+use Rattle.std.proofs.Common.{◌≡◌, ℕ, Bool, true, false, ◌&&◌, nat_le, nat_lt, ◌≢◌, le-leb, leb-true, if◌then◌else◌, List, [], ◌++◌, Option, unwrap_or, Decides, codes, decimal, refl, sym, ap, ◌∙◌, append_assoc}
+use Rattle.std.proofs.lemmas.Bool.Decides.{Decides-and, Decides-ltb}
 use Rattle.http.specs.StatusCode.{IsStatusCode, reason_phrase}
 use Rattle.pol_http.specs.Answer.{phrase, status_line, body_fields, close_field, content, answer_text}
 use Rattle.pol_http.specs.declared.answer.Answer.{Answer}
@@ -25,23 +25,24 @@ head-then-content answer =
     ∙ ap (λ rest. line ++ rest) (append_assoc fields (close ++ codes "\r\n") (content answer)
     ∙ ap (λ rest. fields ++ rest) (append_assoc close (codes "\r\n") (content answer)))
 
--- a status code has the first of two texts, and any other number the second
-with_code : (status : ℕ) (known none : List ℕ) → IsStatusCode status
-    → known ≡ (if nat_le 100 status && nat_lt status 1000 then known else none)
-with_code status known none (low, high) = grind (arith, nat_tests)
-
-without_code : (status : ℕ) (known none : List ℕ) → ¬ (IsStatusCode status)
-    → none ≡ (if nat_le 100 status && nat_lt status 1000 then known else none)
-without_code status known none no_code = grind (arith, nat_tests)
+-- the test that a number is a status code
+tested : (status : ℕ) → Decides (nat_le 100 status && nat_lt status 1000) (IsStatusCode status)
+tested status = Decides-and (nat_le 100 status) (nat_lt status 1000) (leb-true 100 status, le-leb 100 status) (Decides-ltb status 1000)
 
 -- the phrase of a status code
 pub phrase-known : (status : ℕ) (known : Option (List ℕ)) → IsStatusCode status → known ≡ reason_phrase status
     → unwrap_or known [] ≡ phrase status
 unfolding phrase
 phrase-known status known code is =
-    ap (λ found. unwrap_or found []) is ∙ with_code status (unwrap_or (reason_phrase status) []) [] code
+    ap (λ found. unwrap_or found []) is
+    ∙ (λ k. if sym ((tested status).1 code) k then unwrap_or (reason_phrase status) [] else [])
 
 -- another number has none
 pub phrase-none : (status : ℕ) → ¬ (IsStatusCode status) → [] ≡ phrase status
 unfolding phrase
-phrase-none status no_code = without_code status (unwrap_or (reason_phrase status) []) [] no_code
+phrase-none status no_code =
+    second (nat_le 100 status && nat_lt status 1000) (unwrap_or (reason_phrase status) []) (λ is. no_code ((tested status).0 is))
+  where
+    second : (test : Bool) (first : List ℕ) → test ≢ true → [] ≡ (if test then first else [])
+    second true first fails = absurd (fails refl)
+    second false first fails = refl
