@@ -2,11 +2,6 @@
 use Rattle.std.proofs.Common.{◌≡◌, ℕ, Bool, true, false, not, cond, ◌||◌, List, [], ◌∷◌, ◌++◌, map, filter, None, Some, is_some, nat_eq, refl, sym, ap, subst, ◌∙◌, inl, inr, true≢false}
 use Rattle.std.specs.List.{AllByRecursion, IsDistinct}
 use Rattle.std.specs.Map.{keys_of, values_of, lookup, remove_entry, set_value}
-use Rattle.std.specs.Map.Calls.{RetainsPairs}
-use Rattle.std.specs.Borrow.{Bor}
-use Rattle.std.specs.Fn.{CalledAt}
-use denote.Param.Members.{Mut}
-use Rattle.pol_tables.specs.Kept.{TellsAlways}
 use Rattle.std.proofs.lemmas.Bool.{cases_Bool, eqb-true}
 use Rattle.std.proofs.lemmas.List.{map-append}
 use Rattle.std.proofs.lemmas.Map.Keys.{IsDistinct-cons, IsDistinct-head, IsDistinct-tail}
@@ -222,44 +217,3 @@ module _ {R : Type 0} (key : R → ℕ) where
     pub Holds-push : (id : ℕ) (row : R) → id ≡ key row → knows key id (values_of entries) ≡ false → after ≡ entries ++ (id, row) ∷ [] → Holds after (rows_with key row (values_of entries))
     Holds-push id row of new is =
         Holds-from after _ (is ∙ ap (λ es. es ++ (id, row) ∷ []) stands ∙ push-under_ids id row of (values_of entries) new)
-
-  -- what a map's `retain` leaves of the entries are rows under their ids, where no call changes a row
-  pub stands-retained : {F : Type 0} (calls : F → ℕ → R → Bool → R → F → Type 0) → ((f : F) (id : ℕ) (row : R) (stays : Bool) (left : R) (after : F) → calls f id row stays left after → left ≡ row)
-      → (f : F) (rows : List R) (entries kept : List (ℕ × R)) → entries ≡ under_ids key rows → RetainsPairs calls f entries kept → kept ≡ under_ids key (values_of kept)
-  stands-retained {F = F} calls told f rows entries kept stands h = by f rows kept (subst (λ es. RetainsPairs calls f es kept) stands h)
-    where
-      push : (row left : R) (stays : Bool) (rest : List (ℕ × R)) → rest ≡ under_ids key (values_of rest) → left ≡ row → cond stays ((key row, left) ∷ rest) rest ≡ under_ids key (values_of (cond stays ((key row, left) ∷ rest) rest))
-      push row left true rest stood is = λ i. (key (sym is i), left) ∷ stood i
-      push row left false rest stood is = stood
-
-      by : (f : F) (rows : List R) (kept : List (ℕ × R)) → RetainsPairs calls f (under_ids key rows) kept → kept ≡ under_ids key (values_of kept)
-      by f [] kept h = h ∙ sym (ap (λ es. under_ids key (values_of es)) h)
-      by f (row ∷ rows) kept h =
-          h.6 ∙ push row h.1 h.0 h.3 (by h.2 rows h.3 h.5) (told f (key row) row h.0 h.1 h.2 h.4) ∙ sym (ap (λ es. under_ids key (values_of es)) h.6)
-
-  -- and what holds of each row before holds of each that stays
-  pub each-retained : {F : Type 0} (calls : F → ℕ → R → Bool → R → F → Type 0) → ((f : F) (id : ℕ) (row : R) (stays : Bool) (left : R) (after : F) → calls f id row stays left after → left ≡ row)
-      → (P : R → Type 0) (f : F) (entries kept : List (ℕ × R)) → RetainsPairs calls f entries kept → AllByRecursion P (values_of entries) → AllByRecursion P (values_of kept)
-  each-retained calls told P f [] kept h all = subst (λ es. AllByRecursion P (values_of es)) (sym h) tt
-  each-retained calls told P f (entry ∷ entries) kept h all =
-      subst (λ es. AllByRecursion P (values_of es)) (sym h.6) (push h.0 (subst P (sym (told f entry.0 entry.1 h.0 h.1 h.2 h.4)) all.0) (each-retained calls told P h.2 entries h.3 h.5 all.1))
-    where
-      push : (stays : Bool) → P h.1 → AllByRecursion P (values_of h.3) → AllByRecursion P (values_of (cond stays ((entry.0, h.1) ∷ h.3) h.3))
-      push true here rest = (here, rest)
-      push false here rest = rest
-
-  -- the values of the entries that pass a test of their values
-  pub values-filter : (test : R → Bool) (entries : List (ℕ × R)) → values_of (filter (λ entry. test entry.1) entries) ≡ filter test (values_of entries)
-  values-filter test [] = refl
-  values-filter test (entry ∷ entries) = by (test entry.1) (values-filter test entries)
-    where
-      by : (stays : Bool) → values_of (filter (λ entry. test entry.1) entries) ≡ filter test (values_of entries) → values_of (cond stays (entry ∷ filter (λ entry. test entry.1) entries) (filter (λ entry. test entry.1) entries)) ≡ cond stays (entry.1 ∷ filter test (values_of entries)) (filter test (values_of entries))
-      by true rest = ap (λ kept. entry.1 ∷ kept) rest
-      by false rest = rest
-
--- what a call of a closure that tells always by a test tells
-pub told-by : {F A : Type 0} (calls : Mut F (Bor A × Unit {0}) Bool) (test : A → Bool) (f after : F) (value row left : A) (stays : Bool) → TellsAlways calls f test → CalledAt calls f value stays after → value ≡ row → left ≡ value
-    → (stays ≡ test row) × (left ≡ row) × TellsAlways calls after test
-told-by calls test f after value row left stays tells call shows leaves =
-    let told = tells value stays after call in
-    (told.0 ∙ ap test shows, leaves ∙ shows, subst (λ g. TellsAlways calls g test) (sym told.1) tells)

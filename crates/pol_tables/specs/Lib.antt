@@ -1,7 +1,6 @@
 pub mod Changes
 pub mod Facts
 pub mod Index
-pub mod Kept
 pub mod Laws
 pub mod Named
 pub mod Number

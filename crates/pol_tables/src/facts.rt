@@ -1,7 +1,6 @@
-ghost use Rattle.std.specs.Prelude.{◌≡◌, ◌↔◌, ◌<◌, ◌≤◌, ◌+◌, Bool, [], length, filter, true, false, IsTrue, IsOk, OnOk};
+ghost use Rattle.std.specs.Prelude.{◌≡◌, ◌↔◌, ◌<◌, ◌≤◌, ◌+◌, [], length, true, false, IsTrue, IsOk, OnOk};
 ghost use Rattle.std.specs.Slice.Iter.{iter_rest};
 ghost use Rattle.std.specs.List.{IsDistinct};
-ghost use Rattle.pol_tables.specs.Kept.{TellsAlways};
 ghost use Rattle.pol_tables.specs.Same.{same};
 ghost use Rattle.pol_tables.specs.Facts.{holds, facts_with, facts_without};
 
@@ -98,15 +97,6 @@ impl<T: Fact> Facts<T> {
         ensures room { self.old.room ≤ self.new.room }
     {
         self.set.shift_remove(fact)
-    }
-
-    /// Keeps the facts for which `keep` answers that they stay, in their order. Takes no memory.
-    pub fn retain<F: FnMut(&T) -> bool>(&mut self, keep: F)
-        requires { F.IsAlwaysCallable keep }
-        ensures facts { (test : T → Bool) → TellsAlways F.FnMut keep test → self.new.facts ≡ filter test self.old.facts }
-        ensures room { self.old.room ≤ self.new.room }
-    {
-        self.set.retain(keep);
     }
 }
 

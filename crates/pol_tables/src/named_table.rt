@@ -1,8 +1,7 @@
-ghost use Rattle.std.specs.Prelude.{◌≡◌, ◌↔◌, ◌<◌, ◌≤◌, ◌+◌, ◌≢◌, Bool, [], filter, length, None, IsTrue, IsOk, OnOk, option_copied};
+ghost use Rattle.std.specs.Prelude.{◌≡◌, ◌↔◌, ◌<◌, ◌≤◌, ◌+◌, ◌≢◌, [], length, None, IsTrue, IsOk, OnOk, option_copied};
 ghost use Rattle.std.specs.Slice.Iter.{iter_rest};
 ghost use Rattle.std.specs.List.{AllByRecursion};
 ghost use Rattle.pol_tables.specs.Index.{is_noted, number_noted};
-ghost use Rattle.pol_tables.specs.Kept.{TellsAlways};
 ghost use Rattle.pol_tables.specs.Named.{Finds, FindsOr, IsMissed, IsMissedFirst, named_row};
 ghost use Rattle.pol_tables.specs.Table.{row_of, rows_with, rows_without, IdsDiffer};
 ghost use Rattle.pol_tables.specs.declared.index.Noted.{Noted};
@@ -117,16 +116,6 @@ impl<R: Named> NamedTable<R> {
     {
         forget(&self.table, &mut self.index, id);
         self.table.take(id)
-    }
-
-    /// Keeps the rows for which `keep` answers that they stay, in their order, and takes no memory. The index keeps
-    /// the ids of rows that go.
-    pub fn retain<F: FnMut(&R) -> bool>(&mut self, keep: F)
-        requires { (f : F) (row : _) → F.pre f row }
-        ensures rows { (test : R → Bool) → TellsAlways F.FnMut keep test → self.new.rows ≡ filter test self.old.rows }
-        ensures room { self.old.room ≤ self.new.room }
-    {
-        self.table.retain(keep);
     }
 }
 

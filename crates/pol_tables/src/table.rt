@@ -1,9 +1,6 @@
-ghost use Rattle.std.specs.Prelude.{◌≡◌, ◌↔◌, ◌<◌, ◌≤◌, ◌+◌, Bool, [], length, filter, true, false, IsTrue, IsOk, OnOk, option_copied};
+ghost use Rattle.std.specs.Prelude.{◌≡◌, ◌↔◌, ◌<◌, ◌≤◌, ◌+◌, [], length, true, false, IsTrue, IsOk, OnOk, option_copied};
 ghost use Rattle.std.specs.Cmp.Lexicographic.{pointwise, lists_per};
-ghost use Rattle.std.specs.Fn.{CalledAt};
-ghost use Rattle.std.specs.List.{AllByRecursion};
 ghost use Rattle.std.specs.Slice.Iter.{iter_rest};
-ghost use Rattle.pol_tables.specs.Kept.{TellsAlways};
 ghost use Rattle.pol_tables.specs.Table.{knows, row_of, rows_with, rows_without, IdsDiffer};
 
 use crate::Keyed;
@@ -101,22 +98,6 @@ impl<R: Keyed> Table<R> {
         ensures room { self.old.room ≤ self.new.room }
     {
         self.by_id.shift_remove(&id)
-    }
-
-    /// Keeps the rows for which `keep` answers that they stay, in their order. Takes no memory.
-    pub fn retain<F: FnMut(&R) -> bool>(&mut self, mut keep: F)
-        requires { (f : F) (row : _) → F.pre f row }
-        ensures rows { (test : R → Bool) → TellsAlways F.FnMut keep test → self.new.rows ≡ filter test self.old.rows }
-        ensures stays { (test : R → Bool) → AllByRecursion (λ row. test row ≡ true) self.old.rows → AllByRecursion (λ row. test row ≡ true) self.new.rows }
-        ensures room { self.old.room ≤ self.new.room }
-    {
-        self.by_id.retain(
-            |_id: &u64, row: &mut R| -> bool
-                requires { (f : F) (row : _) → F.pre f row }
-                ensures kept { row.new ≡ row.old }
-                ensures called { CalledAt F.FnMut keep.entry row.old result keep.exit }
-            { keep(row) },
-        );
     }
 }
 
