@@ -1,11 +1,11 @@
--- Proper actions: a grant that is added or revoked has a privilege that may be granted on its kind of securable.
+-- Proper actions: a grant that is added has a privilege that may be granted on its kind of securable.
 use Rattle.std.specs.Prelude.{◌≡◌, true}
 use Rattle.std.specs.Bool.{⊤}
 use Rattle.pol_access.specs.Privilege.{grantable}
 use Rattle.pol_access.specs.declared.securable.SecurableKind.{SecurableKind}
 use Rattle.pol_access.specs.declared.securable.SecurableKind.TheVariants as kind
 use Rattle.pol_commands.specs.declared.command.Action.{Action}
-use Rattle.pol_commands.specs.declared.command.Action.TheVariants.{AddGrant, Revoke}
+use Rattle.pol_commands.specs.declared.command.Action.TheVariants.{AddGrant}
 use Rattle.pol_commands.specs.declared.grants.Grant.{Grant}
 use Rattle.pol_commands.specs.declared.grants.GrantedOn.{GrantedOn}
 use Rattle.pol_commands.specs.declared.grants.GrantedOn.TheVariants as on
@@ -23,5 +23,4 @@ IsGrantable grant = grantable grant.privilege (kind_of grant.on) ≡ true
 
 abbrev pub IsProper : Action → Type 0
 IsProper (AddGrant catalog role grant) = IsGrantable grant
-IsProper (Revoke catalog role grant) = IsGrantable grant
 IsProper other = ⊤

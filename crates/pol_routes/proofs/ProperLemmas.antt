@@ -92,7 +92,7 @@ management_proper path bytes ListGrants = read_proper _ _ (λ names. made_proper
 management_proper path bytes AddGrant =
     read_proper _ _ (λ names. grant_proper bytes (action.AddGrant names.0 names.1) (λ grant may. may) (body grant_body bytes) refl)
 management_proper path bytes Revoke =
-    read_proper _ _ (λ names. grant_proper bytes (action.Revoke names.0 names.1) (λ grant may. may) (body grant_body bytes) refl)
+    read_twice_proper (owner_and_part path) (λ names. body_of (body grant_body bytes)) (λ names read. action.Revoke names.0 names.1 read.grant) (λ names read. tt)
 management_proper path bytes _ = unread_proper _
 
 action_proper : (target bytes : List ℕ) (endpoint : Endpoint) → IsProperRead (action_of target bytes endpoint)
