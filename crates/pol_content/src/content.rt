@@ -42,7 +42,7 @@ impl Content {
     }
 
     /// The catalogue of this name. It scans no rows.
-    pub fn catalog(&self, name: &Plain) -> Option<&CatalogRow>
+    pub fn catalogue(&self, name: &Plain) -> Option<&CatalogRow>
         ensures found { Finds catalog_id (is_catalog_named name.now) self.now.rows.catalogs (option_copied result) }
         ensures first { CatalogNamesDiffer self.now.rows.catalogs → option_copied result ≡ catalog_named name.now self.now.rows }
     {

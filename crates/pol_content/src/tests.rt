@@ -97,7 +97,7 @@ fn fill(alloc: Global, content: &mut Content) -> Result<(), Fail> {
 /// The id of the catalogue of this name, or 0.
 fn catalog_named(alloc: Global, content: &Content, name: &str) -> Result<u64, Fail> {
     let name = Plain::new(alloc, name)?;
-    match content.catalog(&name) {
+    match content.catalogue(&name) {
         Some(row) => Ok(row.id),
         None => Ok(0),
     }

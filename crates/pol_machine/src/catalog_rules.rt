@@ -45,7 +45,7 @@ pub(crate) fn catalog_there<'a>(
     requires { IsSound state.now.rows }
     ensures { Judges (no_catalogue state.now.rows name.now) (λ row. (catalog_named name.now state.now.rows.content ≡ Some row.now) × (row_of catalog_id row.now.id state.now.rows.content.catalogs ≡ Some row.now)) result }
 {
-    let Some(row) = state.content().catalog(name) else {
+    let Some(row) = state.content().catalogue(name) else {
         return Err(Stop::Refused(Refusal::NoCatalogue {
             name: name.clone()?,
         }));
@@ -59,7 +59,7 @@ pub(crate) fn catalog_free(alloc: Global, state: &State, name: &Plain) -> Result
     requires { IsSound state.now.rows }
     ensures { Judges (catalog_taken state.now.rows name.now) (λ _. ⊤) result }
 {
-    if state.content().catalog(name).is_some() {
+    if state.content().catalogue(name).is_some() {
         return Err(Stop::Refused(Refusal::NameTaken {
             name: Text::from(String::from_str(alloc, name.as_str())?),
         }));
