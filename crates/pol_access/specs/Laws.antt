@@ -1,13 +1,15 @@
 -- Laws of privileges, of lists in order and of sound rows.
-use Rattle.std.specs.Prelude.{◌≡◌, ◌≢◌, ◌+◌, ◌<◌, ◌≤◌, ℕ, true, not, List, [], ◌∷◌, ◌++◌, length, map, filter, Some, None, codes, find}
+use Rattle.std.specs.Prelude.{◌≡◌, ◌≢◌, ◌↔◌, ◌+◌, ◌<◌, ◌≤◌, ℕ, true, not, List, [], ◌∷◌, ◌++◌, length, map, filter, Some, None, codes, find}
 use Rattle.std.specs.List.Sorted.{IsPermutation, IsSortedBy}
 use Rattle.std.specs.Str.{bytes_eq}
 use Rattle.pol_access.specs.Access.{AccessRows, catalog_role_dropped, catalog_role_id, catalog_roles_dropped, grants_on_dropped, principal_dropped, principal_id, principal_role_dropped, principal_role_id}
 use Rattle.pol_access.specs.Implication.{implies}
+use Rattle.pol_access.specs.May.{May}
 use Rattle.pol_access.specs.Names.{catalog_role_named, principal_named, principal_of_client, principal_role_named}
 use Rattle.pol_access.specs.Order.{by_name, grant_cmp, grants_in_order, is_name_less, join_cmp, joins_in_order, member_cmp, members_in_order}
 use Rattle.pol_access.specs.Privilege.{privileges, text_of}
 use Rattle.pol_access.specs.Referent.{grant_names, join_names, member_names}
+use Rattle.pol_access.specs.Search.{may}
 use Rattle.pol_access.specs.Sound.{IsGrantOf, IsSoundAccess}
 use Rattle.pol_access.specs.contracts.rows.GrantRow as grant
 use Rattle.pol_access.specs.contracts.rows.JoinRow as join
@@ -21,6 +23,7 @@ use Rattle.pol_access.specs.declared.rows.MemberRow.{MemberRow}
 use Rattle.pol_access.specs.declared.rows.PrincipalRow.{PrincipalRow}
 use Rattle.pol_access.specs.declared.rows.PrincipalRoleRow.{PrincipalRoleRow}
 use Rattle.pol_access.specs.declared.securable.Securable.{Securable}
+use Rattle.pol_names.specs.declared.scope.Scope.{Scope}
 use Rattle.pol_tables.specs.Changes.{fact_changes}
 use Rattle.pol_tables.specs.Facts.{facts_with, facts_without}
 use Rattle.pol_tables.specs.Numbered.{IsGiven}
@@ -38,6 +41,12 @@ ImplicationIsReflexive = (privilege : Privilege) → implies privilege privilege
 abbrev pub ImplicationIsTransitive : Type 0
 ImplicationIsTransitive =
     (held between wanted : Privilege) → implies held between ≡ true → implies between wanted ≡ true → implies held wanted ≡ true
+
+-- the search through the rows tells exactly what a caller may do
+abbrev pub SearchTellsMay : Type 0
+SearchTellsMay =
+    (access : AccessRows) (principal : ℕ) (session : Scope) (wanted : Privilege) (chain : List Securable)
+    → (may access principal session wanted chain ≡ true) ↔ May access principal session wanted chain
 
 -- rows in byte order of their names are the rows, each as often, and no row's name comes before that of the row in front
 abbrev pub ListsAreInOrder : Type 0 → Type 0

@@ -1,5 +1,5 @@
 //! Theorems over the definitions of `specs/`: the clause of each function is the statement, and its body is empty.
-ghost use Rattle.pol_access.specs.Laws.{DroppedCatalogRolesKeepSound, DroppedGrantsKeepSound, DroppedJoinKeepsSound, DroppedMemberKeepsSound, DroppedPrincipalKeepsSound, DroppedPrincipalRoleKeepsSound, ImplicationIsReflexive, ImplicationIsTransitive, ListsAreInOrder, MoreIdsKeepSound, NewRowsGoLast, PushedCatalogRoleKeepsSound, PushedPrincipalKeepsSound, PushedPrincipalRoleKeepsSound, PutGrantKeepsSound, PutJoinKeepsSound, PutMemberKeepsSound, ReplacedPrincipalKeepsSound, TextsReadBack, WhatNamesIsDropped};
+ghost use Rattle.pol_access.specs.Laws.{DroppedCatalogRolesKeepSound, DroppedGrantsKeepSound, DroppedJoinKeepsSound, DroppedMemberKeepsSound, DroppedPrincipalKeepsSound, DroppedPrincipalRoleKeepsSound, ImplicationIsReflexive, ImplicationIsTransitive, ListsAreInOrder, MoreIdsKeepSound, NewRowsGoLast, PushedCatalogRoleKeepsSound, PushedPrincipalKeepsSound, PushedPrincipalRoleKeepsSound, PutGrantKeepsSound, PutJoinKeepsSound, PutMemberKeepsSound, ReplacedPrincipalKeepsSound, SearchTellsMay, TextsReadBack, WhatNamesIsDropped};
 
 /// Each privilege is read back from its text.
 pub fn texts_read_back()
@@ -14,6 +14,11 @@ pub fn implication_is_reflexive()
 /// What an implied privilege implies is implied: the table is closed.
 pub fn implication_is_transitive()
     ensures { ImplicationIsTransitive }
+{}
+
+/// The search through the rows, by which needs are judged, tells exactly what a caller may do.
+pub fn search_tells_may()
+    ensures { SearchTellsMay }
 {}
 
 /// Lists by name have the rows, and no row's name comes before that of the row in front.
