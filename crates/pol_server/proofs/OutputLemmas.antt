@@ -1,10 +1,10 @@
 -- One output: two links that were served on the same input, turn by turn.
-use Rattle.std.proofs.Common.{◌≡◌, ◌≢◌, ◌<◌, ◌≤◌, ◌+◌, ◌-◌, ◌⊎◌, ℕ, true, false, List, [], ◌∷◌, ◌++◌, map, length, take, Option, Some, None, Ok, refl, sym, ap, subst, ◌∙◌, inl, inr, arith, append-nil, append_assoc, length-append}
+use Rattle.std.proofs.Common.{◌≡◌, ◌≢◌, ◌<◌, ◌≤◌, ◌+◌, ◌-◌, ◌⊎◌, ℕ, true, false, List, [], ◌∷◌, ◌++◌, map, length, take, drop, Option, Some, None, Ok, refl, sym, ap, subst, ◌∙◌, inl, inr, arith, append-nil, append_assoc, length-append, take-append-drop}
 use Rattle.std.specs.Prelude.{⊤, IsTrue, slice_index}
 use Rattle.std.specs.List.{flat_map, AllByRecursion}
 use Rattle.std.specs.Io.KnownBytes.{Consumes, IsAtEnd}
 use Rattle.std.proofs.lemmas.Grind.{same_number_lists}
-use Rattle.std.proofs.lemmas.List.{get_or_append_left, get_or-append_right, take_at}
+use Rattle.std.proofs.lemmas.List.{get_or_append_left, get_or-append_right, take_at, take-append-le}
 use Rattle.std.proofs.lemmas.List.Elements.{All-nil, All-cons}
 use Rattle.std.proofs.lemmas.Str.{IsUtf8-from_ascii}
 use Rattle.std.proofs.lemmas.Str.Ascii.{IsAscii-cons, IsAscii-nil}
@@ -25,7 +25,7 @@ use Rattle.pol_shared.specs.declared.entry.Entry.{Entry}
 use Rattle.pol_wire.specs.Streams.{IsShifted}
 use Rattle.pol_server.specs.Ends.{Ends}
 use Rattle.pol_server.specs.Laws.{IsByInput, IsKnown, IsUnhindered, OneOutput}
-use Rattle.pol_server.specs.Link.{EndsBy, IsRefusedRest, IsToldBefore, IsUnfinishedRest, ServesLink, refused_text}
+use Rattle.pol_server.specs.Link.{EndsBy, IsRefusedRest, IsToldBefore, IsUnfinishedRest, ServesLink, refused_text, taken_bound}
 use Rattle.pol_server.specs.Turn.{AnsweredAs, Case, IsAnswered, IsFrom, IsFullAt, IsOrdered, IsRead, IsStepped, IsUnplanned, NoneCloses, Turn, full, low_after, output_of, place_of, stepped, text_of, undrawn, unplanned, without_memory, words_of}
 use Rattle.pol_server.specs.declared.served.Ending.{Ending}
 use Rattle.pol_server.specs.declared.served.Ending.TheVariants.{Ended, Cut, Closed, ReadFault, WriteFault, Spent, NoMemory}
@@ -306,61 +306,81 @@ empty_not_refused why (inl (bad, inr (over, none))) = omega (arith, over)
 empty_not_refused why (inr (head, rest, reads, refused)) =
     omega (arith, ap length reads.1, length-append (print_request head) rest, length-print_request head reads.0)
 
--- how a link ends where no turn is left
-abbrev pub Stops : Ending → List ℕ → List ℕ → List ℕ → Type 0
-Stops Ended rest left text = (rest ≡ []) × (left ≡ []) × (text ≡ [])
-Stops Cut rest left text = (rest ≢ []) × (left ≡ []) × IsUnfinishedRest rest text
-Stops Closed rest left text = IsRefusedRest rest text
-Stops ReadFault rest left text = ⊥
-Stops WriteFault rest left text = ⊥
-Stops Spent rest left text = ⊥
-Stops NoMemory rest left text = ⊥
+-- how a link ends where no turn is left, of so many bytes in all
+abbrev pub Stops : ℕ → Ending → List ℕ → List ℕ → List ℕ → Type 0
+Stops total Ended rest left text = (rest ≡ []) × (left ≡ []) × (text ≡ []) × (total < taken_bound)
+Stops total Cut rest left text = (rest ≢ []) × (left ≡ []) × IsUnfinishedRest rest text × (total < taken_bound)
+Stops total Closed rest left text = IsRefusedRest rest text
+Stops total ReadFault rest left text = ⊥
+Stops total WriteFault rest left text = ⊥
+Stops total Spent rest left text = IsUnfinishedRest rest text × (length left + taken_bound ≡ total)
+Stops total NoMemory rest left text = ⊥
 
 -- how a link ends behind its turns
-abbrev pub EndsAfter : Ending → List Turn → List ℕ → List ℕ → List ℕ → Type 0
-EndsAfter ending [] rest left text = Stops ending rest left text
-EndsAfter ending (turn ∷ turns) rest left text =
-    ((closes turn.message.head ≡ true) × (turns ≡ []) × (ending ≡ Closed) × (text ≡ [])) ⊎ ((closes turn.message.head ≡ false) × EndsAfter ending turns rest left text)
+abbrev pub EndsAfter : ℕ → Ending → List Turn → List ℕ → List ℕ → List ℕ → Type 0
+EndsAfter total ending [] rest left text = Stops total ending rest left text
+EndsAfter total ending (turn ∷ turns) rest left text =
+    ((closes turn.message.head ≡ true) × (turns ≡ []) × (ending ≡ Closed) × (text ≡ [])) ⊎ ((closes turn.message.head ≡ false) × EndsAfter total ending turns rest left text)
 
-module _ (rest left text : List ℕ) where
-  stops-after : (ending : Ending) (turns : List Turn) → NoneCloses turns → Stops ending rest left text → EndsAfter ending turns rest left text
+-- of two cuts of one list, the longer front begins with the shorter
+longer-front : (front back front' back' : List ℕ) → front ++ back ≡ front' ++ back' → length front ≤ length front' → front' ≡ front ++ drop (length front) front'
+longer-front front back front' back' same within =
+    sym (take-append-drop (length front) front')
+    ∙ ap (λ first. first ++ drop (length front) front') (sym (take-append-le (length front) front' back' within) ∙ ap (take (length front)) (sym same) ∙ take_at front back (length front) refl)
+
+same-front-of : (front back front' back' : List ℕ) → front ++ back ≡ front' ++ back' → length back ≡ length back' → front ≡ front'
+same-front-of front back front' back' same behind_ =
+    let long : length front' ≡ length front = omega (arith, ap length same, length-append front back, length-append front' back', behind_) in
+    sym (take_at front back (length front) refl) ∙ ap (take (length front)) same ∙ take_at front' back' (length front) long
+
+module _ (total : ℕ) (rest left text : List ℕ) where
+  stops-after : (ending : Ending) (turns : List Turn) → NoneCloses turns → Stops total ending rest left text → EndsAfter total ending turns rest left text
   stops-after ending [] open_ stops = stops
   stops-after ending (turn ∷ turns) open_ stops = inr (open_.0, stops-after ending turns open_.1 stops)
 
-  last-after : (front : List Turn) (last : Turn) → NoneCloses front → closes last.message.head ≡ true → text ≡ [] → EndsAfter Closed (front ++ last ∷ []) rest left text
+  last-after : (front : List Turn) (last : Turn) → NoneCloses front → closes last.message.head ≡ true → text ≡ [] → EndsAfter total Closed (front ++ last ∷ []) rest left text
   last-after [] last open_ closing none = inl (closing, refl, refl, none)
   last-after (turn ∷ front) last open_ closing none = inr (open_.0, last-after front last open_.1 closing none)
 
-  ends-after : (ending : Ending) (before after : Ends) (turns : List Turn) (taken : ℕ) → IsByInput ending → after.left ≡ Some left
-      → EndsBy ending before after turns taken rest text → EndsAfter ending turns rest left text
-  ends-after Ended before after turns taken by_input known ends =
-      stops-after Ended turns ends.0 (ends.2, subst IsAtEnd known ends.1, ends.3)
-  ends-after Cut before after turns taken by_input known ends =
-      stops-after Cut turns ends.0 (ends.2, subst IsAtEnd known ends.1, ends.3)
-  ends-after Closed before after turns taken by_input known (inl ((front, last, is, open_, closing), none)) =
-      subst (λ turns. EndsAfter Closed turns rest left text) (sym is) (last-after front last open_ closing none)
-  ends-after Closed before after turns taken by_input known (inr (open_, refused)) = stops-after Closed turns open_ refused
-  ends-after ReadFault before after turns taken by_input known ends = absurd by_input
-  ends-after WriteFault before after turns taken by_input known ends = absurd by_input
-  ends-after Spent before after turns taken by_input known ends = absurd by_input
-  ends-after NoMemory before after turns taken by_input known ends = absurd by_input
+  ends-after : (ending : Ending) (before after : Ends) (turns : List Turn) (taken : ℕ) → IsByInput ending → after.left ≡ Some left → taken + length left ≡ total
+      → EndsBy ending before after turns taken rest text → EndsAfter total ending turns rest left text
+  ends-after Ended before after turns taken by_input known all ends =
+      let none : left ≡ [] = subst IsAtEnd known ends.1 in
+      stops-after Ended turns ends.0 (ends.2, none, ends.3, omega (arith, ends.4, all, ap length none))
+  ends-after Cut before after turns taken by_input known all ends =
+      let none : left ≡ [] = subst IsAtEnd known ends.1 in
+      stops-after Cut turns ends.0 (ends.2, none, ends.3, omega (arith, ends.4, all, ap length none))
+  ends-after Closed before after turns taken by_input known all (inl ((front, last, is, open_, closing), none)) =
+      subst (λ turns. EndsAfter total Closed turns rest left text) (sym is) (last-after front last open_ closing none)
+  ends-after Closed before after turns taken by_input known all (inr (open_, refused)) = stops-after Closed turns open_ refused
+  ends-after ReadFault before after turns taken by_input known all ends = absurd by_input
+  ends-after WriteFault before after turns taken by_input known all ends = absurd by_input
+  ends-after Spent before after turns taken by_input known all ends =
+      stops-after Spent turns ends.0 (ends.2, omega (arith, ends.1, all))
+  ends-after NoMemory before after turns taken by_input known all ends = absurd by_input
 
   -- a rest with no byte behind it
   all-rest : left ≡ [] → rest ++ left ≡ rest
   all-rest none = ap (λ left. rest ++ left) none ∙ append-nil rest
 
-  -- no message stands where a link ends
-  stops-before : (ending : Ending) (message : Message) (later : List ℕ) → Stops ending rest left text → ReadsMessage (rest ++ left) message later → ⊥
-  stops-before Ended message later stops reads =
+  -- no message of bytes that may be taken stands where a link ends
+  stops-before : (ending : Ending) (message : Message) (later : List ℕ) → total ≤ length later + taken_bound → Stops total ending rest left text → ReadsMessage (rest ++ left) message later → ⊥
+  stops-before Ended message later near stops reads =
       omega (arith, ap length reads.bytes_are, length-append rest left, ap length stops.0, ap length stops.1, length-append (print_message message) later, length-message message reads.whole)
-  stops-before Cut message later stops reads =
+  stops-before Cut message later near stops reads =
       stops.2.no_message message later (subst (λ bytes. ReadsMessage bytes message later) (all-rest stops.1) reads)
-  stops-before Closed message later stops reads =
+  stops-before Closed message later near stops reads =
       message_not_refused (rest ++ left) message later reads stops.why (refused_stays rest left stops.why stops.refused)
-  stops-before ReadFault message later stops reads = stops
-  stops-before WriteFault message later stops reads = stops
-  stops-before Spent message later stops reads = stops
-  stops-before NoMemory message later stops reads = stops
+  stops-before ReadFault message later near stops reads = stops
+  stops-before WriteFault message later near stops reads = stops
+  stops-before Spent message later near stops reads =
+      let within : length (print_message message) ≤ length rest =
+      omega (arith, near, stops.1, ap length reads.bytes_are, length-append rest left, length-append (print_message message) later) in
+      stops.0.no_message message (drop (length (print_message message)) rest) (record {
+        whole = reads.whole;
+        bytes_are = longer-front (print_message message) later rest left (sym reads.bytes_are) within;
+      })
+  stops-before NoMemory message later near stops reads = stops
 
 same-told : (rest other text more : List ℕ) → rest ≡ other → IsToldBefore rest text → IsToldBefore other more → text ≡ more
 same-told rest other text more is (inl first) (inl second) = first.1 ∙ sym second.1
@@ -368,58 +388,81 @@ same-told rest other text more is (inl first) (inr second) = absurd (second.0 (s
 same-told rest other text more is (inr first) (inl second) = absurd (first.0 (subst HasAskingHead (sym is) second.0))
 same-told rest other text more is (inr first) (inr second) = first.1 ∙ sym second.1
 
-module _ (rest left text rest' left' text' : List ℕ) where
-  ended-cut : rest ++ left ≡ rest' ++ left' → Stops Ended rest left text → Stops Cut rest' left' text' → ⊥
+module _ (total : ℕ) (rest left text rest' left' text' : List ℕ) where
+  ended-cut : rest ++ left ≡ rest' ++ left' → Stops total Ended rest left text → Stops total Cut rest' left' text' → ⊥
   ended-cut bytes x y =
-      y.0 (sym (all-rest rest' left' text' y.1) ∙ sym bytes ∙ all-rest rest left text x.1 ∙ x.0)
+      y.0 (sym (all-rest total rest' left' text' y.1) ∙ sym bytes ∙ all-rest total rest left text x.1 ∙ x.0)
 
-  ended-refused : rest ++ left ≡ rest' ++ left' → Stops Ended rest left text → Stops Closed rest' left' text' → ⊥
+  ended-refused : rest ++ left ≡ rest' ++ left' → Stops total Ended rest left text → Stops total Closed rest' left' text' → ⊥
   ended-refused bytes x y =
-      empty_not_refused y.why (subst (λ bytes. IsRefusedAs bytes y.why) (sym bytes ∙ all-rest rest left text x.1 ∙ x.0) (refused_stays rest' left' y.why y.refused))
+      empty_not_refused y.why (subst (λ bytes. IsRefusedAs bytes y.why) (sym bytes ∙ all-rest total rest left text x.1 ∙ x.0) (refused_stays rest' left' y.why y.refused))
 
-  cut-refused : rest ++ left ≡ rest' ++ left' → Stops Cut rest left text → Stops Closed rest' left' text' → ⊥
+  cut-refused : rest ++ left ≡ rest' ++ left' → Stops total Cut rest left text → Stops total Closed rest' left' text' → ⊥
   cut-refused bytes x y =
-      x.2.not_refused y.why (subst (λ bytes. IsRefusedAs bytes y.why) (sym bytes ∙ all-rest rest left text x.1) (refused_stays rest' left' y.why y.refused))
+      x.2.not_refused y.why (subst (λ bytes. IsRefusedAs bytes y.why) (sym bytes ∙ all-rest total rest left text x.1) (refused_stays rest' left' y.why y.refused))
 
-  cut-twice : rest ++ left ≡ rest' ++ left' → Stops Cut rest left text → Stops Cut rest' left' text' → text ≡ text'
+  spent-refused : rest ++ left ≡ rest' ++ left' → total ≤ length left' + taken_bound → Stops total Spent rest left text → Stops total Closed rest' left' text' → ⊥
+  spent-refused bytes near x y =
+      let within : length rest' ≤ length rest = omega (arith, near, x.1, ap length bytes, length-append rest left, length-append rest' left') in
+      let longer = longer-front rest' left' rest left (sym bytes) within in
+      x.0.not_refused y.why (subst (λ bytes. IsRefusedAs bytes y.why) (sym longer) (refused_stays rest' (drop (length rest') rest) y.why y.refused))
+
+  cut-twice : rest ++ left ≡ rest' ++ left' → Stops total Cut rest left text → Stops total Cut rest' left' text' → text ≡ text'
   cut-twice bytes x y =
-      same-told rest rest' text text' (sym (all-rest rest left text x.1) ∙ bytes ∙ all-rest rest' left' text' y.1) x.2.told y.2.told
+      same-told rest rest' text text' (sym (all-rest total rest left text x.1) ∙ bytes ∙ all-rest total rest' left' text' y.1) x.2.told y.2.told
 
-  refused-twice : rest ++ left ≡ rest' ++ left' → Stops Closed rest left text → Stops Closed rest' left' text' → text ≡ text'
+  refused-twice : rest ++ left ≡ rest' ++ left' → Stops total Closed rest left text → Stops total Closed rest' left' text' → text ≡ text'
   refused-twice bytes x y =
       let first : IsRefusedAs (rest' ++ left') x.why = subst (λ bytes. IsRefusedAs bytes x.why) bytes (refused_stays rest left x.why x.refused) in
       x.text_is ∙ ap refused_text (refused_unique (rest' ++ left') x.why y.why first (refused_stays rest' left' y.why y.refused)) ∙ sym y.text_is
 
-same-stop : (rest left text rest' left' text' : List ℕ) (one two : Ending) → rest ++ left ≡ rest' ++ left' → Stops one rest left text → Stops two rest' left' text' → (one ≡ two) × (text ≡ text')
-same-stop rest left text rest' left' text' Ended Ended bytes x y = (refl, x.2 ∙ sym y.2)
-same-stop rest left text rest' left' text' Ended Cut bytes x y = absurd (ended-cut rest left text rest' left' text' bytes x y)
-same-stop rest left text rest' left' text' Ended Closed bytes x y = absurd (ended-refused rest left text rest' left' text' bytes x y)
-same-stop rest left text rest' left' text' Ended ReadFault bytes x y = absurd y
-same-stop rest left text rest' left' text' Ended WriteFault bytes x y = absurd y
-same-stop rest left text rest' left' text' Ended Spent bytes x y = absurd y
-same-stop rest left text rest' left' text' Ended NoMemory bytes x y = absurd y
-same-stop rest left text rest' left' text' Cut Ended bytes x y = absurd (ended-cut rest' left' text' rest left text (sym bytes) y x)
-same-stop rest left text rest' left' text' Cut Cut bytes x y = (refl, cut-twice rest left text rest' left' text' bytes x y)
-same-stop rest left text rest' left' text' Cut Closed bytes x y = absurd (cut-refused rest left text rest' left' text' bytes x y)
-same-stop rest left text rest' left' text' Cut ReadFault bytes x y = absurd y
-same-stop rest left text rest' left' text' Cut WriteFault bytes x y = absurd y
-same-stop rest left text rest' left' text' Cut Spent bytes x y = absurd y
-same-stop rest left text rest' left' text' Cut NoMemory bytes x y = absurd y
-same-stop rest left text rest' left' text' Closed Ended bytes x y = absurd (ended-refused rest' left' text' rest left text (sym bytes) y x)
-same-stop rest left text rest' left' text' Closed Cut bytes x y = absurd (cut-refused rest' left' text' rest left text (sym bytes) y x)
-same-stop rest left text rest' left' text' Closed Closed bytes x y = (refl, refused-twice rest left text rest' left' text' bytes x y)
-same-stop rest left text rest' left' text' Closed ReadFault bytes x y = absurd y
-same-stop rest left text rest' left' text' Closed WriteFault bytes x y = absurd y
-same-stop rest left text rest' left' text' Closed Spent bytes x y = absurd y
-same-stop rest left text rest' left' text' Closed NoMemory bytes x y = absurd y
-same-stop rest left text rest' left' text' ReadFault two bytes x y = absurd x
-same-stop rest left text rest' left' text' WriteFault two bytes x y = absurd x
-same-stop rest left text rest' left' text' Spent two bytes x y = absurd x
-same-stop rest left text rest' left' text' NoMemory two bytes x y = absurd x
+  spent-twice : rest ++ left ≡ rest' ++ left' → Stops total Spent rest left text → Stops total Spent rest' left' text' → text ≡ text'
+  spent-twice bytes x y =
+      same-told rest rest' text text' (same-front-of rest left rest' left' bytes (omega (arith, x.1, y.1))) x.0.told y.0.told
+
+same-stop : (total : ℕ) (rest left text rest' left' text' : List ℕ) (one two : Ending) → rest ++ left ≡ rest' ++ left' → total ≤ length left + taken_bound → total ≤ length left' + taken_bound
+    → Stops total one rest left text → Stops total two rest' left' text' → (one ≡ two) × (text ≡ text')
+same-stop total rest left text rest' left' text' Ended Ended bytes near near' x y = (refl, x.2 ∙ sym y.2)
+same-stop total rest left text rest' left' text' Ended Cut bytes near near' x y = absurd (ended-cut total rest left text rest' left' text' bytes x y)
+same-stop total rest left text rest' left' text' Ended Closed bytes near near' x y = absurd (ended-refused total rest left text rest' left' text' bytes x y)
+same-stop total rest left text rest' left' text' Ended ReadFault bytes near near' x y = absurd y
+same-stop total rest left text rest' left' text' Ended WriteFault bytes near near' x y = absurd y
+same-stop total rest left text rest' left' text' Ended Spent bytes near near' x y = absurd (omega (arith, x.3, y.1))
+same-stop total rest left text rest' left' text' Ended NoMemory bytes near near' x y = absurd y
+same-stop total rest left text rest' left' text' Cut Ended bytes near near' x y = absurd (ended-cut total rest' left' text' rest left text (sym bytes) y x)
+same-stop total rest left text rest' left' text' Cut Cut bytes near near' x y = (refl, cut-twice total rest left text rest' left' text' bytes x y)
+same-stop total rest left text rest' left' text' Cut Closed bytes near near' x y = absurd (cut-refused total rest left text rest' left' text' bytes x y)
+same-stop total rest left text rest' left' text' Cut ReadFault bytes near near' x y = absurd y
+same-stop total rest left text rest' left' text' Cut WriteFault bytes near near' x y = absurd y
+same-stop total rest left text rest' left' text' Cut Spent bytes near near' x y = absurd (omega (arith, x.3, y.1))
+same-stop total rest left text rest' left' text' Cut NoMemory bytes near near' x y = absurd y
+same-stop total rest left text rest' left' text' Closed Ended bytes near near' x y = absurd (ended-refused total rest' left' text' rest left text (sym bytes) y x)
+same-stop total rest left text rest' left' text' Closed Cut bytes near near' x y = absurd (cut-refused total rest' left' text' rest left text (sym bytes) y x)
+same-stop total rest left text rest' left' text' Closed Closed bytes near near' x y = (refl, refused-twice total rest left text rest' left' text' bytes x y)
+same-stop total rest left text rest' left' text' Closed ReadFault bytes near near' x y = absurd y
+same-stop total rest left text rest' left' text' Closed WriteFault bytes near near' x y = absurd y
+same-stop total rest left text rest' left' text' Closed Spent bytes near near' x y = absurd (spent-refused total rest' left' text' rest left text (sym bytes) near y x)
+same-stop total rest left text rest' left' text' Closed NoMemory bytes near near' x y = absurd y
+same-stop total rest left text rest' left' text' ReadFault two bytes near near' x y = absurd x
+same-stop total rest left text rest' left' text' WriteFault two bytes near near' x y = absurd x
+same-stop total rest left text rest' left' text' Spent Ended bytes near near' x y = absurd (omega (arith, x.1, y.3))
+same-stop total rest left text rest' left' text' Spent Cut bytes near near' x y = absurd (omega (arith, x.1, y.3))
+same-stop total rest left text rest' left' text' Spent Closed bytes near near' x y = absurd (spent-refused total rest left text rest' left' text' bytes near' x y)
+same-stop total rest left text rest' left' text' Spent ReadFault bytes near near' x y = absurd y
+same-stop total rest left text rest' left' text' Spent WriteFault bytes near near' x y = absurd y
+same-stop total rest left text rest' left' text' Spent Spent bytes near near' x y = (refl, spent-twice total rest left text rest' left' text' bytes x y)
+same-stop total rest left text rest' left' text' Spent NoMemory bytes near near' x y = absurd y
+same-stop total rest left text rest' left' text' NoMemory two bytes near near' x y = absurd x
 
 -- ---- two links
 
-module _ (base : Rows) (number : ℕ) (new other : List Entry) (rest left text rest' left' text' : List ℕ) (one two : Ending) where
+-- the bytes behind a message are no fewer than those that were not taken
+later-near : (total : ℕ) (turns : List Turn) (rest left : List ℕ) → total ≤ length left + taken_bound
+    → total ≤ length (flat_map (λ turn. print_message turn.message) turns ++ (rest ++ left)) + taken_bound
+later-near total turns rest left near =
+    omega (arith, near, length-append (flat_map (λ turn. print_message turn.message) turns) (rest ++ left), length-append rest left)
+
+module _ (base : Rows) (number : ℕ) (new other : List Entry) (total : ℕ) (rest left text rest' left' text' : List ℕ) (one two : Ending) where
   first-same : (past : List Entry) (bytes : List ℕ) (moments words : ℕ → ℕ) (a b : Turn) (a_later b_later : List Turn)
       → Trace base number new past bytes moments words (a ∷ a_later) rest left → Trace base number other past bytes moments words (b ∷ b_later) rest' left'
       → (a ≡ b) × (later-bytes base number new past bytes moments words a a_later rest left ≡ later-bytes base number other past bytes moments words b b_later rest' left')
@@ -455,28 +498,29 @@ module _ (base : Rows) (number : ℕ) (new other : List Entry) (rest left text r
 
   same-link : (past : List Entry) (bytes : List ℕ) (moments words : ℕ → ℕ) (turns others : List Turn)
       → Trace base number new past bytes moments words turns rest left → Trace base number other past bytes moments words others rest' left'
-      → EndsAfter one turns rest left text → EndsAfter two others rest' left' text' → (turns ≡ others) × (one ≡ two) × (text ≡ text')
-  same-link past bytes moments words [] [] x y first second =
-      let ends = same-stop rest left text rest' left' text' one two (sym x.bytes_are ∙ y.bytes_are) first second in
+      → total ≤ length left + taken_bound → total ≤ length left' + taken_bound
+      → EndsAfter total one turns rest left text → EndsAfter total two others rest' left' text' → (turns ≡ others) × (one ≡ two) × (text ≡ text')
+  same-link past bytes moments words [] [] x y near near' first second =
+      let ends = same-stop total rest left text rest' left' text' one two (sym x.bytes_are ∙ y.bytes_are) near near' first second in
       (refl, ends.0, ends.1)
-  same-link past bytes moments words [] (b ∷ b_later) x y first second =
-      absurd (stops-before rest left text one b.message (later-bytes base number other past bytes moments words b b_later rest' left') first (subst (λ all. ReadsMessage all b.message (later-bytes base number other past bytes moments words b b_later rest' left')) x.bytes_are (first-reads base number other past bytes moments words b b_later rest' left' y)))
-  same-link past bytes moments words (a ∷ a_later) [] x y first second =
-      absurd (stops-before rest' left' text' two a.message (later-bytes base number new past bytes moments words a a_later rest left) second (subst (λ all. ReadsMessage all a.message (later-bytes base number new past bytes moments words a a_later rest left)) y.bytes_are (first-reads base number new past bytes moments words a a_later rest left x)))
-  same-link past bytes moments words (a ∷ a_later) (b ∷ b_later) x y (inl first) (inl second) =
+  same-link past bytes moments words [] (b ∷ b_later) x y near near' first second =
+      absurd (stops-before total rest left text one b.message (later-bytes base number other past bytes moments words b b_later rest' left') (later-near total b_later rest' left' near') first (subst (λ all. ReadsMessage all b.message (later-bytes base number other past bytes moments words b b_later rest' left')) x.bytes_are (first-reads base number other past bytes moments words b b_later rest' left' y)))
+  same-link past bytes moments words (a ∷ a_later) [] x y near near' first second =
+      absurd (stops-before total rest' left' text' two a.message (later-bytes base number new past bytes moments words a a_later rest left) (later-near total a_later rest left near) second (subst (λ all. ReadsMessage all a.message (later-bytes base number new past bytes moments words a a_later rest left)) y.bytes_are (first-reads base number new past bytes moments words a a_later rest left x)))
+  same-link past bytes moments words (a ∷ a_later) (b ∷ b_later) x y near near' (inl first) (inl second) =
       let turn = (first-same past bytes moments words a b a_later b_later x y).0 in
       let later : a_later ≡ b_later = first.1 ∙ sym second.1 in
       (λ i. turn i ∷ later i, first.2 ∙ sym second.2, first.3 ∙ sym second.3)
-  same-link past bytes moments words (a ∷ a_later) (b ∷ b_later) x y (inl first) (inr second) =
+  same-link past bytes moments words (a ∷ a_later) (b ∷ b_later) x y near near' (inl first) (inr second) =
       absurd (closes-alike a b (first-same past bytes moments words a b a_later b_later x y).0 first.0 second.0)
-  same-link past bytes moments words (a ∷ a_later) (b ∷ b_later) x y (inr first) (inl second) =
+  same-link past bytes moments words (a ∷ a_later) (b ∷ b_later) x y near near' (inr first) (inl second) =
       absurd (closes-alike b a (sym (first-same past bytes moments words a b a_later b_later x y).0) second.0 first.0)
-  same-link past bytes moments words (a ∷ a_later) (b ∷ b_later) x y (inr first) (inr second) =
+  same-link past bytes moments words (a ∷ a_later) (b ∷ b_later) x y near near' (inr first) (inr second) =
       let same = first-same past bytes moments words a b a_later b_later x y in
       let later = same-link (past ++ a.entries) _ (behind moments (length a.moments)) (behind words (length a.words)) a_later b_later
       (trace-later base number new past bytes moments words a a_later rest left x)
       (later-alike past moments words _ _ a b b_later same.0 same.1 (trace-later base number other past bytes moments words b b_later rest' left' y))
-      first.1 second.1 in
+      near near' first.1 second.1 in
       (λ i. same.0 i ∷ later.0 i, later.1, later.2)
 
 -- the bytes that are left of a known source
@@ -509,7 +553,7 @@ by-input Cut by_input is = cc
 by-input Closed by_input is = cc
 by-input ReadFault by_input is = by_input
 by-input WriteFault by_input is = by_input
-by-input Spent by_input is = by_input
+by-input Spent by_input is = cc
 by-input NoMemory by_input is = by_input
 
 -- all that was to be written was given
@@ -522,11 +566,15 @@ pub one_output : OneOutput
 one_output base number before after other_after old new other_new served other_served link other known first second =
     let left = left-of before.left after.left known.bytes link.taken known.left_is link.takes in
     let left' = left-of before.left other_after.left known.bytes other.taken known.left_is other.takes in
-    let same = same-link base number new other_new link.rest left.0 link.text other.rest left'.0 other.text served.ending other_served.ending old known.bytes known.moments known.words link.turns other.turns
+    let total = length known.bytes in
+    let all : length link.taken + length left.0 ≡ total = omega (arith, ap length left.2, length-append link.taken left.0) in
+    let all' : length other.taken + length left'.0 ≡ total = omega (arith, ap length left'.2, length-append other.taken left'.0) in
+    let same = same-link base number new other_new total link.rest left.0 link.text other.rest left'.0 other.text served.ending other_served.ending old known.bytes known.moments known.words link.turns other.turns
     (link-trace base number before after old new served link known left.0 left.2 first.unhindered)
     (link-trace base number before other_after old other_new other_served other known left'.0 left'.2 second.unhindered)
-    (ends-after link.rest left.0 link.text served.ending before after link.turns (length link.taken) first.by_input left.1 link.ends)
-    (ends-after other.rest left'.0 other.text other_served.ending before other_after other.turns (length other.taken) second.by_input left'.1 other.ends) in (
+    (omega (arith, all, link.within)) (omega (arith, all', other.within))
+    (ends-after total link.rest left.0 link.text served.ending before after link.turns (length link.taken) first.by_input left.1 all link.ends)
+    (ends-after total other.rest left'.0 other.text other_served.ending before other_after other.turns (length other.taken) second.by_input left'.1 all' other.ends) in (
       given-whole base number before after old new served link first.by_input ∙ (λ i. flat_map output_of (same.0 i) ++ same.2 i) ∙ sym (given-whole base number before other_after old other_new other_served other second.by_input),
       link.places ∙ ap (map place_of) same.0 ∙ sym other.places,
       same.1,

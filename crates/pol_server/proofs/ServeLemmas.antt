@@ -1,8 +1,7 @@
 -- A link from its start to its end.
-use Rattle.std.proofs.Common.{◌≡◌, ◌≢◌, ◌<◌, ◌≤◌, ◌+◌, ◌-◌, ◌^◌, ◌⊎◌, ℕ, Bool, true, false, List, [], ◌∷◌, ◌++◌, map, length, Some, None, Option, refl, sym, ap, subst, ◌∙◌, inl, inr, arith, append-nil}
-use Rattle.std.specs.Prelude.{⊤}
-use Rattle.std.specs.List.{flat_map, AllByRecursion}
-use Rattle.std.specs.Io.KnownBytes.{Consumes, IsAtEnd}
+use Rattle.std.proofs.Common.{◌≡◌, ◌<◌, ◌≤◌, ◌+◌, ℕ, true, false, List, [], ◌++◌, map, length, Some, None, Option, refl, sym, ap, subst, ◌∙◌, inl, inr, arith, append-nil}
+use Rattle.std.specs.List.{AllByRecursion}
+use Rattle.std.specs.Io.KnownBytes.{IsAtEnd}
 use Rattle.std.proofs.KnownBytes.{Appends-nil}
 use Rattle.pol_shared.specs.History.{Log}
 use Rattle.pol_wire.specs.Faults.{Rises}
@@ -11,13 +10,13 @@ use Rattle.pol_server.specs.Link.{EndsBy, ServesLink, taken_bound}
 use Rattle.pol_server.specs.Turn.{IsAnswered, Turn, place_of}
 use Rattle.pol_server.specs.declared.served.Served.{Served}
 use Rattle.pol_server.specs.declared.served.Ending.TheVariants.{Ended, Cut, Closed, ReadFault, WriteFault, Spent, NoMemory}
-use Rattle.pol_server.specs.Serving.{FitsEnding, told_text, Continues, Finishes, IsEndingOf, IsStopped, IsToldAsked, IsUnread, KeepsStop, Moves, Standing, StopsBy, standing}
+use Rattle.pol_server.specs.Serving.{FitsEnding, told_text, Continues, Finishes, IsEndingOf, IsStopped, IsToldAsked, KeepsStop, Standing, standing}
 use Rattle.pol_server.specs.declared.connection.Connection.{Connection}
 use Rattle.pol_server.specs.declared.connection.Stop.{Stop}
 use Rattle.pol_server.specs.declared.connection.Stop.TheVariants as stop
 use Rattle.pol_server.specs.declared.served.Ending.{Ending}
 use Rattle.pol_server.proofs.EndsLemmas.{rises-earlier}
-use Rattle.pol_server.proofs.GoesLemmas.{continues-trans, finishes-after, goes-given}
+use Rattle.pol_server.proofs.GoesLemmas.{continues-trans, goes-given}
 
 -- what holds between two calls of the source or two messages, since the start
 pub record IsServed (before now : Ends) (first log : Log) (start connection : Connection) : Type 0 where
@@ -29,15 +28,17 @@ pub record IsServed (before now : Ends) (first log : Log) (start connection : Co
 stopped-earlier : (why : Option Stop) (before now new : Ends) (budget : ℕ) → before.source_faults ≤ now.source_faults → IsStopped why now new budget → IsStopped why before new budget
 stopped-earlier None before now new budget within is = tt
 stopped-earlier (Some stop.AtEnd) before now new budget within is = is
-stopped-earlier (Some stop.Failed) before now new budget within is = rises-earlier before.source_faults now.source_faults new.source_faults within is
+stopped-earlier (Some stop.Failed) before now new budget within is =
+    (rises-earlier before.source_faults now.source_faults new.source_faults within is.0, is.1)
 stopped-earlier (Some stop.Spent) before now new budget within is = is
 stopped-earlier (Some stop.NoMemory) before now new budget within is = tt
 
 -- a stop stays while the source is not called
 stopped-unread : (why : Option Stop) (before now new : Ends) (budget : ℕ) → new.left ≡ now.left → new.source_faults ≡ now.source_faults → IsStopped why before now budget → IsStopped why before new budget
 stopped-unread None before now new budget left faults is = tt
-stopped-unread (Some stop.AtEnd) before now new budget left faults is = subst IsAtEnd (sym left) is
-stopped-unread (Some stop.Failed) before now new budget left faults is = subst (Rises before.source_faults) (sym faults) is
+stopped-unread (Some stop.AtEnd) before now new budget left faults is = (subst IsAtEnd (sym left) is.0, is.1)
+stopped-unread (Some stop.Failed) before now new budget left faults is =
+    (subst (Rises before.source_faults) (sym faults) is.0, is.1)
 stopped-unread (Some stop.Spent) before now new budget left faults is = is
 stopped-unread (Some stop.NoMemory) before now new budget left faults is = tt
 
@@ -82,12 +83,15 @@ ends-by : (ending : Ending) (why : Option Stop) (before after : Ends) (turns : L
     → FitsEnding ending turns rest text → IsEndingOf why ending → IsStopped why before after budget → budget + taken ≡ taken_bound → (ending ≡ WriteFault → Rises before.sink_faults after.sink_faults)
     → EndsBy ending before after turns taken rest text
 ends-by Ended why before after turns budget taken rest text fits is stopped spent caused =
-    (fits.0, subst (λ why. IsStopped why before after budget) is stopped, fits.1, fits.2)
+    let at_end : IsAtEnd after.left × (0 < budget) = subst (λ why. IsStopped why before after budget) is stopped in
+    (fits.0, at_end.0, fits.1, fits.2, omega (arith, at_end.1, spent))
 ends-by Cut why before after turns budget taken rest text fits is stopped spent caused =
-    (fits.0, subst (λ why. IsStopped why before after budget) is stopped, fits.1, fits.2)
+    let at_end : IsAtEnd after.left × (0 < budget) = subst (λ why. IsStopped why before after budget) is stopped in
+    (fits.0, at_end.0, fits.1, fits.2, omega (arith, at_end.1, spent))
 ends-by Closed why before after turns budget taken rest text fits is stopped spent caused = fits
 ends-by ReadFault why before after turns budget taken rest text fits is stopped spent caused =
-    (fits.0, subst (λ why. IsStopped why before after budget) is stopped, fits.1)
+    let failed : Rises before.source_faults after.source_faults × (0 < budget) = subst (λ why. IsStopped why before after budget) is stopped in
+    (fits.0, failed.0, fits.1, omega (arith, failed.1, spent))
 ends-by WriteFault why before after turns budget taken rest text fits is stopped spent caused = (caused refl, fits)
 ends-by Spent why before after turns budget taken rest text fits is stopped spent caused =
     let none : budget ≡ 0 = subst (λ why. IsStopped why before after budget) is stopped in

@@ -48,14 +48,14 @@ pub record IsKnown (ends : Ends) : Type 0 where
   pub moments_are : ends.moments ≡ Some moments
   pub words_are : ends.words ≡ Some words
 
--- the link ended by its input
+-- the link ended by its input, or since it had taken all bytes that it may
 abbrev pub IsByInput : Ending → Type 0
 IsByInput Ended = ⊤
 IsByInput Cut = ⊤
 IsByInput Closed = ⊤
 IsByInput ReadFault = ⊥
 IsByInput WriteFault = ⊥
-IsByInput Spent = ⊥
+IsByInput Spent = ⊤
 IsByInput NoMemory = ⊥
 
 -- neither a draw failed nor memory was wanting

@@ -51,12 +51,16 @@ pub record IsRestWithoutMemory (rest text : List ℕ) : Type 0 where
 abbrev pub MayBeGiven : List ℕ → List ℕ → Type 0
 MayBeGiven rest text = IsToldBefore rest text ⊎ (IsRefusedRest rest text ⊎ IsRestWithoutMemory rest text)
 
--- how a link ends behind the turns that were taken, with this rest of its bytes and this text
+-- how a link ends behind the turns that were taken, with this rest of its bytes and this text. A source is asked only
+-- while more bytes may be taken, so that a link which has taken all of them is spent and at no end
 abbrev pub EndsBy : Ending → Ends → Ends → List Turn → ℕ → List ℕ → List ℕ → Type 0
-EndsBy Ended before after turns taken rest text = NoneCloses turns × IsAtEnd after.left × (rest ≡ []) × (text ≡ [])
-EndsBy Cut before after turns taken rest text = NoneCloses turns × IsAtEnd after.left × (rest ≢ []) × IsUnfinishedRest rest text
+EndsBy Ended before after turns taken rest text =
+    NoneCloses turns × IsAtEnd after.left × (rest ≡ []) × (text ≡ []) × (taken < taken_bound)
+EndsBy Cut before after turns taken rest text =
+    NoneCloses turns × IsAtEnd after.left × (rest ≢ []) × IsUnfinishedRest rest text × (taken < taken_bound)
 EndsBy Closed before after turns taken rest text = (LastCloses turns × (text ≡ [])) ⊎ (NoneCloses turns × IsRefusedRest rest text)
-EndsBy ReadFault before after turns taken rest text = NoneCloses turns × Rises before.source_faults after.source_faults × IsUnfinishedRest rest text
+EndsBy ReadFault before after turns taken rest text =
+    NoneCloses turns × Rises before.source_faults after.source_faults × IsUnfinishedRest rest text × (taken < taken_bound)
 EndsBy WriteFault before after turns taken rest text =
     Rises before.sink_faults after.sink_faults × (((LastCloses turns ⊎ NoneCloses turns) × (text ≡ [])) ⊎ (NoneCloses turns × MayBeGiven rest text))
 EndsBy Spent before after turns taken rest text = NoneCloses turns × (taken ≡ taken_bound) × IsUnfinishedRest rest text

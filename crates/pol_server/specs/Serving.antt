@@ -1,11 +1,9 @@
 -- A link while it is served: what is seen at a moment, and what went on between two moments.
-use Rattle.std.specs.Prelude.{◌≡◌, ◌≢◌, ◌<◌, ◌≤◌, ◌+◌, ◌*◌, ◌-◌, ◌^◌, ◌⊎◌, ⊤, ℕ, Bool, true, false, List, [], ◌∷◌, ◌++◌, length, map, Option, Some, None, is_some, Result, Ok, Err, MatchOption, MatchResult, OnOk, OnErr, if◌then◌else◌, codes}
+use Rattle.std.specs.Prelude.{◌≡◌, ◌≢◌, ◌<◌, ◌≤◌, ◌+◌, ◌*◌, ◌-◌, ◌^◌, ◌⊎◌, ⊤, ℕ, Bool, true, List, [], ◌++◌, length, map, Option, Some, None, is_some, Result, MatchOption, MatchResult, OnOk, OnErr, if◌then◌else◌}
 use Rattle.std.specs.List.{flat_map, AllByRecursion}
-use Rattle.std.specs.Str.{bytes_eq}
 use Rattle.std.specs.Io.KnownBytes.{Appends, Consumes, IsAtEnd}
 use Rattle.pol_http.specs.Answer.{answer_text}
 use Rattle.pol_http.specs.Message.{HasAskingHead, IsMessage, Message, print_message}
-use Rattle.pol_http.specs.declared.answer.Answer.{Answer}
 use Rattle.pol_http.specs.declared.answer.TheConstants.{CONTINUE, INSUFFICIENT_STORAGE}
 use Rattle.pol_machine.specs.Machine.{reply_of}
 use Rattle.pol_commands.specs.declared.command.Command.{Command}
@@ -174,10 +172,11 @@ abbrev pub Moves : Option Ending → Standing → Standing → Type 0
 Moves None a b = Continues a b
 Moves (Some ending) a b = Finishes ending a b
 
--- what a stop of the source tells of the ends since a moment, and of the bytes that may still be taken
+-- what a stop of the source tells of the ends since a moment, and of the bytes that may still be taken: while there are
+-- none, it is not asked
 abbrev pub StopsBy : Stop → Ends → Ends → ℕ → Type 0
-StopsBy stop.AtEnd before now budget = IsAtEnd now.left
-StopsBy stop.Failed before now budget = Rises before.source_faults now.source_faults
+StopsBy stop.AtEnd before now budget = IsAtEnd now.left × (0 < budget)
+StopsBy stop.Failed before now budget = Rises before.source_faults now.source_faults × (0 < budget)
 StopsBy stop.Spent before now budget = budget ≡ 0
 StopsBy stop.NoMemory before now budget = ⊤
 

@@ -11,8 +11,8 @@ use pol_wire::{Clock, Draw, Link, Sink, Source};
 use std::alloc::Global;
 
 /// Serves a link until it ends: takes its bytes, answers its requests from the catalogue in their order (RFC 9112,
-/// section 9.3.2), each before more bytes are taken for another, and gives the answers to its sink. At most 2^40
-/// bytes are taken.
+/// section 9.3.2), and gives the answers to its sink. At most 2^40 bytes are taken. That a request is answered before
+/// more bytes are taken for another is not in the contract.
 pub fn serve_connection<S: Source, K: Sink, C: Clock, W: Draw>(
     alloc: Global,
     catalogue: &mut Kept,
