@@ -87,9 +87,6 @@ each-kept P Q keep (x ∷ xs) all so = by (keep x) refl (each-kept P Q keep xs a
     by true is rest = (so x all.0 is, rest)
     by false is rest = rest
 
-not-false : (b : Bool) → b ≡ false → not b ≡ true
-not-false b is = ap not is
-
 pub not-is : (b : Bool) → not b ≡ true → b ≡ false
 not-is true is = sym is
 not-is false is = refl

@@ -1,9 +1,9 @@
 -- Messages are read in one way, and what is refused is refused with one cause.
-use Rattle.std.proofs.Common.{◌≡◌, ℕ, ◌+◌, ◌-◌, ◌<◌, ◌≤◌, Bool, true, false, List, [], ◌∷◌, ◌++◌, length, take, drop, cond, Ok, Err, All, refl, sym, ap, ◌∙◌, subst, inl, inr, arith, append_assoc, append-nil, length-append}
+use Rattle.std.proofs.Common.{◌≡◌, ℕ, ◌+◌, ◌-◌, ◌<◌, ◌≤◌, true, List, [], ◌∷◌, ◌++◌, length, take, drop, cond, Ok, Err, All, refl, sym, ap, ◌∙◌, subst, inl, inr, arith, append_assoc, append-nil, length-append}
 use Rattle.std.proofs.lemmas.Bool.{cases_lt}
 use Rattle.std.proofs.lemmas.Bool.Decides.{nat_tests}
 use Rattle.std.proofs.lemmas.List.{take_at, drop_at, take-append-le}
-use Rattle.std.proofs.lemmas.List.Elements.{All-nil, All-cons, All-head, All-tail}
+use Rattle.std.proofs.lemmas.List.Elements.{All-head, All-tail}
 use lib.Seq.{take-add}
 use Rattle.std.specs.List.{flat_map}
 use Rattle.httparse.specs.Grammar.{RequestHead, print_request, ReadsRequest, HasNoRequest}
@@ -45,19 +45,6 @@ message_unique bytes m n r q x y =
     let bodies = same_front m.body n.body r q (cc lengths) heads.1 in
     (λ i. record { head = heads.0 i; body = bodies.0 i }, bodies.1)
 
-pub ReadsMessage-append : (bytes : List ℕ) (m : Message) (rest more : List ℕ) → ReadsMessage bytes m rest
-    → ReadsMessage (bytes ++ more) m (rest ++ more)
-ReadsMessage-append bytes m rest more reads = record {
-  whole = reads.whole;
-  bytes_are = ap (λ t. t ++ more) reads.bytes_are ∙ append_assoc (print_message m) rest more;
-}
-
--- what follows does not change the message at the front
-pub message_prefix_free : (bytes more : List ℕ) (m n : Message) (r q : List ℕ) → ReadsMessage bytes m r
-    → ReadsMessage (bytes ++ more) n q → (m ≡ n) × (r ++ more ≡ q)
-message_prefix_free bytes more m n r q x y =
-    message_unique (bytes ++ more) m n (r ++ more) q (ReadsMessage-append bytes m r more x) y
-
 pub begins_no_other : (m n : Message) (more : List ℕ) → IsMessage m → IsMessage n → print_message n ≡ print_message m ++ more
     → (m ≡ n) × (more ≡ [])
 begins_no_other m n more is is' same =
@@ -90,30 +77,10 @@ messages_unique bytes ms ns r q x y = same_cut ms ns r q x.whole y.whole x.last 
 
 -- ---- cuts, message by message
 
-pub Messages-nil : (bytes : List ℕ) → HasNoMessage bytes → Messages bytes [] bytes
-Messages-nil bytes none = record { whole = All-nil IsMessage; bytes_are = refl; last = none }
-
-pub Messages-cons : (bytes rest : List ℕ) (m : Message) (ms : List Message) (last : List ℕ) → ReadsMessage bytes m rest
-    → Messages rest ms last → Messages bytes (m ∷ ms) last
-Messages-cons bytes rest m ms last reads cut = record {
-  whole = All-cons IsMessage m ms reads.whole cut.whole;
-  bytes_are = reads.bytes_are ∙ ap (λ t. print_message m ++ t) cut.bytes_are
-      ∙ sym (append_assoc (print_message m) (flat_map print_message ms) last);
-  last = cut.last;
-}
-
 pub length-message : (m : Message) → IsMessage m → 0 < length (print_message m)
 length-message m is = omega (arith, length-print_message m, length-print_request m.head is.head)
 
 -- ---- one cause
-
-ok_within : (h : RequestHead) (n : ℕ) → body_length h ≡ Ok n → length (print_request h) ≤ HEAD_LIMIT
-unfolding body_length
-ok_within h n ok = by_case (passes_limit h) refl
-  where
-    by_case : (b : Bool) → passes_limit h ≡ b → length (print_request h) ≤ HEAD_LIMIT
-    by_case true passes = absurd (cc (ap (λ b. cond b (Err BadHead) (announced_length (fields_of h))) passes))
-    by_case false within = grind (arith, nat_tests)
 
 over_limit : (h : RequestHead) → HEAD_LIMIT < length (print_request h) → body_length h ≡ Err BadHead
 unfolding body_length

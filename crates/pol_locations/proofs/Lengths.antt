@@ -31,10 +31,6 @@ too_long [] rest segment measured before long = let left = before.left in let wi
 too_long (first ∷ segments) rest segment measured before long =
     let left = before.left in let within = before.within in omega (arith, length-location_text first segments)
 
-pub measured_more : (segments rest : List (List ℕ)) (segment : List ℕ) (measured : ℕ) → HaveMeasured segments (segment ∷ rest) measured → length segment < 1024 - measured → HaveMeasured segments rest (measured + (length segment + 1))
-measured_more segments rest segment measured before short =
-    let left = before.left in let within = before.within in record { left = omega arith; within = omega arith }
-
 -- all segments stay within it
 pub not_too_long : (segments : List (List ℕ)) (measured : ℕ) → HaveMeasured segments [] measured → length (location_text segments) ≤ 1024
 not_too_long [] measured all = omega arith

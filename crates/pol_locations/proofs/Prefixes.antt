@@ -39,10 +39,6 @@ pub test-from_Overlaps : (a b : List (List ℕ)) → Overlaps a b → is_overlap
 test-from_Overlaps a b (inl covered) = first_of_both (is_cover a b) (is_cover b a) (test-from_Covers a b covered)
 test-from_Overlaps a b (inr covered) = second_of_both (is_cover a b) (is_cover b a) (test-from_Covers b a covered)
 
-pub Overlaps-tested : (a b : List (List ℕ)) (answer : Bool) → answer ≡ is_overlap a b → IsTrue answer ↔ Overlaps a b
-Overlaps-tested a b answer tested =
-    ((λ holds. Overlaps-from_test a b (sym tested ∙ holds)), (λ overlapping. tested ∙ test-from_Overlaps a b overlapping))
-
 -- cover is a partial order
 pub Covers-refl : (a : List (List ℕ)) → Covers a a
 Covers-refl a = ([], sym (append-nil a))

@@ -1,9 +1,9 @@
 -- Changes applied: from a list that is emptied from its end, and the drops of what names a row.
-use Rattle.std.proofs.Common.{◌≡◌, ℕ, Bool, true, false, not, ◌&&◌, ◌||◌, List, [], ◌∷◌, ◌++◌, filter, map, reverse, refl, sym, ap, subst, ◌∙◌, true≢false, cond}
+use Rattle.std.proofs.Common.{◌≡◌, ℕ, Bool, true, false, not, ◌&&◌, ◌||◌, List, [], ◌∷◌, ◌++◌, filter, map, refl, sym, ap, subst, ◌∙◌, true≢false, cond}
 use Rattle.std.specs.Coded.{Coded}
 use Rattle.std.specs.List.{fold, AllByRecursion}
 use Rattle.std.specs.declared.cmp.Ordering.{Ordering}
-use Rattle.std.proofs.lemmas.List.{append-nil, reverse-append}
+use Rattle.std.proofs.lemmas.List.{append-nil}
 use Rattle.std.proofs.lemmas.List.Sums.{fold-append}
 use Rattle.pol_access.specs.Access.{catalog_role_id}
 use Rattle.pol_access.specs.Order.{grant_cmp, grants_in_order, join_cmp, joins_in_order}
@@ -28,10 +28,6 @@ use Rattle.pol_tables.proofs.RisingLemmas.{IdsDiffer-rising, KeysRise-filter}
 use Rattle.pol_tables.proofs.SameLemmas.{same-symmetric}
 use Rattle.pol_machine.specs.Applied.{changed}
 use Rattle.pol_machine.specs.Rows.{Rows}
-
--- the last item of a list is the first of the list turned round
-pub reverse-push : (changes rest : List Change) (change : Change) → changes ≡ rest ++ change ∷ [] → reverse changes ≡ change ∷ reverse rest
-reverse-push changes rest change is = ap reverse is ∙ reverse-append rest (change ∷ [])
 
 -- facts that are taken away one after the other
 module _ {T : Type 0} (code : Coded T) where

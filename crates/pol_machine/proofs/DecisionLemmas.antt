@@ -22,7 +22,6 @@ use Rattle.pol_machine.specs.Rows.{Rows}
 use Rattle.pol_machine.specs.Rules.{above, client_of, first_refusal, given, key_twice, namespace_holds, over_limit, run_full, with_serial, time_of}
 use Rattle.pol_machine.specs.Sessions.{open_session, opened, session_opened}
 use Rattle.pol_machine.specs.Sound.{IsSound}
-use Rattle.pol_content.specs.declared.change.Change.{Change}
 use Rattle.pol_commands.specs.declared.command.Action.{Action}
 use Rattle.pol_commands.specs.declared.command.Action.TheVariants.{OpenSession, GetConfig, ListCatalogs, CreateCatalog, GetCatalog, DropCatalog, ListNamespaces, CreateNamespace, LoadNamespace, HeadNamespace, DropNamespace, UpdateProperties, ListPrincipals, CreatePrincipal, GetPrincipal, DropPrincipal, Rotate, ListMembers, AddMember, EndMember, ListPrincipalRoles, CreatePrincipalRole, GetPrincipalRole, DropPrincipalRole, ListJoins, AddJoin, EndJoin, ListCatalogRoles, CreateCatalogRole, GetCatalogRole, DropCatalogRole, ListGrants, AddGrant, Revoke}
 use Rattle.pol_commands.specs.declared.command.Command.{Command}
@@ -319,18 +318,3 @@ module _ (s : Rows) (command : Command) where
       by : (full : Option Refusal) → is_some full ≡ true → next_by full s (stamped s command (rows_by (first_refusal rules) s action)) ≡ s
       by (Some why) some = refl
       by None some = absurd (true≢false (sym some))
-
-  -- for a command that isn't told so, the run has room
-  pub open-untold : is_run_full (reply_of s command) ≡ false → run_full s command.charge ≡ None
-  open-untold untold = by (run_full s command.charge) (sym full-told ∙ untold)
-    where
-      by : (full : Option Refusal) → is_some full ≡ false → full ≡ None
-      by None none = refl
-      by (Some why) none = absurd (true≢false none)
-
-  -- its changes lead to a sound state
-  pub applied-sound : (rows : Rows) (changes : List Change) (time : ℕ) → IsSound s → command.moment ≤ 2 ^ 62 → IsProper command.action → is_run_full (reply_of s command) ≡ false
-      → rows ≡ s → changes ≡ changes_between s (next_state s command) → time ≡ time_of s command → IsSound (applied changes time command.charge rows)
-  applied-sound rows changes time sound moment proper untold rows_are changes_are time_is =
-      let leads : applied changes time command.charge rows ≡ next_state s command = (λ i. applied (changes_are i) (time_is i) command.charge (rows_are i)) ∙ changes-lead sound (open-untold untold) in
-      subst IsSound (sym leads) (next-sound sound moment proper)

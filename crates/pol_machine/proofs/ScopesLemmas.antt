@@ -1,12 +1,11 @@
 -- Roles by the scopes that name them.
-use Rattle.std.proofs.Common.{◌≡◌, ◌≢◌, ℕ, true, false, not, cond, ◌==◌, ◌||◌, List, [], ◌∷◌, length, None, Some, refl, sym, ap, ◌∙◌, inl, inr}
-use Rattle.std.specs.List.{filter_map, find, list_all, list_any}
+use Rattle.std.proofs.Common.{◌≡◌, ◌≢◌, ℕ, true, false, not, cond, List, [], ◌∷◌, None, Some, refl, ap, inl, inr}
+use Rattle.std.specs.List.{find, list_all}
 use Rattle.std.specs.Str.{bytes_eq}
 use Rattle.pol_names.specs.declared.scope.Scope.TheVariants as scope
 use Rattle.pol_types.specs.Exact.{bytes_tell}
 use Rattle.pol_machine.specs.Rows.{Rows}
-use Rattle.pol_machine.specs.Rules.{all_roles, held_role, invalid_scope, is_scope, role_scope}
-use Rattle.pol_machine.specs.Sessions.{scope_of}
+use Rattle.pol_machine.specs.Rules.{invalid_scope, is_scope, role_scope}
 use Rattle.pol_commands.specs.declared.reply.Refusal.TheVariants.{InvalidScope}
 
 module _ {R : Type 0} (name : R → List ℕ) where
@@ -31,9 +30,3 @@ module _ (s : Rows) (principal : ℕ) (scopes : List (List ℕ)) where
   pub scopes-passed : list_all (is_scope s.access principal) scopes ≡ true → invalid_scope s principal scopes ≡ None
   unfolding invalid_scope
   scopes-passed passed = ap (λ all. cond (not all) (Some InvalidScope) None) passed
-
-  -- where they don't mean all roles, they make the scope of the roles that they name
-  pub scope_of-roles : (roles : List ℕ) → (length scopes == 0 || list_any (λ scope. bytes_eq scope all_roles) scopes) ≡ false → roles ≡ filter_map (held_role s.access principal) scopes → scope.Roles roles ≡ scope_of s principal scopes
-  unfolding scope_of
-  scope_of-roles roles named are =
-      ap scope.Roles are ∙ sym (ap (λ all. cond all scope.All (scope.Roles (filter_map (held_role s.access principal) scopes))) named)

@@ -69,10 +69,6 @@ module _ (s : Rows) (command : Command) (scopes : List (List ℕ)) where
     abbrev rules : List (Option Refusal)
     rules = (open_session s command client_id secret scopes).rules
 
-    -- the refusals, in their order
-    pub client-refused : (why : Refusal) → invalid_client s client_id secret ≡ Some why → first_refusal rules ≡ Some why
-    client-refused why fails = refusal-stops _ why _ fails
-
     module _ (principal : PrincipalRow) (known : invalid_client s client_id secret ≡ None) (found : client_of s client_id secret ≡ Some principal) where
       scope_rule : (rule : Option Refusal) → invalid_scope s principal.id scopes ≡ rule → given (client_of s client_id secret) (λ principal. invalid_scope s principal.id scopes) ≡ rule
       scope_rule rule is = ap (λ client. given client (λ principal. invalid_scope s principal.id scopes)) found ∙ is

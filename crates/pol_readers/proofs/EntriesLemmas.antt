@@ -1,5 +1,5 @@
 -- An object's members, read one by one.
-use Rattle.std.proofs.Common.{◌≡◌, ℕ, List, [], ◌∷◌, ◌++◌, map, String, Global, string_bytes, string_cmp, nat_cmp, Less, Ok, Err, refl, sym, ◌∙◌, subst, append_assoc}
+use Rattle.std.proofs.Common.{◌≡◌, ℕ, List, [], ◌∷◌, ◌++◌, map, String, Global, string_bytes, string_cmp, nat_cmp, Less, Ok, sym, ◌∙◌, subst, append_assoc}
 use Rattle.std.proofs.lemmas.List.{map-append, append-nil}
 use Rattle.std.specs.Cmp.Lexicographic.{slice_cmp}
 use Rattle.std.specs.List.{AllByRecursion}
@@ -18,14 +18,6 @@ use Rattle.pol_readers.proofs.ListLemmas.{after, members_more}
 pub record IsReadTo {A : Type 0} (form : Data → Reading A) (all : List Entry) (done : List (List ℕ × A)) (rest : List Entry) : Type 0 where
   pub reading : members form (members_view all) ≡ after done (members form (members_view rest))
   pub keyed : map string_bytes (keys_of all) ≡ keys done ++ map string_bytes (keys_of rest)
-
-nothing_before : {A : Type 0} (reading : Reading (List A)) → reading ≡ after [] reading
-nothing_before (Ok values) = refl
-nothing_before (Err path) = refl
-
--- nothing was read yet
-pub read_none : {A : Type 0} (form : Data → Reading A) (all : List Entry) → IsReadTo form all [] all
-read_none form all = record { reading = nothing_before (members form (members_view all)); keyed = refl }
 
 -- one more member was read
 pub read_more : {A : Type 0} (form : Data → Reading A) (all rest : List Entry) (e : Entry) (done : List (List ℕ × A)) (value : A) → IsReadTo form all done (e ∷ rest)

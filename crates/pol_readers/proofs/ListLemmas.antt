@@ -1,10 +1,10 @@
 -- Lists and objects that are read member by member.
-use Rattle.std.proofs.Common.{◌≡◌, ℕ, suc, List, [], ◌∷◌, ◌++◌, Ok, Err, refl, ap, append_assoc, sym}
-use Rattle.serde_json.specs.Data.{Data, Items, item, Members, member}
+use Rattle.std.proofs.Common.{◌≡◌, ℕ, List, [], ◌∷◌, ◌++◌, Ok, Err, refl, ap, append_assoc, sym}
+use Rattle.serde_json.specs.Data.{Data, Members, member}
 use Rattle.pol_readers.specs.declared.path.Step.{Step}
-use Rattle.pol_readers.specs.declared.path.Step.TheVariants.{Key, Place}
+use Rattle.pol_readers.specs.declared.path.Step.TheVariants.{Key}
 use Rattle.pol_readers.specs.Reading.{Reading, ◌>>=◌, under}
-use Rattle.pol_readers.specs.Forms.{items, members}
+use Rattle.pol_readers.specs.Forms.{members}
 
 -- what was read so far, and what is read after it
 abbrev pub after : {A : Type 0} → List A → Reading (List A) → Reading (List A)
@@ -22,14 +22,6 @@ ended : {A : Type 0} (done : List A) (first : Reading A) (rest : Reading (List A
     → after done (first >>= (λ v. rest >>= (λ vs. Ok (v ∷ vs)))) ≡ Err path
 ended done first rest path is = rw is refl
 
-pub items_more : {A : Type 0} (form : Data → Reading A) (place : ℕ) (d : Data) (ds : Items) (done : List A) (value : A) → under (Place place) (form d) ≡ Ok value
-    → after done (items form place (item d ds)) ≡ after (done ++ value ∷ []) (items form (suc place) ds)
-items_more form place d ds done value is = one_more done value (under (Place place) (form d)) (items form (suc place) ds) is
-
-pub items_ended : {A : Type 0} (form : Data → Reading A) (place : ℕ) (d : Data) (ds : Items) (done : List A) (path : List Step) → under (Place place) (form d) ≡ Err path
-    → after done (items form place (item d ds)) ≡ Err path
-items_ended form place d ds done path is = ended done (under (Place place) (form d)) (items form (suc place) ds) path is
-
 -- one more member of an object was read
 one_more_entry : {A : Type 0} (done : List (List ℕ × A)) (key : List ℕ) (value : A) (first : Reading A) (rest : Reading (List (List ℕ × A))) → first ≡ Ok value
     → after done (first >>= (λ v. rest >>= (λ vs. Ok ((key, v) ∷ vs)))) ≡ after (done ++ (key, value) ∷ []) rest
@@ -39,7 +31,3 @@ one_more_entry done key value first (Err path) is = rw is refl
 pub members_more : {A : Type 0} (form : Data → Reading A) (key : List ℕ) (d : Data) (ms : Members) (done : List (List ℕ × A)) (value : A) → under (Key key) (form d) ≡ Ok value
     → after done (members form (member key d ms)) ≡ after (done ++ (key, value) ∷ []) (members form ms)
 members_more form key d ms done value is = one_more_entry done key value (under (Key key) (form d)) (members form ms) is
-
-pub members_ended : {A : Type 0} (form : Data → Reading A) (key : List ℕ) (d : Data) (ms : Members) (done : List (List ℕ × A)) (path : List Step) → under (Key key) (form d) ≡ Err path
-    → after done (members form (member key d ms)) ≡ Err path
-members_ended form key d ms done path is = rw is refl

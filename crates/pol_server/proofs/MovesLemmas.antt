@@ -1,9 +1,8 @@
 -- What each action of a served link does to it.
-use Rattle.std.proofs.Common.{◌≡◌, ◌≢◌, ◌<◌, ◌≤◌, ◌+◌, ◌-◌, ◌^◌, ◌⊎◌, ℕ, Bool, true, false, cond, List, [], ◌∷◌, ◌++◌, map, length, Some, None, Option, Result, Ok, Err, ◌&&◌, ◌||◌, if◌then◌else◌, refl, sym, ap, subst, ◌∙◌, inl, inr, arith, append-nil, append_assoc, length-append}
+use Rattle.std.proofs.Common.{◌≡◌, ◌≢◌, ◌<◌, ◌≤◌, ◌+◌, ◌⊎◌, ℕ, Bool, true, false, List, [], ◌∷◌, ◌++◌, length, Some, None, Option, Result, Ok, Err, ◌&&◌, ◌||◌, if◌then◌else◌, refl, sym, ap, subst, ◌∙◌, inl, inr, arith, append-nil, length-append}
 use Rattle.std.specs.List.{flat_map}
-use Rattle.std.specs.Io.KnownBytes.{Appends}
-use Rattle.httparse.specs.Grammar.{RequestHead, ReadsRequest, print_request}
-use Rattle.httparse.proofs.GrammarLemmas.{ReadsRequest-append, request_unique}
+use Rattle.httparse.specs.Grammar.{RequestHead, print_request}
+use Rattle.httparse.proofs.GrammarLemmas.{request_unique}
 use Rattle.pol_http.specs.Head.{asks, body_length, closes, has_body}
 use Rattle.pol_http.specs.Message.{HasAskingHead, IsMessage, IsRefusedAs, Message, ReadsMessage, print_message}
 use Rattle.pol_http.specs.declared.answer.TheConstants.{CONTINUE, INSUFFICIENT_STORAGE}
@@ -18,16 +17,12 @@ use Rattle.pol_server.specs.Link.{IsRestWithoutMemory, IsToldBefore, IsUnfinishe
 use Rattle.pol_server.specs.Serving.{GivesAll, ReadsOn, standing, Continues, Finishes, FitsEnding, Goes, Handles, IsToldAsked, Moves, Says, Standing, text_by, told_text}
 use Rattle.pol_server.specs.Turn.{LastCloses, NoneCloses, Turn, output_of, told_before}
 use Rattle.pol_server.specs.declared.served.Ending.{Ending}
-use Rattle.pol_server.specs.declared.served.Ending.TheVariants.{Ended, Cut, Closed, ReadFault, WriteFault, Spent, NoMemory}
+use Rattle.pol_server.specs.declared.served.Ending.TheVariants.{Ended, Cut, Closed, WriteFault, NoMemory}
 use Rattle.pol_server.specs.declared.served.Place.{Place}
-use Rattle.std.specs.Prelude.{IsErr, IsOk, IsSomeAnd}
+use Rattle.std.specs.Prelude.{IsErr, IsOk}
 use Rattle.pol_http.proofs.HeadLemmas.{length-print_request}
 use Rattle.pol_server.proofs.EndsLemmas.{rises-earlier}
 use Rattle.pol_server.proofs.GoesLemmas.{continues-trans, finishes-after, Stays, goes-given, goes-read, goes-trans, goes-turn}
-
--- a head that asks still does behind more bytes
-pub asking-more : (buffer more : List ℕ) → HasAskingHead buffer → HasAskingHead (buffer ++ more)
-asking-more buffer more asking = (asking.0, asking.1 ++ more, ReadsRequest-append buffer asking.0 asking.1 more asking.2, asking.3)
 
 -- the head of a message that asks is the one that asks
 pub asked-message : (buffer : List ℕ) (message : Message) (rest : List ℕ) → HasAskingHead buffer → ReadsMessage buffer message rest → asks message.head ≡ true
@@ -97,13 +92,6 @@ moves-saying a b text done result says stays other fits faulty = by says.outcome
     by : ((result ≡ Some done) × (says.missing ≡ [])) ⊎ ((result ≡ Some WriteFault) × Rises a.ends.sink_faults b.ends.sink_faults) → Moves result a b
     by (inl said) = subst (λ r. Moves r a b) (sym said.0) (finishes-with a b stays text says.given says.missing says.bytes_are goes done fits (λ _. said.1) (λ is. absurd (other is)))
     by (inr fault) = subst (λ r. Moves r a b) (sym fault.0) (finishes-with a b stays text says.given says.missing says.bytes_are goes WriteFault faulty (λ differs. absurd (differs refl)) (λ _. fault.1))
-
--- the ending of a text that was given
-pub ending-saying : (P : Ending → Type 0) (old new : Ends) (text : List ℕ) (done : Ending) (result : Option Ending) → Says old new text (Some done) result → P done → P WriteFault → IsSomeAnd result P
-ending-saying P old new text done result says holds faulty = elim says.outcome [
-  | inl said ↦ subst (λ r. IsSomeAnd r P) (sym said.0) holds
-  | inr fault ↦ subst (λ r. IsSomeAnd r P) (sym fault.0) faulty
-]
 
 -- one message: it was handled, and then its answer was given
 module _ (a b : Standing) (now : Ends) (message : Message) (place : Place) (text : Option (List ℕ)) (closing : Bool) (result : Option Ending)

@@ -10,16 +10,12 @@ use Rattle.std.proofs.lemmas.Map.Keys.{IsDistinct-head, IsDistinct-tail}
 use Rattle.pol_tables.specs.Same.{same}
 use Rattle.pol_tables.specs.Facts.{holds, facts_with, facts_without}
 use Rattle.pol_tables.specs.Changes.{new_rows, placed, in_order, fact_changes, ActsOnFacts}
-use Rattle.pol_tables.proofs.ListLemmas.{and_false, and_true, or_swapped, each-all, each-weaken, filter-none, filter-alike}
+use Rattle.pol_tables.proofs.ListLemmas.{and_false, and_true, or_swapped, each-weaken, filter-none, filter-alike}
 use Rattle.pol_tables.proofs.SameLemmas.{same-true, same-symmetric}
 use Rattle.pol_tables.proofs.FactsLemmas.{facts_with-known, facts_with-new}
 use Rattle.pol_tables.proofs.ChangesLemmas.{each_held, each_held_itself, new_rows-none, new_rows-itself, new_rows-append, new_rows-filter}
 
 module _ {T : Type 0} (cmp : T → T → Ordering) where
-  pub in_order-nil : in_order cmp [] ≡ []
-  unfolding in_order
-  in_order-nil = refl
-
   pub in_order-one : (fact : T) → in_order cmp (fact ∷ []) ≡ fact ∷ []
   unfolding in_order placed
   in_order-one fact = refl
@@ -124,9 +120,6 @@ module _ {T : Type 0} (code : Coded T) where
     unfolding in_order
     fact_changes-append old more unknown =
         changes-of old (old ++ more) more [] (new_rows-append code old more unknown) (new_rows-none code (old ++ more) old (each_held code old more)) ∙ append-nil (map put (in_order cmp more))
-
-    pub fact_changes-from_nothing : (facts : List T) → changes [] facts ≡ map put (in_order cmp facts)
-    fact_changes-from_nothing facts = fact_changes-append [] facts (each-all (λ fact. holds code fact [] ≡ false) facts (λ fact. refl))
 
     pub fact_changes-filter : (keep : T → Bool) (facts : List T) → changes facts (filter keep facts) ≡ map drop (in_order cmp (filter (λ fact. not (keep fact)) facts))
     unfolding in_order

@@ -8,10 +8,6 @@ use Rattle.pol_tables.proofs.ListLemmas.{each-push, each-filter, each-map, each-
 use Rattle.pol_tables.proofs.TableLemmas.{rows_with-known, rows_with-new}
 
 module _ {R : Type 0} (key : R → ℕ) where
-  pub KeysRise-nil : KeysRise key []
-  unfolding KeysRise
-  KeysRise-nil = tt
-
   pub rise_head : (row : R) (rows : List R) → KeysRise key (row ∷ rows) → KeysAbove key (key row) rows
   unfolding KeysRise
   rise_head row rows rise = rise.0
@@ -19,10 +15,6 @@ module _ {R : Type 0} (key : R → ℕ) where
   pub rise_tail : (row : R) (rows : List R) → KeysRise key (row ∷ rows) → KeysRise key rows
   unfolding KeysRise
   rise_tail row rows rise = rise.1
-
-  pub KeysRise-cons : (row : R) (rows : List R) → KeysAbove key (key row) rows → KeysRise key rows → KeysRise key (row ∷ rows)
-  unfolding KeysRise
-  KeysRise-cons row rows above rise = (above, rise)
 
   -- keys below a number are below a greater one
   pub KeysBelow-more : (low high : ℕ) (rows : List R) → low ≤ high → KeysBelow key low rows → KeysBelow key high rows

@@ -1,3 +1,2 @@
-pub mod FaultsLemmas
 pub mod MemorySourceLemmas
 pub mod StreamsLemmas

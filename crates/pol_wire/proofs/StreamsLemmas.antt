@@ -1,8 +1,7 @@
 -- Lemmas on streams that are read.
-use Rattle.std.proofs.Common.{◌≡◌, ℕ, ◌+◌, ◌-◌, ◌<◌, ◌≤◌, List, [], ◌∷◌, ◌++◌, length, Option, Some, None, refl, sym, ap, ◌∙◌, arith, append-nil, zero-add, length-append, ◌⊎◌, inl, inr, subst}
+use Rattle.std.proofs.Common.{◌≡◌, ℕ, ◌+◌, ◌-◌, ◌<◌, ◌≤◌, List, [], ◌++◌, length, Option, Some, None, refl, sym, ap, ◌∙◌, arith, append-nil, zero-add, length-append, ◌⊎◌, inl, inr, subst}
 use Rattle.std.proofs.lemmas.List.{get_or_append_left, get_or-append_right}
 use Rattle.std.proofs.lemmas.Bool.{cases_lt}
-use Rattle.std.proofs.lemmas.Grind.{same_number_lists}
 use Rattle.std.specs.Prelude.{slice_index}
 use Rattle.pol_wire.specs.Streams.{BeginsWith, IsShifted}
 
@@ -39,14 +38,3 @@ IsShifted-trans (Some f) (Some g) (Some h) xs ys p q = BeginsWith-trans f g h xs
 -- a read, and then one that left the stream as it was
 pub IsShifted-kept : (a b c : Option (ℕ → ℕ)) (xs : List ℕ) → IsShifted a b xs → IsShifted b c [] → IsShifted a c xs
 IsShifted-kept a b c xs p q = subst (IsShifted a c) (append-nil xs) (IsShifted-trans a b c xs [] p q)
-
--- one item that was read is the first of the stream, and what is left goes on after it
-pub IsShifted-item : (f g : ℕ → ℕ) (x : ℕ) → IsShifted (Some f) (Some g) (x ∷ []) → (x ≡ f 0) × ((n : ℕ) → g n ≡ f (1 + n))
-IsShifted-item f g x p = (p.front 0 (omega arith), p.back)
-
--- two reads of as many items of one stream gave the same
-pub IsShifted-same : (f : ℕ → ℕ) (b c : Option (ℕ → ℕ)) (xs ys : List ℕ) → IsShifted (Some f) b xs → IsShifted (Some f) c ys → length xs ≡ length ys → xs ≡ ys
-IsShifted-same f None c xs ys p q e = absurd p
-IsShifted-same f (Some g) None xs ys p q e = absurd q
-IsShifted-same f (Some g) (Some h) xs ys p q e =
-    same_number_lists xs ys e (λ n low. p.front n low ∙ sym (q.front n (subst (λ m. n < m) e low)))
