@@ -298,14 +298,15 @@ fn refused_status(alloc: Global, why: &RouteRefused) -> Result<u16, OutOfMemory>
     Ok(status)
 }
 
-/// The status of the answer where there is no plan, or 0.
+/// The status of the answer where there is no plan, 0 where there is one, or 1 where there is no request.
 fn status_told(
     alloc: Global,
     planned: &Option<Result<Planned, RouteRefused>>,
 ) -> Result<u16, OutOfMemory> {
     match planned {
         Some(Err(why)) => refused_status(alloc, why),
-        Some(Ok(_)) | None => Ok(0),
+        Some(Ok(_)) => Ok(0),
+        None => Ok(1),
     }
 }
 
