@@ -1,7 +1,8 @@
 //! Laws of the machine: each is a function without a body, whose clause is the law.
 ghost use Rattle.pol_machine.specs.Laws.{AgreeingStatesDoAlike, AnsweredWhereEachRulePasses, ChangesLeadToNextState, FullRunChangesNothing, FullRunIsTold, LivePartAgrees, NextStateIsSound};
 
-/// The state after a command is sound, where a grant that the command adds is of a privilege that may be granted there.
+/// The state after a command is sound, where the state before it is, its moment is at most 2^62, and a grant that it
+/// adds is of a privilege that may be granted there.
 pub fn next_state_is_sound()
     ensures { NextStateIsSound }
 {}
@@ -11,7 +12,7 @@ pub fn answered_where_each_rule_passes()
     ensures { AnsweredWhereEachRulePasses }
 {}
 
-/// Applied to the state, the changes of a command lead to the state after it, unless the run is full.
+/// Applied to a sound state, the changes of a command lead to the state after it, unless the run is full.
 pub fn changes_lead_to_next_state()
     ensures { ChangesLeadToNextState }
 {}

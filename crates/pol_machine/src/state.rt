@@ -81,7 +81,8 @@ impl State {
         &self.tokens
     }
 
-    /// The time, in milliseconds since the Unix epoch: the greatest moment of a command so far.
+    /// The time, in milliseconds since the Unix epoch: the greatest moment of the commands so far, but for those that
+    /// were told of a full run.
     pub fn time(&self) -> u64
         ensures { result ≡ self.now.rows.time }
     {

@@ -7,9 +7,10 @@ use crate::form::{Form, object};
 use serde_json::Value;
 use std::alloc::Global;
 
-/// Reads a body, which must be an object in JSON (RFC 8259) and UTF-8 that nests no deeper than 127; else the body
-/// itself is bad, with the empty path. Of two equal keys the last counts, and keys that the form names nowhere are
-/// ignored. An error is the first bad field, or want of memory, for which no clause names a cause.
+/// Reads a body, which must be an object in JSON (RFC 8259) and UTF-8 that nests no deeper than 127 and has no number
+/// too large for a float; else the body itself is bad, with the empty path. Of two equal keys the last counts, and keys
+/// that the form names nowhere are ignored. An error is the first bad field, or want of memory, for which no clause
+/// names a cause.
 #[tactic(auto, unfolding(crate::specs::Forms::body))]
 pub fn read_body<F: Form>(alloc: Global, bytes: &[u8]) -> Result<F, ReadError>
     ensures { Gives result (spec.body F.form bytes.now) }

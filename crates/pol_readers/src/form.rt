@@ -29,7 +29,7 @@ pub trait Form: Drop {
 }
 
 /// What was read of the member of that key, seen from the object: a bad field's path begins with the key. Want of
-/// memory is handed on, and told where there is none for the key; a value that was read takes none.
+/// memory is handed on, and told where there is none for the key.
 pub fn under_key<T>(alloc: Global, key: &str, outcome: Result<T, ReadError>) -> Result<T, ReadError>
     ensures { (reading : Reading T) → Gives outcome reading
         → Gives result (under (Key key.now) reading) }

@@ -66,7 +66,7 @@ pub fn wholes_are_exact<F: Exactly>()
     ensures { WholesAreExact F.form F.grammar }
 {}
 
-/// A body is read exactly where the bytes are an object in JSON and UTF-8 that is of the grammar.
+/// A body is read exactly where the reader of JSON reads the bytes as an object, and that is of the grammar.
 pub fn bodies_are_exact<F: Exactly>()
     ensures { BodiesAreExact F.form F.grammar }
 {}

@@ -67,7 +67,7 @@ impl Index {
         }
     }
 
-    /// The first id that is noted under this number.
+    /// An id that is noted under this number: the first, until that one is forgotten, and then the next to be noted.
     pub fn first(&self, number: u64) -> Option<&Noted>
         ensures value { option_copied result ≡ row_of number_noted number self.now.firsts }
         ensures differ { IdsDiffer number_noted self.now.firsts }
