@@ -3,6 +3,7 @@
 import json
 import os
 import subprocess
+import sys
 
 PROGRAM = os.environ.get("POLARIS", "./polaris")
 CATALOG = "/api/catalog/v1"
@@ -25,7 +26,10 @@ class Client:
         self.program.stdin.write((head + body).encode())
         head = b""
         while not head.endswith(b"\r\n\r\n"):
-            head += self.program.stdout.read(1)
+            byte = self.program.stdout.read(1)
+            if not byte:
+                sys.exit(f"the program ended with status {self.program.wait()} before it answered {method} {path}")
+            head += byte
         lines = head.decode().split("\r\n")
         lengths = [int(line.split(":")[1]) for line in lines if line.startswith("content-length")]
         return lines[0], self.program.stdout.read(sum(lengths)).decode() if lengths else ""
