@@ -23,6 +23,9 @@ LOCATIONS = ["lake://b", "lake://b/x", "lake://c/", "lake://é/y z"]
 ODD_LOCATIONS = ["lake://", "lake:///", "lake://b//", "lake://b/../c", "lake://b/.", "Lake://b", "", "lake://b/\n"]
 LONG_LOCATIONS = ["lake://" + "a" * 1017, "lake://" + "a" * 1018, "lake://" + "a" * 1017 + "/", "x" * 1025]
 ODD_VALUES = [None, 1, True, "x", "", [], {}, ["a"], {"a": 1}, 1.5, "é", [1], {"b": None}]
+# Values of JSON at and past what is read: numbers by size, arrays by depth within a body, and surrogates.
+ODD_TEXTS = ["1e308", "1e400", "-1e400", "1" + "0" * 308, "1" + "0" * 400, '"\\ud800\\udc00"', '"\\ud800"', '"\\udc00"']
+ODD_TEXTS += ["[" * depth + "]" * depth for depth in (126, 127, 200)]
 WAREHOUSES = ["", "warehouse", "x=1&warehouse=lake", "w%61rehouse=lake", "warehouse=%ff", "warehouse=la+ke"]
 PARENTS = ["", "parent=", "parent=%ff", "parent=%1F"]
 SCOPES = ["ALL", "readers", "readers", "writers", "service_admin", "", "no one"]
@@ -193,6 +196,8 @@ class RandomRequests:
         if isinstance(body, dict) and body and self.seldom(0.03):
             key = json.dumps(self.random.choice(list(body)))
             text = f"{{{key}:{json.dumps(self.random.choice(ODD_VALUES))},{text[1:]}"
+        if isinstance(body, dict) and body and self.seldom(0.01):
+            text = f'{{"more":{self.random.choice(ODD_TEXTS)},{text[1:]}'
         if self.seldom(0.02):
             text = text[: self.random.randrange(len(text) + 1)]
         if self.seldom(0.01):

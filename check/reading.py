@@ -2,6 +2,7 @@
 field. Texts are bytes in UTF-8 throughout."""
 
 import json
+import math
 import re
 from urllib.parse import unquote_to_bytes
 
@@ -145,11 +146,31 @@ def no_constant(word):
     raise ValueError(word)
 
 
+def finite(word):
+    """The number that digits write, unless it is too large for a float."""
+    if math.isinf(float(word)):
+        raise ValueError(word)
+    return float(word) if set(word) & set(".eE") else int(word)
+
+
+def depth_of(value):
+    """How many arrays and objects are open at the deepest place of a value."""
+    depth, layer = 0, [value]
+    while held := [one for one in layer if isinstance(one, (dict, list))]:
+        depth += 1
+        layer = [item for one in held for item in (one.values() if isinstance(one, dict) else one)]
+    return depth
+
+
 def body_of(content):
-    """The object that a body holds."""
+    """The object that a body holds. A surrogate stands in it only in a pair."""
     try:
-        value = json.loads(content.decode("utf-8"), parse_constant=no_constant)
+        numbers = {"parse_constant": no_constant, "parse_float": finite, "parse_int": finite}
+        value = json.loads(content.decode("utf-8"), **numbers)
+        json.dumps(value, ensure_ascii=False).encode("utf-8")
     except (ValueError, RecursionError):
+        unreadable("body")
+    if depth_of(value) > 127:
         unreadable("body")
     return object_at(value, "body")
 
