@@ -10,7 +10,7 @@ use pol_wire::Failed;
 /// An image is what a crash at a moment may leave. Between two syncs each written range, and all past the old end,
 /// may hold any bytes in an image. What was cut off may hold any bytes or be gone. Other bytes stay. So an image is
 /// no longer than the disk has been since its last sync that succeeded. After a sync that succeeds the one image is
-/// what a read gives. Each call is one or more moments of the disk's clock.
+/// what a read gives. A call may be moments of the disk's clock, which never goes back.
 ///
 /// What a disk holds is told by the forms in memory. A disk that doesn't tell its bytes tells no image either, and
 /// then no clause says what a crash leaves of it.

@@ -1,4 +1,7 @@
-ghost use Rattle.std.specs.Prelude.{◌≡◌, Some, None};
+ghost use Rattle.std.specs.Prelude.{◌≡◌, ◌-◌, ◌++◌, List, ℕ, Some, None, IfOk, Option, ⊤, drop, length, min, replicate};
+ghost use Rattle.std.specs.Io.{ReadsAtMost};
+ghost use Rattle.pol_wire.specs.Faults.{CountsFaults};
+ghost use Rattle.pol_disk.specs.Disk.{Elapses};
 
 use crate::Disk;
 use pol_wire::Failed;
@@ -54,7 +57,18 @@ impl Disk for HollowDisk {
         Ok(self.length)
     }
 
-    fn read(&mut self, at: u64, buf: &mut [u8]) -> Result<usize, Failed> {
+    fn read(&mut self, at: u64, buf: &mut [u8]) -> Result<usize, Failed>
+        ensures bound { ReadsAtMost result buf.new }
+        ensures number { IfOk result (λ count. count ≡ min (length buf.old) (self.old - at)) }
+        ensures bytes { IfOk result (λ count. ⊤) }
+        ensures seen { let seen : Option (List ℕ) = None in seen ≡ seen }
+        ensures size { Some self.new ≡ Some self.old }
+        ensures crash { (image : List ℕ) → ⊥ → ⊥ }
+        ensures time { Elapses 0 0 (λ t image. ⊥) (λ t image. ⊥) (λ image. ⊥) }
+        ensures count { CountsFaults 0 0 result }
+
+        ensures zeros { IfOk result (λ count. buf.new ≡ replicate count 0 ++ drop count buf.old) }
+    {
         let left = self.length.saturating_sub(at);
         let count = (buf.len() as u64).min(left) as usize;
         buf[..count].fill(0);

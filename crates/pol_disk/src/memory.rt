@@ -1,7 +1,8 @@
-ghost use Rattle.std.specs.Prelude.{◌≡◌, ◌≤◌, ◌+◌, ◌-◌, ◌^◌, List, ℕ, Some, false, IfOk, IsOk, OnOk, OnErr, length, max, min, refl, take};
+ghost use Rattle.std.specs.Prelude.{◌≡◌, ◌≤◌, ◌+◌, ◌-◌, ◌^◌, ◌++◌, List, ℕ, Some, false, IfOk, IsErr, IsOk, IsTrue, OnOk, OnErr, drop, is_err, is_ok, length, max, min, refl, take};
+ghost use Rattle.std.specs.Io.{ReadsAtMost};
 ghost use Rattle.std.proofs.Common.{inl};
-ghost use Rattle.pol_wire.specs.Calls.{log_after};
-ghost use Rattle.pol_wire.specs.Faults.{CountsFaults, Rises};
+ghost use Rattle.pol_wire.specs.Calls.{is_listed, log_after};
+ghost use Rattle.pol_wire.specs.Faults.{CountsFaults, Rises, count_after};
 ghost use Rattle.pol_disk.specs.Content.{IsImage, cut_to, settled, torn_at, torn_past, written_at};
 ghost use Rattle.pol_disk.specs.Disk.{CutShort, Elapses, Follows, Grows, Torn, written};
 ghost use Rattle.pol_disk.specs.MemoryDisk.{IsRefused, LeftSince, content_at, first_disk, later_with, only_this};
@@ -16,10 +17,10 @@ use std::mem;
 
 pub(crate) mod content;
 
-/// A disk in memory. Each write, cut and sync is a moment of its clock, and it keeps what a crash may leave at each
-/// moment, so it takes memory for all its bytes at each such call: it is for tests of small disks. The calls whose
-/// numbers are listed fail. A write or cut that fails may have reached the disk in part, though a read shows nothing
-/// of it; one that finds no memory is a fault and has done nothing.
+/// A disk in memory. Each write and cut, and each sync that succeeds, is a moment of its clock, and it keeps what a
+/// crash may leave at each moment, so it takes memory for all its bytes at each such call: it is for tests of small
+/// disks. The calls whose numbers are listed fail. A write or cut that fails may have reached the disk in part, though
+/// a read shows nothing of it; one that finds no memory is a fault, and is no moment. A call is one fault at most.
 #[derive(Drop)]
 pub struct MemoryDisk {
     alloc: Global,
@@ -58,9 +59,14 @@ impl MemoryDisk {
         self.past.get(moment as usize).unwrap_or(&self.content)
     }
 
-    // Goes on to the next moment with this content. Where there is no memory, that is a fault and nothing is done.
+    // Goes on to the next moment with this content. Where there is no memory, nothing is done, and that is a fault of
+    // the call, unless its answer was counted as one.
     #[tactic(auto, using(crate::proofs::MomentsLemmas::elapses_push))]
-    fn go_on(&mut self, next: Result<Content, OutOfMemory>) -> Result<(), Failed>
+    fn go_on(
+        &mut self,
+        next: Result<Content, OutOfMemory>,
+        answer: Result<(), Failed>,
+    ) -> Result<(), Failed>
         ensures ok { OnOk result (IsOk next) }
         ensures later { OnOk result (IfOk next (λ content. self.new ≡ later_with content self.old)) }
         ensures same { OnErr result (self.new ≡ record self.old { calls = self.new.calls }) }
@@ -68,17 +74,32 @@ impl MemoryDisk {
             (LeftSince self.old) (LeftSince self.new) (IsImage self.new.content) }
         ensures kept { self.old.calls.faults ≤ self.new.calls.faults }
         ensures bounded { self.old.calls.faults ≤ 2 ^ 64 - 1 → self.new.calls.faults ≤ 2 ^ 64 - 1 }
-        ensures caused { OnErr result (Rises self.old.calls.faults self.new.calls.faults) }
+        ensures caused { OnErr result (OnOk answer (Rises self.old.calls.faults self.new.calls.faults)) }
+        ensures counted { OnErr result (self.new.calls ≡ record self.old.calls { faults = count_after self.old.calls.faults (is_ok answer) }) }
     {
         let Ok(next) = next else {
-            return Err(self.calls.fail());
+            return Err(self.fault_of(answer));
         };
         if self.past.reserve(1).is_err() {
-            return Err(self.calls.fail());
+            return Err(self.fault_of(answer));
         }
         let old = mem::replace(&mut self.content, next);
         let _ = self.past.push(old);
         Ok(())
+    }
+
+    // The fault of a call that found no memory, which is counted where its answer wasn't counted as one.
+    fn fault_of(&mut self, answer: Result<(), Failed>) -> Failed
+        ensures same { self.new ≡ record self.old { calls = self.new.calls } }
+        ensures counted { self.new.calls ≡ record self.old.calls { faults = count_after self.old.calls.faults (is_ok answer) } }
+        ensures kept { self.old.calls.faults ≤ self.new.calls.faults }
+        ensures bounded { self.old.calls.faults ≤ 2 ^ 64 - 1 → self.new.calls.faults ≤ 2 ^ 64 - 1 }
+        ensures caused { OnOk answer (Rises self.old.calls.faults self.new.calls.faults) }
+    {
+        match answer {
+            Ok(()) => self.calls.fail(),
+            Err(failed) => failed,
+        }
     }
 }
 
@@ -103,12 +124,34 @@ impl Disk for MemoryDisk {
 
     ghost tells_size = { λ d. refl };
 
-    fn length(&mut self) -> Result<u64, Failed> {
+    fn length(&mut self) -> Result<u64, Failed>
+        ensures length { IfOk result (λ count. count ≡ length self.old.content.seen) }
+        ensures seen { Some self.new.content.seen ≡ Some self.old.content.seen }
+        ensures size { Some (length self.new.content.seen) ≡ Some (length self.old.content.seen) }
+        ensures crash { (image : List ℕ) → IsImage self.new.content image → IsImage self.old.content image }
+        ensures time { Elapses (length self.old.past) (length self.new.past) (LeftSince self.old) (LeftSince self.new) (IsImage self.new.content) }
+        ensures count { CountsFaults self.old.calls.faults self.new.calls.faults result }
+
+        ensures listed { is_err result ≡ is_listed self.old.calls }
+        ensures after { self.new ≡ record self.old { calls = log_after self.old.calls (is_err result) } }
+    {
         self.calls.begin()?;
         Ok(self.content.seen().len() as u64)
     }
 
-    fn read(&mut self, at: u64, buf: &mut [u8]) -> Result<usize, Failed> {
+    fn read(&mut self, at: u64, buf: &mut [u8]) -> Result<usize, Failed>
+        ensures bound { ReadsAtMost result buf.new }
+        ensures number { IfOk result (λ count. count ≡ min (length buf.old) (length self.old.content.seen - at)) }
+        ensures bytes { IfOk result (λ count. buf.new ≡ take count (drop at self.old.content.seen) ++ drop count buf.old) }
+        ensures seen { Some self.new.content.seen ≡ Some self.old.content.seen }
+        ensures size { Some (length self.new.content.seen) ≡ Some (length self.old.content.seen) }
+        ensures crash { (image : List ℕ) → IsImage self.new.content image → IsImage self.old.content image }
+        ensures time { Elapses (length self.old.past) (length self.new.past) (LeftSince self.old) (LeftSince self.new) (IsImage self.new.content) }
+        ensures count { CountsFaults self.old.calls.faults self.new.calls.faults result }
+
+        ensures listed { is_err result ≡ is_listed self.old.calls }
+        ensures after { self.new ≡ record self.old { calls = log_after self.old.calls (is_err result) } }
+    {
         self.calls.begin()?;
         let seen = self.content.seen();
         let start = at.min(seen.len() as u64) as usize;
@@ -130,12 +173,15 @@ impl Disk for MemoryDisk {
 
         ensures ok { OnOk result (self.new ≡ record (later_with (written_at at bytes.now self.old.content) self.old) { calls = log_after self.old.calls false }) }
         ensures err { OnErr result (IsRefused (torn_at at (length bytes.now) self.old.content) self.old self.new) }
+        // A call that isn't listed fails for want of memory alone.
+        ensures listed { IsTrue (is_listed self.old.calls) → IsErr result }
+        ensures after { self.new.calls ≡ log_after self.old.calls (is_err result) }
     {
         let answer = self.calls.begin();
         let next = self
             .content
             .after_write(self.alloc, at as usize, bytes, answer);
-        self.go_on(next)?;
+        self.go_on(next, answer)?;
         answer
     }
 
@@ -150,10 +196,13 @@ impl Disk for MemoryDisk {
 
         ensures ok { OnOk result (self.new ≡ record (later_with (cut_to kept self.old.content) self.old) { calls = log_after self.old.calls false }) }
         ensures err { OnErr result (IsRefused (torn_past kept self.old.content) self.old self.new) }
+        // A call that isn't listed fails for want of memory alone.
+        ensures listed { IsTrue (is_listed self.old.calls) → IsErr result }
+        ensures after { self.new.calls ≡ log_after self.old.calls (is_err result) }
     {
         let answer = self.calls.begin();
         let next = self.content.after_cut(self.alloc, kept as usize, answer);
-        self.go_on(next)?;
+        self.go_on(next, answer)?;
         answer
     }
 
@@ -167,10 +216,13 @@ impl Disk for MemoryDisk {
 
         ensures ok { OnOk result (self.new ≡ record (later_with (settled self.old.content.seen) self.old) { calls = log_after self.old.calls false }) }
         ensures err { OnErr result (self.new ≡ record self.old { calls = self.new.calls }) }
+        // A call that isn't listed fails for want of memory alone.
+        ensures listed { IsTrue (is_listed self.old.calls) → IsErr result }
+        ensures after { self.new.calls ≡ log_after self.old.calls (is_err result) }
     {
         self.calls.begin()?;
         let next = self.content.after_sync(self.alloc);
-        self.go_on(next)
+        self.go_on(next, Ok(()))
     }
 
     fn faults(&self) -> u64 {

@@ -20,9 +20,9 @@ fn write_through<D: Disk>(disk: &mut D, at: u64, bytes: &[u8]) -> Result<(), Fai
     disk.sync()
 }
 
-// Whether one read to a buffer of this length, of 9 bytes at most, gives these bytes.
+// Whether one read to a buffer of this length, of 9 bytes at most, gives these bytes over others.
 fn reads<D: Disk>(disk: &mut D, at: u64, room: usize, want: &[u8]) -> bool {
-    let mut buffer = [0; 9];
+    let mut buffer = [7; 9];
     match disk.read(at, &mut buffer[..room.min(9)]) {
         Ok(count) => &buffer[..count] == want,
         Err(Failed) => false,
