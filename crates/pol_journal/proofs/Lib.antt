@@ -1,3 +1,4 @@
+pub mod BytesLemmas
 pub mod CreateLemmas
 pub mod FormatLemmas
 pub mod JournalLemmas

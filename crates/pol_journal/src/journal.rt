@@ -1,8 +1,8 @@
-ghost use Rattle.std.specs.Prelude.{◌≡◌, ◌≢◌, ◌≤◌, ◌<◌, ◌+◌, ◌-◌, ◌^◌, ◌++◌, ◌∷◌, [], ℕ, List, None, Ok, Some, IfErr, IfOk, IfSome, IsErrOf, OnErr, OnOk, is_err, length, option_map, true};
+ghost use Rattle.std.specs.Prelude.{◌≡◌, ◌≢◌, ◌≤◌, ◌<◌, ◌+◌, ◌-◌, ◌^◌, ◌++◌, ◌∷◌, [], ℕ, List, None, Ok, Some, IfErr, IfOk, IfSome, IsErrOf, OnErr, OnOk, is_err, length, max, option_map, true};
 ghost use Rattle.pol_journal.specs.declared.stage.Stage.TheVariants.{Reading, Ready};
-ghost use Rattle.pol_disk.specs.Disk.{IsDurable, LeavesOnly};
+ghost use Rattle.pol_disk.specs.Disk.{IsDurable, LeavesOnly, Told, written};
 ghost use Rattle.pol_journal.specs.Crash.{IsUntouched};
-ghost use Rattle.pol_journal.specs.Format.{HasHeader, IsBeforeOrAfter, IsNoneOrStandsFor, area_of};
+ghost use Rattle.pol_journal.specs.Format.{HasHeader, IsBeforeOrAfter, IsNoneOrStandsFor, area_of, header_of, record_of};
 ghost use Rattle.pol_journal.specs.Journal.{GivesNext, HasFailed, HasRead, IsAtRest, IsBlank, IsReading, IsReady, IsUnsettled, Stands, after_next, disk_of};
 ghost use Rattle.pol_journal.specs.Refused.{AppendRefused, CreateRefused, IsBadIn, NextRefused, OpenRefused, RepairRefused};
 
@@ -44,14 +44,16 @@ impl<D: Disk> Model for Journal<D> {
 
 impl<D: Disk> Journal<D> {
     /// Makes a journal of this kind on a disk of length 0. `first` is what follows the header: records, and a closed
-    /// gate. A disk that has bytes is `JournalThere` and isn't touched. After a `DiskFault` there is no journal on it, or
-    /// this one.
+    /// gate. A disk that has bytes isn't touched: it is `JournalThere`, or a `DiskFault` where its length wasn't told.
+    /// After a `DiskFault` a disk that was empty has no journal on it, or this one.
     pub fn create(disk: &mut D, kind: Kind, first: &[u8]) -> Result<(), JournalRefused>
         ensures moments { (bodies : List (List ℕ)) → first.now ≡ area_of bodies → IsBlank (D.seen disk.old) (D.may_leave disk.old)
             → LeavesOnly D.clock D.left_since disk.old disk.new (IsNoneOrStandsFor kind bodies) }
         ensures made { OnOk result ((bodies : List (List ℕ)) → first.now ≡ area_of bodies → IsBlank (D.seen disk.old) (D.may_leave disk.old)
             → Stands kind bodies (63 + length first.now) (D.seen disk.new) (D.may_leave disk.new)) }
         ensures size { OnOk result (IfSome (D.size disk.new) (λ size. size ≡ 64 + length first.now)) }
+        // The header, and then what was given.
+        ensures bytes { OnOk result (Told (λ old new. new ≡ header_of kind ++ first.now) (D.seen disk.old) (D.seen disk.new)) }
         ensures durable { OnOk result (IsDurable (D.seen disk.new) (D.may_leave disk.new)) }
         ensures empty { OnOk result (IfSome (D.size disk.old) (λ size. size ≡ 0)) }
         ensures refused { IfErr result (CreateRefused (D.size disk.old) (D.fault_count disk.old) (D.fault_count disk.new)) }
@@ -75,6 +77,8 @@ impl<D: Disk> Journal<D> {
         ensures at_rest { IfOk result (λ journal. (bodies : List (List ℕ)) → first.now ≡ area_of bodies → IsBlank (D.seen disk) (D.may_leave disk)
             → IsAtRest D.seen D.may_leave bodies journal) }
         ensures made { IfOk result (λ journal. journal ≡ record { disk = journal.disk; kind = kind; last = 64; gate = 63 + length first.now; stage = Ready }) }
+        ensures size { IfOk result (λ journal. IfSome (D.size journal.disk) (λ size. size ≡ 64 + length first.now)) }
+        ensures bytes { IfOk result (λ journal. Told (λ old new. new ≡ header_of kind ++ first.now) (D.seen disk) (D.seen journal.disk)) }
         ensures durable { IfOk result (λ journal. IsDurable (D.seen journal.disk) (D.may_leave journal.disk)) }
         ensures empty { OnOk result (IfSome (D.size disk) (λ size. size ≡ 0)) }
         ensures refused { IfErr result (λ refused. CreateRefused (D.size disk) (D.fault_count disk) (D.fault_count refused.0) refused.1) }
@@ -158,6 +162,11 @@ impl<D: Disk> Journal<D> {
             → LeavesOnly D.clock D.left_since self.old.disk self.new.disk (IsBeforeOrAfter self.old.kind bodies body.now) }
         ensures appended { OnOk result ((bodies : List (List ℕ)) → IsAtRest D.seen D.may_leave bodies self.old
             → IsAtRest D.seen D.may_leave (bodies ++ body.now ∷ []) self.new) }
+        // The record and a closed gate stand over what stood from the last gate on.
+        ensures bytes { OnOk result (Told (λ old new. new ≡ written self.old.gate (record_of body.now ++ 0 ∷ []) old)
+            (D.seen self.old.disk) (D.seen self.new.disk)) }
+        ensures size { OnOk result (Told (λ old new. new ≡ max old (self.old.gate + 10 + length body.now))
+            (D.size self.old.disk) (D.size self.new.disk)) }
         ensures unknown { IsErrOf result JournalRefused.Unknown → (bodies : List (List ℕ)) → IsAtRest D.seen D.may_leave bodies self.old
             → IsUnsettled D.seen D.may_leave bodies body.now self.new }
         ensures after { OnOk result (self.new ≡ record self.old { disk = self.new.disk; gate = self.old.gate + 9 + length body.now }) }

@@ -1,7 +1,7 @@
-ghost use Rattle.std.specs.Prelude.{◌≡◌, ◌≤◌, ◌<◌, ◌+◌, ◌-◌, ◌^◌, ◌++◌, ◌∷◌, [], ℕ, List, OnOk, OnErr, IfOk, IfErr, IfSome, length};
+ghost use Rattle.std.specs.Prelude.{◌≡◌, ◌≤◌, ◌<◌, ◌+◌, ◌-◌, ◌^◌, ◌++◌, ◌∷◌, [], ℕ, List, OnOk, OnErr, IfOk, IfErr, IfSome, length, max};
 ghost use Rattle.pol_wire.specs.Faults.{CountsFaults};
-ghost use Rattle.pol_disk.specs.Disk.{IsDurable, LeavesOnly, Told};
-ghost use Rattle.pol_journal.specs.Format.{IsBeforeOrAfter, IsNoneOrStandsFor, area_of};
+ghost use Rattle.pol_disk.specs.Disk.{IsDurable, LeavesOnly, Told, written};
+ghost use Rattle.pol_journal.specs.Format.{IsBeforeOrAfter, IsNoneOrStandsFor, area_of, header_of, record_of};
 ghost use Rattle.pol_journal.specs.Journal.{EachStandsFor, Hangs, IsBlank, Stands};
 ghost use Rattle.pol_journal.specs.declared.kind.Kind.{Kind};
 
@@ -22,6 +22,7 @@ pub(crate) fn write_journal<D: Disk>(disk: &mut D, kind: Kind, first: &[u8]) -> 
         → Stands kind bodies (63 + length first.now) (D.seen disk.new) (D.may_leave disk.new)) }
     ensures durable { OnOk result (IsDurable (D.seen disk.new) (D.may_leave disk.new)) }
     ensures size { OnOk result (IfSome (D.size disk.new) (λ size. size ≡ 64 + length first.now)) }
+    ensures bytes { OnOk result (Told (λ old new. new ≡ header_of kind ++ first.now) (D.seen disk.old) (D.seen disk.new)) }
     ensures count { CountsFaults (D.fault_count disk.old) (D.fault_count disk.new) result }
 {
     write_synced(disk, 0, &[0; 8])?;
@@ -42,6 +43,8 @@ pub(crate) fn write_record<D: Disk>(disk: &mut D, gate: u64, body: &[u8]) -> Res
         → Hangs reached kind bodies body.now gate (D.seen disk.new) (D.may_leave disk.new)) }
     ensures durable { OnOk result (IsDurable (D.seen disk.new) (D.may_leave disk.new)) }
     ensures size { OnOk result (IfSome (D.size disk.new) (λ size. gate + 10 + length body.now ≤ size)) }
+    ensures reach { OnOk result (Told (λ old new. new ≡ max old (gate + 10 + length body.now)) (D.size disk.old) (D.size disk.new)) }
+    ensures bytes { OnOk result (Told (λ old new. new ≡ written gate (record_of body.now ++ 0 ∷ []) old) (D.seen disk.old) (D.seen disk.new)) }
     ensures grown { IfSome (D.size disk.new) (λ size. gate < size) }
     ensures count { CountsFaults (D.fault_count disk.old) (D.fault_count disk.new) result }
 {

@@ -9,7 +9,11 @@ use std::fs;
 use std::rt::Files;
 use std::test::Fail;
 
-const BODIES: [&[u8]; 3] = [b"ab", b"", b"c"];
+// A record's body, and the place of its gate.
+type Known = (&'static [u8], u64);
+
+// The first gate stands behind the header's 64 bytes, and each other behind a gate, eight bytes of length and a body.
+const RECORDS: [Known; 3] = [(b"ab", 64), (b"", 75), (b"c", 84)];
 
 // A disk of these bytes, whose calls of these numbers are to fail.
 fn disk_of(alloc: Global, bytes: &[u8], failing: &[u64]) -> Option<MemoryDisk>
@@ -27,17 +31,21 @@ fn begun<D: Disk>(disk: D, kind: Kind) -> Result<Journal<D>, (D, JournalRefused)
     Journal::fresh(disk, kind, &[0])
 }
 
-// How many records a journal still has, where they are the first of the known bodies.
+// How many records a journal just opened has, where they are the first of the known ones and stand at their gates.
 fn count_left<D: Disk>(
     alloc: Global,
     journal: &mut Journal<D>,
-    known: &[&[u8]],
+    known: &[Known],
 ) -> Result<Option<usize>, JournalRefused> {
+    if journal.last_gate() != 64 {
+        return Ok(None);
+    }
     for count in 0..known.len() {
         let Some(body) = journal.next_record(alloc)? else {
             return Ok(Some(count));
         };
-        if body.as_slice() != known[count] {
+        let (want, gate) = known[count];
+        if body.as_slice() != want || journal.last_gate() != gate {
             return Ok(None);
         }
     }
@@ -47,12 +55,12 @@ fn count_left<D: Disk>(
     }
 }
 
-// How many records a disk's bytes stand for, where they are the first of the known bodies.
+// How many records a disk's bytes stand for, where they are the first of the known ones.
 fn count_of<D: Disk + Drop>(
     alloc: Global,
     disk: D,
     kind: Kind,
-    known: &[&[u8]],
+    known: &[Known],
 ) -> Result<Option<usize>, JournalRefused> {
     match Journal::open(disk, kind) {
         Ok(mut journal) => count_left(alloc, &mut journal, known),
@@ -77,9 +85,9 @@ fn append_all<D: Disk>(journal: &mut Journal<D>) -> Result<(), JournalRefused>
     requires { IsReady journal.old }
     ensures { OnOk result (IsReady journal.new) }
 {
-    append_twice(journal, BODIES[0])?;
-    append_twice(journal, BODIES[1])?;
-    append_twice(journal, BODIES[2])
+    append_twice(journal, RECORDS[0].0)?;
+    append_twice(journal, RECORDS[1].0)?;
+    append_twice(journal, RECORDS[2].0)
 }
 
 // Makes a journal and appends the three bodies. It hands the disk back with why it stopped.
@@ -96,7 +104,7 @@ fn written<D: Disk>(disk: D, kind: Kind) -> (D, Result<(), JournalRefused>) {
 // How many of the bodies bytes stand for, and one more, or 0 where they are no journal. None where they are another.
 fn rank_of(alloc: Global, bytes: &[u8]) -> Option<usize> {
     let disk = disk_of(alloc, bytes, &[])?;
-    match count_of(alloc, disk, Kind::Objects, &BODIES) {
+    match count_of(alloc, disk, Kind::Objects, &RECORDS) {
         Ok(count) => count?.checked_add(1),
         Err(JournalRefused::NotAJournal) => Some(0),
         Err(_) => None,
@@ -242,7 +250,7 @@ fn gate_stands_at_64_and_behind_a_record_of_39_bytes_at_112(rt: HostRuntime) {
 // How many records, each of the body A, a file with these bytes behind its header stands for.
 fn count_in(alloc: Global, name: &[u8], tail: &[u8]) -> Option<Result<usize, JournalRefused>> {
     let disk = disk_of(alloc, &file_of(alloc, name, tail)?, &[])?;
-    match count_of(alloc, disk, Kind::Catalogue, &[b"A", b"A"]) {
+    match count_of(alloc, disk, Kind::Catalogue, &[(b"A", 64), (b"A", 74)]) {
         Ok(count) => Some(Ok(count?)),
         Err(refused) => Some(Err(refused)),
     }
@@ -345,7 +353,7 @@ fn every_image_of_each_moment_opens_to_a_front_of_what_was_appended(rt: HostRunt
 fn repair_of(journal: &mut Journal<MemoryDisk>) -> Option<Result<(), JournalRefused>>
     requires { IsReady journal.old }
 {
-    match journal.append(BODIES[0]) {
+    match journal.append(RECORDS[0].0) {
         Err(JournalRefused::Unknown) => Some(journal.repair()),
         _ => None,
     }
@@ -465,7 +473,7 @@ fn journal_is_made_on_an_empty_file_alone(rt: HostRuntime) -> Result<(), Fail> {
     let made = made_twice_in(&rt, String::from_str(alloc, name)?);
     assert!(rt; matches!(made, (Ok(()), Err(JournalRefused::JournalThere))));
     let file = FileDisk::new(&rt, String::from_str(alloc, name)?);
-    let count = count_of(alloc, file, Kind::Catalogue, &BODIES);
+    let count = count_of(alloc, file, Kind::Catalogue, &RECORDS);
     assert!(rt; matches!(count, Ok(Some(3))));
     fs::remove_file(&rt, name)?;
     Ok(())

@@ -53,6 +53,7 @@ pub(crate) fn write_body<D: Disk>(disk: &mut D, gate: u64, body: &[u8]) -> Resul
     ensures told { Told (λ old new. length old ≤ length new) (D.seen disk.old) (D.seen disk.new) }
     ensures durable { OnOk result (IsDurable (D.seen disk.new) (D.may_leave disk.new)) }
     ensures size { OnOk result (IfSome (D.size disk.new) (λ size. gate + 10 + length body.now ≤ size)) }
+    ensures reach { OnOk result (Told (λ old new. new ≡ max old (gate + 10 + length body.now)) (D.size disk.old) (D.size disk.new)) }
     ensures grown { Told (λ old new. old ≤ new) (D.size disk.old) (D.size disk.new) }
     ensures crash { LeavesAfter D.clock D.left_since D.may_leave (KeepsFront (gate + 1)) disk.old disk.new }
     ensures count { CountsFaults (D.fault_count disk.old) (D.fault_count disk.new) result }

@@ -1,3 +1,5 @@
+use Rattle.std.proofs.lemmas.Result.{on_ok_weaker}
+use Rattle.pol_journal.proofs.BytesLemmas.{no_bytes, told_journal}
 use Rattle.pol_journal.proofs.CreateLemmas.{two_writes, three_writes, made}
 use Rattle.pol_journal.proofs.Steps.{on_ok_both}
 use Rattle.pol_journal.proofs.records.write_journal.Goals as goal
@@ -25,3 +27,10 @@ returns-clause-made g c =
     (record { bytes = c.in_ok-write_both.ensures.written; durable = c.in_ok-write_both.ensures.durable })
     c.name.result c.name.ensures (record { bytes = wrote; durable = durable }))
     c.write_synced-2.ensures.written c.write_synced-2.ensures.durable
+
+pub returns-clause-bytes : goal.returns-clause-bytes
+returns-clause-bytes g c =
+    on_ok_weaker c.write_synced-2.result
+    (told_journal c.args.kind c.args.first.now c.name.result _ _ _ _ c.name.ensures (no_bytes _ _ (g.met.D.Disk.tells_size c.args.disk.now) c.requires.empty)
+    c.in_ok-write_synced.ensures.written c.in_ok-write_both.ensures.written)
+    c.write_synced-2.ensures.written

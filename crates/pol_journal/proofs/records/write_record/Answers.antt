@@ -1,4 +1,8 @@
+use Rattle.std.proofs.Common.{◌≡◌, ◌+◌, max, [], ◌∷◌, ◌++◌, length, arith}
+use Rattle.pol_journal.specs.Format.{framed}
+use Rattle.pol_journal.proofs.BytesLemmas.{told_before}
 use Rattle.pol_journal.proofs.RecordLemmas.{body_moments, body_hangs, body_staged, both_moments, gate_hangs, gate_opened, still_told}
+use Rattle.pol_journal.proofs.Steps.{past_gate, told_both}
 use Rattle.pol_journal.proofs.records.write_record.Goals as goal
 
 pub returns-in_default-clause-moments : goal.returns-in_default-clause-moments
@@ -36,3 +40,14 @@ returns-clause-appended g c kind bodies stands =
     let staged = body_staged d.clock d.left_since d.may_leave d.seen kind bodies c.args.body.now c.args.gate _ _ (g.met.D.Disk.reads_as_image c.args.disk.now) stands c.in-Ok.ensures.written c.in-Ok.ensures.durable in
     gate_opened d.clock d.left_since d.may_leave d.seen kind bodies c.args.body.now c.args.gate _ _ stands.place
     (still_told _ _ _ stands.told c.in-Ok.ensures.told) (g.met.D.Disk.reads_as_image c.write_body.new.disk) staged c.in-Ok-write_synced.ensures.written c.in-Ok-write_synced.ensures.durable
+
+pub returns-clause-bytes : goal.returns-clause-bytes
+returns-clause-bytes g c =
+    told_before c.args.gate (1 ∷ []) (framed c.args.body.now ++ 0 ∷ []) _ _ _ _ (g.met.D.Disk.tells_size c.args.disk.now) (past_gate _ c.args.gate c.requires.within)
+    c.in-Ok.ensures.written c.in-Ok-write_synced.ensures.written
+
+pub returns-clause-reach : goal.returns-clause-reach
+returns-clause-reach g c =
+    let end = c.args.gate + 10 + length c.args.body.now in
+    told_both (λ old new. new ≡ max old end) (λ old new. new ≡ max old (c.args.gate + 1)) (λ old new. new ≡ max old end) _ _ _ (λ x y z first second. omega (arith, first, second))
+    c.in-Ok.ensures.reach c.in-Ok-write_synced.ensures.size

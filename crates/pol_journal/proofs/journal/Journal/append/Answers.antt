@@ -20,6 +20,12 @@ returns-clause-moments g c bodies was =
     let rest = rw (← c.self.view_is) at was in
     rw (← c.self.view_is) (c.write_record.ensures.moments c.self.inside.kind bodies rest.stands)
 
+pub returns-clause-bytes : goal.returns-clause-bytes
+returns-clause-bytes g c = rw (← c.self.view_is) c.in_default.ensures.bytes
+
+pub returns-clause-size : goal.returns-clause-size
+returns-clause-size g c = rw (← c.self.view_is) c.in_default.ensures.reach
+
 pub returns-clause-appended : goal.returns-clause-appended
 returns-clause-appended g c bodies was =
     let d = g.D.Disk in

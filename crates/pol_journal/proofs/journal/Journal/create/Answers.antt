@@ -1,4 +1,6 @@
-use Rattle.pol_journal.specs.Format.{IsNoneOrStandsFor}
+use Rattle.std.proofs.Common.{◌≡◌, ◌++◌, subst}
+use Rattle.pol_disk.specs.Disk.{Told}
+use Rattle.pol_journal.specs.Format.{IsNoneOrStandsFor, header_of}
 use Rattle.pol_journal.proofs.CreateLemmas.{blank_after, looked}
 use Rattle.pol_journal.proofs.Moments.{and_then}
 use Rattle.pol_journal.proofs.ReadLemmas.{when_told}
@@ -29,3 +31,8 @@ returns-then-branch-ne0-clause-moments g c bodies area none = looked c.args.kind
 
 pub returns-then-branch-ne0-clause-untouched : goal.returns-then-branch-ne0-clause-untouched
 returns-then-branch-ne0-clause-untouched g c = when_told (g.D.Disk.size c.args.disk.now) _ (λ size is some. c.length_of.ensures.untouched)
+
+pub returns-clause-bytes : goal.returns-clause-bytes
+returns-clause-bytes g c =
+    subst (λ seen. Told (λ old new. new ≡ header_of c.args.kind ++ c.args.first.now) seen (g.D.Disk.seen c.write_journal.new.disk)) c.length_of.ensures.untouched.seen_same
+    c.in_ok-write_journal.ensures.bytes
