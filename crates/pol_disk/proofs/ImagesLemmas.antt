@@ -193,10 +193,6 @@ module _ (kept : ℕ) (old : ContentState) (least : old.least ≤ length old.sur
         },
       )
 
--- a cut leaves the length of the longest image
-pub length_torn_past : (kept : ℕ) (sure : List (Option ℕ)) → length (take kept sure ++ unsure (length sure - kept)) ≡ length sure
-length_torn_past kept sure = omega (arith, length-append (take kept sure) (unsure (length sure - kept)), length-take kept sure, length-unsure (length sure - kept))
-
 -- what a cut that didn't reach the disk may leave
 cut_after : (kept : ℕ) (old : ContentState) (seen : List ℕ) → old.least ≤ length old.sure → CutShort kept old.seen seen
     → Follows (CutShort kept) (IsImage old) (IsImage (record (torn_past kept old) { seen = seen }))

@@ -40,10 +40,6 @@ rest_is x y xs ys is = cc
 closed_is_none : (gate : ℕ) (rest : List ℕ) → gate ≢ 1 → NoRecord (gate ∷ rest)
 closed_is_none gate rest closed body more short is = closed (first_is gate 1 rest (framed body ++ more) is)
 
-frame_length : (body : List ℕ) → take 8 (framed body) ≡ to_be_bytes w64 (length body)
-unfolding framed
-frame_length body = take_at (to_be_bytes w64 (length body)) body 8 refl
-
 framed_number : (body more : List ℕ) → length body < 2 ^ 64 → from_be_bytes w64 (take 8 (framed body ++ more)) ≡ length body
 unfolding framed
 framed_number body more short =

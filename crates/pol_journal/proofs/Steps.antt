@@ -56,16 +56,6 @@ told_both R N S (Some x) None c both first second = absurd first
 told_both R N S (Some x) (Some y) None both first second = absurd second
 told_both R N S (Some x) (Some y) (Some z) both first second = both x y z first second
 
-pub told_weaker : {A : Type 0} (R S : A → A → Type 0) (a b : Option A) → ((x y : A) → R x y → S x y) → Told R a b → Told S a b
-told_weaker R S None None weaker told = tt
-told_weaker R S None (Some y) weaker told = absurd told
-told_weaker R S (Some x) None weaker told = absurd told
-told_weaker R S (Some x) (Some y) weaker told = weaker x y told
-
-pub told_same : {A : Type 0} (R : A → A → Type 0) (a b : Option A) → ((x : A) → R x x) → b ≡ a → Told R a b
-told_same R None b same is = rw is tt
-told_same R (Some x) b same is = rw is (same x)
-
 some_same : {A : Type 0} (w x : A) → Some w ≡ Some x → w ≡ x
 some_same w x is = cc
 
