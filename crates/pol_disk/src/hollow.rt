@@ -1,7 +1,6 @@
-ghost use Rattle.std.specs.Prelude.{◌≡◌, ◌-◌, ◌++◌, List, ℕ, Some, None, IfOk, Option, ⊤, drop, length, min, replicate};
+ghost use Rattle.std.specs.Prelude.{◌≡◌, ◌-◌, ◌++◌, ℕ, Some, None, IfOk, drop, length, min, replicate};
 ghost use Rattle.std.specs.Io.{ReadsAtMost};
 ghost use Rattle.pol_wire.specs.Faults.{CountsFaults};
-ghost use Rattle.pol_disk.specs.Disk.{Elapses};
 
 use crate::Disk;
 use pol_wire::Failed;
@@ -60,11 +59,7 @@ impl Disk for HollowDisk {
     fn read(&mut self, at: u64, buf: &mut [u8]) -> Result<usize, Failed>
         ensures bound { ReadsAtMost result buf.new }
         ensures number { IfOk result (λ count. count ≡ min (length buf.old) (self.old - at)) }
-        ensures bytes { IfOk result (λ count. ⊤) }
-        ensures seen { let seen : Option (List ℕ) = None in seen ≡ seen }
         ensures size { Some self.new ≡ Some self.old }
-        ensures crash { (image : List ℕ) → ⊥ → ⊥ }
-        ensures time { Elapses 0 0 (λ t image. ⊥) (λ t image. ⊥) (λ image. ⊥) }
         ensures count { CountsFaults 0 0 result }
 
         ensures zeros { IfOk result (λ count. buf.new ≡ replicate count 0 ++ drop count buf.old) }
