@@ -2,7 +2,7 @@
 use Rattle.std.proofs.Common.{◌≡◌, ◌≢◌, ◌<◌, ◌≤◌, ◌+◌, ◌⊎◌, ℕ, List, [], ◌++◌, length, Option, Some, None, refl, sym, ap, subst, ◌∙◌, inl, inr, arith, length-append}
 use Rattle.std.specs.Prelude.{IfSome, IsSome, ⊤}
 use Rattle.std.specs.Io.KnownBytes.{Consumes}
-use Rattle.pol_machine.specs.Rows.{Rows, fresh_state}
+use Rattle.pol_state.specs.Rows.{Rows, fresh_state}
 use Rattle.pol_shared.specs.History.{Log}
 use Rattle.pol_shared.specs.declared.entry.Entry.{Entry}
 use Rattle.pol_wire.specs.Faults.{Rises}

@@ -1,6 +1,6 @@
 //! What the machine decides in states of all kinds, also in those that no run of a test reaches.
 ghost use Rattle.std.specs.Prelude.{◌≡◌, ◌≤◌, ◌^◌, IfOk};
-ghost use Rattle.pol_machine.specs.Sound.{IsSound};
+ghost use Rattle.pol_state.specs.Sound.{IsSound};
 
 use pol_machine::{
     Action, Answer, Caller, Change, Command, Decision, Quantity, Refusal, Reply, RoleIds, Scope,
