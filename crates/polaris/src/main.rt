@@ -5,19 +5,11 @@
 ghost use Rattle.std.specs.Prelude.{◌≡◌};
 ghost use Rattle.pol_cli.specs.Run.{status_of};
 
-mod program;
-mod report;
-#[cfg(test)]
-mod tests;
-mod words;
-
+use pol_cli::{Devices, Reason, Report, Words, run};
 use pol_types::{Listed, Text};
 use pol_wire::{FileDraw, Link, StdSink, StdSource, WallClock};
-use program::{Devices, run};
-use report::{Reason, Report};
 use std::process::ExitCode;
 use std::{env, io};
-use words::Words;
 
 fn main(rt: HostRuntime) -> ExitCode {
     let report = run_words(&rt);
