@@ -1,8 +1,8 @@
 ghost use Rattle.std.specs.Prelude.{◌≡◌, ◌≤◌, IfOk, IfSome, OnOk, length};
 ghost use Rattle.pol_journal.specs.Journal.{IsReady};
 
-use crate::{Journal, JournalRefused, Kind};
 use pol_disk::{Content, Disk, FileDisk, HollowDisk, MemoryDisk};
+use pol_journal::{Journal, JournalRefused, Kind};
 use pol_wire::Failed;
 use std::alloc::Global;
 use std::fs;

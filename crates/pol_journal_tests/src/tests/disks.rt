@@ -2,7 +2,7 @@ ghost use Rattle.std.specs.Prelude.{◌≡◌, ◌≤◌, ◌+◌, ◌-◌, ◌^
 ghost use Rattle.pol_disk.specs.Disk.{IsDurable, Told, written};
 ghost use Rattle.pol_disk.specs.MemoryDisk.{first_disk};
 
-use crate::{Disk, FileDisk, HollowDisk, MemoryDisk};
+use pol_disk::{Disk, FileDisk, HollowDisk, MemoryDisk};
 use pol_wire::Failed;
 use std::alloc::Global;
 use std::fs;
