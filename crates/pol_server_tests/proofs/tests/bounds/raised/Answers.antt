@@ -5,7 +5,7 @@ use Rattle.pol_machine.specs.Sound.{IsSound}
 use Rattle.pol_content.specs.declared.change.Change.{Change}
 use Rattle.pol_content.specs.declared.change.Change.TheVariants.{NextSerial}
 use Rattle.pol_machine.proofs.FreshLemmas.{fresh-sound}
-use Rattle.pol_shared.proofs.tests.decisions.raised.Goals as goal
+use Rattle.pol_server_tests.proofs.tests.bounds.raised.Goals as goal
 
 raised-sound : (secret : List ℕ) (serial charged : ℕ) → serial ≤ 2 ^ 62 → charged ≤ 2 ^ 30 → IsSound (applied (NextSerial serial ∷ []) 0 charged (fresh_state secret))
 unfolding fresh_state
