@@ -30,6 +30,3 @@ pub use segment::{name_segment, namespace_segment, plain_segment, segment_at, se
 pub use table::{Endpoint, ROW_COUNT, Row, TABLE};
 pub use target::{path_of, query_of};
 pub use texts::{answer_of, draw_fault_answer, head_refused_answer, refusal_answer};
-
-#[cfg(test)]
-mod tests;
