@@ -12,6 +12,7 @@ mod schema;
 mod snapshot;
 mod sort;
 mod transform;
+mod weight;
 
 pub use column::{Column, Kind, Part};
 pub use ids::Ids;
