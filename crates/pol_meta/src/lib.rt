@@ -3,6 +3,7 @@
 #![tactic(auto)]
 
 mod column;
+mod create;
 mod ids;
 mod log;
 mod metadata;
@@ -13,6 +14,7 @@ mod snapshot;
 mod sort;
 mod transform;
 mod weight;
+mod why;
 
 pub use column::{Column, Kind, Part};
 pub use ids::Ids;
@@ -24,3 +26,4 @@ pub use schema::Schema;
 pub use snapshot::Snapshot;
 pub use sort::{Direction, NullOrder, SortField, SortOrder, UnboundOrder};
 pub use transform::Transform;
+pub use why::{CreateRefused, Why};
