@@ -1,1 +1,2 @@
 pub mod CreationLemmas
+pub mod ValidLemmas

@@ -60,21 +60,30 @@ numbers_exact left right same = eqb-true left right same
 texts_exact : (left right : List ℕ) → pointwise nat_eq left right ≡ true → left ≡ right
 texts_exact left right same = same_text left right (sym same)
 
-options_exact : {A : Type 0} {E : A → A → Bool} → ((x y : A) → E x y ≡ true → x ≡ y) → (left right : Option A) → option_eq E left right ≡ true → left ≡ right
+options_exact : {A : Type 0} {E : A → A → Bool} → ((x y : A) → E x y ≡ true → x ≡ y) → (left right : Option A)
+    → option_eq E left right ≡ true → left ≡ right
 options_exact exact None None same = refl
 options_exact exact None (Some y) same = cc
 options_exact exact (Some x) None same = cc
 options_exact exact (Some x) (Some y) same = ap Some (exact x y same)
 
-pub kinds_exact : (left right : Kind) → (kinds_compared.ghosts).eq left right ≡ true → left ≡ right
+pub kinds_exact : (left right : Kind)
+    → (kinds_compared.ghosts).eq left right ≡ true → left ≡ right
 kinds_exact left right same = grind exactness
 
-pub parts_exact : (left right : Part) → (parts_compared.ghosts).eq left right ≡ true → left ≡ right
+pub parts_exact : (left right : Part)
+    → (parts_compared.ghosts).eq left right ≡ true → left ≡ right
 parts_exact left right same = grind exactness
 
-pub columns_exact : (left right : Column) → (columns_compared.ghosts).eq left right ≡ true → left ≡ right
+pub columns_exact : (left right : Column)
+    → (columns_compared.ghosts).eq left right ≡ true → left ≡ right
 columns_exact left right same =
-    let told = both (numbers_exact left.depth right.depth) (both (numbers_exact left.id right.id) (both (parts_exact left.part right.part) (kinds_exact left.kind right.kind))) same in
+    let told =
+    both (numbers_exact left.depth right.depth)
+    (both (numbers_exact left.id right.id)
+    (both (parts_exact left.part right.part)
+    (kinds_exact left.kind right.kind))) same
+    in
     λ i. record {
       depth = told.0 i;
       id = told.1.0 i;
@@ -82,21 +91,33 @@ columns_exact left right same =
       kind = told.1.1.1 i;
     }
 
-pub schemas_exact : (left right : Schema) → (schemas_compared.ghosts).eq left right ≡ true → left ≡ right
+pub schemas_exact : (left right : Schema)
+    → (schemas_compared.ghosts).eq left right ≡ true → left ≡ right
 schemas_exact left right same =
-    let told = both (numbers_exact left.schema_id right.schema_id) (both (texts_exact left.identifier_field_ids right.identifier_field_ids) (pointwise_exact columns_exact left.fields right.fields)) same in
+    let told =
+    both (numbers_exact left.schema_id right.schema_id)
+    (both (texts_exact left.identifier_field_ids right.identifier_field_ids)
+    (pointwise_exact columns_exact left.fields right.fields)) same
+    in
     λ i. record {
       schema_id = told.0 i;
       identifier_field_ids = told.1.0 i;
       fields = told.1.1 i;
     }
 
-pub transforms_exact : (left right : Transform) → (transforms_compared.ghosts).eq left right ≡ true → left ≡ right
+pub transforms_exact : (left right : Transform)
+    → (transforms_compared.ghosts).eq left right ≡ true → left ≡ right
 transforms_exact left right same = grind exactness
 
-pub partition_fields_exact : (left right : PartitionField) → (partition_fields_compared.ghosts).eq left right ≡ true → left ≡ right
+pub partition_fields_exact : (left right : PartitionField)
+    → (partition_fields_compared.ghosts).eq left right ≡ true → left ≡ right
 partition_fields_exact left right same =
-    let told = both (numbers_exact left.source_id right.source_id) (both (numbers_exact left.field_id right.field_id) (both (texts_exact left.name right.name) (transforms_exact left.transform right.transform))) same in
+    let told =
+    both (numbers_exact left.source_id right.source_id)
+    (both (numbers_exact left.field_id right.field_id)
+    (both (texts_exact left.name right.name)
+    (transforms_exact left.transform right.transform))) same
+    in
     λ i. record {
       source_id = told.0 i;
       field_id = told.1.0 i;
@@ -104,17 +125,27 @@ partition_fields_exact left right same =
       transform = told.1.1.1 i;
     }
 
-pub partition_specs_exact : (left right : PartitionSpec) → (partition_specs_compared.ghosts).eq left right ≡ true → left ≡ right
+pub partition_specs_exact : (left right : PartitionSpec)
+    → (partition_specs_compared.ghosts).eq left right ≡ true → left ≡ right
 partition_specs_exact left right same =
-    let told = both (numbers_exact left.spec_id right.spec_id) (pointwise_exact partition_fields_exact left.fields right.fields) same in
+    let told =
+    both (numbers_exact left.spec_id right.spec_id)
+    (pointwise_exact partition_fields_exact left.fields right.fields) same
+    in
     λ i. record {
       spec_id = told.0 i;
       fields = told.1 i;
     }
 
-pub unbound_fields_exact : (left right : UnboundField) → (unbound_fields_compared.ghosts).eq left right ≡ true → left ≡ right
+pub unbound_fields_exact : (left right : UnboundField)
+    → (unbound_fields_compared.ghosts).eq left right ≡ true → left ≡ right
 unbound_fields_exact left right same =
-    let told = both (numbers_exact left.source_id right.source_id) (both (options_exact numbers_exact left.field_id right.field_id) (both (texts_exact left.name right.name) (transforms_exact left.transform right.transform))) same in
+    let told =
+    both (numbers_exact left.source_id right.source_id)
+    (both (options_exact numbers_exact left.field_id right.field_id)
+    (both (texts_exact left.name right.name)
+    (transforms_exact left.transform right.transform))) same
+    in
     λ i. record {
       source_id = told.0 i;
       field_id = told.1.0 i;
@@ -122,18 +153,29 @@ unbound_fields_exact left right same =
       transform = told.1.1.1 i;
     }
 
-pub unbound_specs_exact : (left right : UnboundSpec) → (unbound_specs_compared.ghosts).eq left right ≡ true → left ≡ right
-unbound_specs_exact left right same = let told = pointwise_exact unbound_fields_exact left.fields right.fields same in λ i. record { fields = told i }
+pub unbound_specs_exact : (left right : UnboundSpec)
+    → (unbound_specs_compared.ghosts).eq left right ≡ true → left ≡ right
+unbound_specs_exact left right same =
+    let told = pointwise_exact unbound_fields_exact left.fields right.fields same in
+    λ i. record { fields = told i }
 
-pub directions_exact : (left right : Direction) → (directions_compared.ghosts).eq left right ≡ true → left ≡ right
+pub directions_exact : (left right : Direction)
+    → (directions_compared.ghosts).eq left right ≡ true → left ≡ right
 directions_exact left right same = grind exactness
 
-pub null_orders_exact : (left right : NullOrder) → (null_orders_compared.ghosts).eq left right ≡ true → left ≡ right
+pub null_orders_exact : (left right : NullOrder)
+    → (null_orders_compared.ghosts).eq left right ≡ true → left ≡ right
 null_orders_exact left right same = grind exactness
 
-pub sort_fields_exact : (left right : SortField) → (sort_fields_compared.ghosts).eq left right ≡ true → left ≡ right
+pub sort_fields_exact : (left right : SortField)
+    → (sort_fields_compared.ghosts).eq left right ≡ true → left ≡ right
 sort_fields_exact left right same =
-    let told = both (transforms_exact left.transform right.transform) (both (numbers_exact left.source_id right.source_id) (both (directions_exact left.direction right.direction) (null_orders_exact left.null_order right.null_order))) same in
+    let told =
+    both (transforms_exact left.transform right.transform)
+    (both (numbers_exact left.source_id right.source_id)
+    (both (directions_exact left.direction right.direction)
+    (null_orders_exact left.null_order right.null_order))) same
+    in
     λ i. record {
       transform = told.0 i;
       source_id = told.1.0 i;
@@ -141,23 +183,38 @@ sort_fields_exact left right same =
       null_order = told.1.1.1 i;
     }
 
-pub sort_orders_exact : (left right : SortOrder) → (sort_orders_compared.ghosts).eq left right ≡ true → left ≡ right
+pub sort_orders_exact : (left right : SortOrder)
+    → (sort_orders_compared.ghosts).eq left right ≡ true → left ≡ right
 sort_orders_exact left right same =
-    let told = both (numbers_exact left.order_id right.order_id) (pointwise_exact sort_fields_exact left.fields right.fields) same in
+    let told =
+    both (numbers_exact left.order_id right.order_id)
+    (pointwise_exact sort_fields_exact left.fields right.fields) same
+    in
     λ i. record {
       order_id = told.0 i;
       fields = told.1 i;
     }
 
-pub unbound_orders_exact : (left right : UnboundOrder) → (unbound_orders_compared.ghosts).eq left right ≡ true → left ≡ right
-unbound_orders_exact left right same = let told = pointwise_exact sort_fields_exact left.fields right.fields same in λ i. record { fields = told i }
+pub unbound_orders_exact : (left right : UnboundOrder)
+    → (unbound_orders_compared.ghosts).eq left right ≡ true → left ≡ right
+unbound_orders_exact left right same =
+    let told = pointwise_exact sort_fields_exact left.fields right.fields same in
+    λ i. record { fields = told i }
 
-pub ref_kinds_exact : (left right : RefKind) → (ref_kinds_compared.ghosts).eq left right ≡ true → left ≡ right
+pub ref_kinds_exact : (left right : RefKind)
+    → (ref_kinds_compared.ghosts).eq left right ≡ true → left ≡ right
 ref_kinds_exact left right same = grind exactness
 
-pub snapshot_refs_exact : (left right : SnapshotRef) → (snapshot_refs_compared.ghosts).eq left right ≡ true → left ≡ right
+pub snapshot_refs_exact : (left right : SnapshotRef)
+    → (snapshot_refs_compared.ghosts).eq left right ≡ true → left ≡ right
 snapshot_refs_exact left right same =
-    let told = both (ref_kinds_exact left.kind right.kind) (both (numbers_exact left.snapshot_id right.snapshot_id) (both (options_exact numbers_exact left.max_ref_age_ms right.max_ref_age_ms) (both (options_exact numbers_exact left.max_snapshot_age_ms right.max_snapshot_age_ms) (options_exact numbers_exact left.min_snapshots_to_keep right.min_snapshots_to_keep)))) same in
+    let told =
+    both (ref_kinds_exact left.kind right.kind)
+    (both (numbers_exact left.snapshot_id right.snapshot_id)
+    (both (options_exact numbers_exact left.max_ref_age_ms right.max_ref_age_ms)
+    (both (options_exact numbers_exact left.max_snapshot_age_ms right.max_snapshot_age_ms)
+    (options_exact numbers_exact left.min_snapshots_to_keep right.min_snapshots_to_keep)))) same
+    in
     λ i. record {
       kind = told.0 i;
       snapshot_id = told.1.0 i;
@@ -166,17 +223,30 @@ snapshot_refs_exact left right same =
       min_snapshots_to_keep = told.1.1.1.1 i;
     }
 
-pub named_refs_exact : (left right : NamedRef) → (named_refs_compared.ghosts).eq left right ≡ true → left ≡ right
+pub named_refs_exact : (left right : NamedRef)
+    → (named_refs_compared.ghosts).eq left right ≡ true → left ≡ right
 named_refs_exact left right same =
-    let told = both (texts_exact left.name right.name) (snapshot_refs_exact left.reference right.reference) same in
+    let told =
+    both (texts_exact left.name right.name)
+    (snapshot_refs_exact left.reference right.reference) same
+    in
     λ i. record {
       name = told.0 i;
       reference = told.1 i;
     }
 
-pub snapshots_exact : (left right : Snapshot) → (snapshots_compared.ghosts).eq left right ≡ true → left ≡ right
+pub snapshots_exact : (left right : Snapshot)
+    → (snapshots_compared.ghosts).eq left right ≡ true → left ≡ right
 snapshots_exact left right same =
-    let told = both (numbers_exact left.snapshot_id right.snapshot_id) (both (options_exact numbers_exact left.parent_snapshot_id right.parent_snapshot_id) (both (numbers_exact left.sequence_number right.sequence_number) (both (numbers_exact left.timestamp_ms right.timestamp_ms) (both (texts_exact left.manifest_list right.manifest_list) (both (pointwise_exact same_pair_exact left.summary right.summary) (options_exact numbers_exact left.schema_id right.schema_id)))))) same in
+    let told =
+    both (numbers_exact left.snapshot_id right.snapshot_id)
+    (both (options_exact numbers_exact left.parent_snapshot_id right.parent_snapshot_id)
+    (both (numbers_exact left.sequence_number right.sequence_number)
+    (both (numbers_exact left.timestamp_ms right.timestamp_ms)
+    (both (texts_exact left.manifest_list right.manifest_list)
+    (both (pointwise_exact same_pair_exact left.summary right.summary)
+    (options_exact numbers_exact left.schema_id right.schema_id)))))) same
+    in
     λ i. record {
       snapshot_id = told.0 i;
       parent_snapshot_id = told.1.0 i;
@@ -187,25 +257,54 @@ snapshots_exact left right same =
       schema_id = told.1.1.1.1.1.1 i;
     }
 
-pub metadata_log_entries_exact : (left right : MetadataLogEntry) → (metadata_log_entries_compared.ghosts).eq left right ≡ true → left ≡ right
+pub metadata_log_entries_exact : (left right : MetadataLogEntry)
+    → (metadata_log_entries_compared.ghosts).eq left right ≡ true → left ≡ right
 metadata_log_entries_exact left right same =
-    let told = both (texts_exact left.metadata_file right.metadata_file) (numbers_exact left.timestamp_ms right.timestamp_ms) same in
+    let told =
+    both (texts_exact left.metadata_file right.metadata_file)
+    (numbers_exact left.timestamp_ms right.timestamp_ms) same
+    in
     λ i. record {
       metadata_file = told.0 i;
       timestamp_ms = told.1 i;
     }
 
-pub snapshot_log_entries_exact : (left right : SnapshotLogEntry) → (snapshot_log_entries_compared.ghosts).eq left right ≡ true → left ≡ right
+pub snapshot_log_entries_exact : (left right : SnapshotLogEntry)
+    → (snapshot_log_entries_compared.ghosts).eq left right ≡ true → left ≡ right
 snapshot_log_entries_exact left right same =
-    let told = both (numbers_exact left.snapshot_id right.snapshot_id) (numbers_exact left.timestamp_ms right.timestamp_ms) same in
+    let told =
+    both (numbers_exact left.snapshot_id right.snapshot_id)
+    (numbers_exact left.timestamp_ms right.timestamp_ms) same
+    in
     λ i. record {
       snapshot_id = told.0 i;
       timestamp_ms = told.1 i;
     }
 
-pub table_metadata_exact : (left right : TableMetadata) → (table_metadata_compared.ghosts).eq left right ≡ true → left ≡ right
+pub table_metadata_exact : (left right : TableMetadata)
+    → (table_metadata_compared.ghosts).eq left right ≡ true → left ≡ right
 table_metadata_exact left right same =
-    let told = both (numbers_exact left.current_schema_id right.current_schema_id) (both (options_exact numbers_exact left.current_snapshot_id right.current_snapshot_id) (both (numbers_exact left.default_sort_order_id right.default_sort_order_id) (both (numbers_exact left.default_spec_id right.default_spec_id) (both (numbers_exact left.format_version right.format_version) (both (numbers_exact left.last_column_id right.last_column_id) (both (numbers_exact left.last_partition_id right.last_partition_id) (both (numbers_exact left.last_sequence_number right.last_sequence_number) (both (numbers_exact left.last_updated_ms right.last_updated_ms) (both (texts_exact left.location right.location) (both (pointwise_exact metadata_log_entries_exact left.metadata_log right.metadata_log) (both (pointwise_exact partition_specs_exact left.partition_specs right.partition_specs) (both (pointwise_exact same_pair_exact left.properties right.properties) (both (pointwise_exact named_refs_exact left.refs right.refs) (both (pointwise_exact schemas_exact left.schemas right.schemas) (both (pointwise_exact snapshot_log_entries_exact left.snapshot_log right.snapshot_log) (both (pointwise_exact snapshots_exact left.snapshots right.snapshots) (both (pointwise_exact sort_orders_exact left.sort_orders right.sort_orders) (texts_exact left.table_uuid right.table_uuid)))))))))))))))))) same in
+    let told =
+    both (numbers_exact left.current_schema_id right.current_schema_id)
+    (both (options_exact numbers_exact left.current_snapshot_id right.current_snapshot_id)
+    (both (numbers_exact left.default_sort_order_id right.default_sort_order_id)
+    (both (numbers_exact left.default_spec_id right.default_spec_id)
+    (both (numbers_exact left.format_version right.format_version)
+    (both (numbers_exact left.last_column_id right.last_column_id)
+    (both (numbers_exact left.last_partition_id right.last_partition_id)
+    (both (numbers_exact left.last_sequence_number right.last_sequence_number)
+    (both (numbers_exact left.last_updated_ms right.last_updated_ms)
+    (both (texts_exact left.location right.location)
+    (both (pointwise_exact metadata_log_entries_exact left.metadata_log right.metadata_log)
+    (both (pointwise_exact partition_specs_exact left.partition_specs right.partition_specs)
+    (both (pointwise_exact same_pair_exact left.properties right.properties)
+    (both (pointwise_exact named_refs_exact left.refs right.refs)
+    (both (pointwise_exact schemas_exact left.schemas right.schemas)
+    (both (pointwise_exact snapshot_log_entries_exact left.snapshot_log right.snapshot_log)
+    (both (pointwise_exact snapshots_exact left.snapshots right.snapshots)
+    (both (pointwise_exact sort_orders_exact left.sort_orders right.sort_orders)
+    (texts_exact left.table_uuid right.table_uuid)))))))))))))))))) same
+    in
     λ i. record {
       current_schema_id = told.0 i;
       current_snapshot_id = told.1.0 i;

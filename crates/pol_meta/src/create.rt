@@ -1,7 +1,8 @@
 ghost use Rattle.std.specs.Prelude.{◌≡◌, ◌≤◌, ◌+◌, ◌∷◌, ◌↔◌, [], None, Some, IfErr, IfOk, IsTrue, OnOk, List, map, not};
 ghost use Rattle.std.specs.List.{list_all, list_any};
 ghost use Rattle.pol_meta.specs.Columns.{column_ids, has_column};
-ghost use Rattle.pol_meta.specs.Creation.{IsCreateRefusal, assembled, bound, bound_fields, create_refusal, created, field_ids, first_order, first_schema, first_spec, given_ids, highest, highest_given, is_same_field, is_same_id, numbered, order_refusal, spec_refusal, stands_twice, unnumbered};
+ghost use Rattle.pol_meta.specs.Creation.{IsAskedFor, IsCreateRefusal, assembled, bound, bound_fields, create_refusal, created, field_ids, first_order, first_schema, first_spec, given_ids, highest, highest_given, is_same_field, is_same_id, numbered, order_refusal, spec_refusal, stands_twice, unnumbered};
+ghost use Rattle.pol_meta.specs.Valid.{IsValid};
 
 use crate::{
     Column, CreateRefused, PartitionField, PartitionSpec, Schema, SortField, SortOrder,
@@ -16,10 +17,10 @@ use uuid::Uuid;
 const HIGHEST_ID: u64 = 2_147_483_647;
 
 impl TableMetadata {
-    /// The metadata of a new table at a moment, in milliseconds since the Unix epoch: its schema and spec have id 0, and
-    /// its order id 1, or 0 where nothing is sorted. Partition fields without an id get ids from 1000 and from past all
-    /// that are given. A spec is refused for a source that is no column, for an id or a name that stands twice, and for
-    /// an id above 2,147,483,647, in this order, and then an order for a source that is no column.
+    /// The metadata of a new table at a moment, in milliseconds since the Unix epoch. Its schema and spec have id 0,
+    /// and its order id 1, or 0 where nothing is sorted. Partition fields without an id get the ids after the highest
+    /// one given, and at least 1000. A spec is refused for a source that is no column, then for an id or a name that
+    /// stands twice, then for an id above 2,147,483,647; after it an order is refused for a source that is no column.
     #[tactic(auto, unfolding(crate::specs::Creation::created))]
     pub fn create(
         alloc: Global,
@@ -34,6 +35,7 @@ impl TableMetadata {
         ensures value { IfOk result (λ meta. meta ≡ created uuid location.now schema spec order properties moment) }
         ensures passes { OnOk result (create_refusal schema spec order ≡ None) }
         ensures refused { IfErr result (IsCreateRefusal schema spec order) }
+        ensures valid { IsAskedFor schema spec order moment → IfOk result IsValid }
     {
         let highest = judge(&schema, &spec, &order)?;
         let spec = first_spec(alloc, spec, highest)?;
