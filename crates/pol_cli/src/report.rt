@@ -59,7 +59,7 @@ pub struct Report {
 
 impl Report {
     /// A report of this reason, over these links.
-    pub(crate) fn of(reason: Reason, served: Vec<ServedLink>) -> Self
+    pub fn of(reason: Reason, served: Vec<ServedLink>) -> Self
         ensures { result ≡ spec.report_of reason served.items }
     {
         Report {
