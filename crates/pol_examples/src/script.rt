@@ -1,4 +1,6 @@
 //! The bytes of requests and of their answers.
+ghost use Rattle.std.specs.Prelude.{◌≡◌, ◌++◌, ◌∷◌, [], IfOk, OnOk, length};
+
 use crate::unread::Unread;
 use pol_types::Text;
 use std::alloc::{AllocError, Global};
@@ -45,7 +47,12 @@ impl Script {
     }
 
     /// These bytes come behind the others; they stand at this line.
-    pub(crate) fn await_bytes(&mut self, bytes: &[u8], line: usize) -> Result<(), AllocError> {
+    pub(crate) fn await_bytes(&mut self, bytes: &[u8], line: usize) -> Result<(), AllocError>
+        ensures input { self.new.input ≡ self.old.input }
+        ensures output { OnOk result (self.new.output.items ≡ self.old.output.items ++ bytes.now) }
+        ensures parts { OnOk result (self.new.parts.items
+            ≡ self.old.parts.items ++ record { line = line; end = length self.new.output.items } ∷ []) }
+    {
         self.output.extend_from_slice(bytes)?;
         let end = self.output.len();
         self.parts.push(Part { line, end })?;
@@ -53,7 +60,10 @@ impl Script {
     }
 
     /// Adds the bytes of a script.
-    pub(crate) fn append(&mut self, other: &Script) -> Result<(), AllocError> {
+    pub(crate) fn append(&mut self, other: &Script) -> Result<(), AllocError>
+        ensures input { OnOk result (self.new.input.items ≡ self.old.input.items ++ other.now.input.items) }
+        ensures output { OnOk result (self.new.output.items ≡ self.old.output.items ++ other.now.output.items) }
+    {
         let before = self.output.len();
         self.input.extend_from_slice(other.input.as_slice())?;
         self.output.extend_from_slice(other.output.as_slice())?;
@@ -81,7 +91,9 @@ impl Script {
 }
 
 impl Token {
-    fn copy(&self) -> Result<Token, AllocError> {
+    fn copy(&self) -> Result<Token, AllocError>
+        ensures { IfOk result (λ token. token ≡ self.now) }
+    {
         Ok(Token {
             name: self.name.clone()?,
             text: self.text.clone()?,

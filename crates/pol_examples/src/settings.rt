@@ -2,18 +2,18 @@
 use crate::escapes::unescaped_text;
 use crate::numbers::{number_of, numbers};
 use crate::unread::Unread;
-use pol_types::Text;
+use pol_types::{Listed, Text};
 use std::alloc::{AllocError, Global};
 
 /// What an example is played with.
 #[derive(Drop)]
 pub struct Settings {
     /// The words of the command line.
-    pub words: Vec<Text>,
+    pub words: Listed<Text>,
     /// The moments of the clock, in milliseconds since the Unix epoch.
     pub moments: Vec<u64>,
     /// The words that are drawn; without them they count from 0.
-    pub drawn: Option<Vec<u64>>,
+    pub drawn: Option<Listed<u64>>,
     /// The calls of the source that are to fail, counted from 1.
     pub takes: Vec<u64>,
     /// Those of the sink.
@@ -42,7 +42,7 @@ impl Settings {
         let mut moments = Vec::new(alloc);
         moments.push(1_000)?;
         Ok(Settings {
-            words,
+            words: Listed::from(words),
             moments,
             drawn: None,
             takes: Vec::new(alloc),
@@ -55,9 +55,9 @@ impl Settings {
     /// Reads a setting, which begins with this word.
     pub(crate) fn read(&mut self, alloc: Global, word: &str, rest: &str) -> Result<(), Unread> {
         match word {
-            "line" => self.words = words_of(alloc, rest)?,
+            "line" => self.words = Listed::from(words_of(alloc, rest)?),
             "clock" => self.moments = numbers(alloc, rest)?,
-            "words" => self.drawn = Some(numbers(alloc, rest)?),
+            "words" => self.drawn = Some(Listed::from(numbers(alloc, rest)?)),
             "pieces" => self.pieces = pieces_of(alloc, rest)?,
             "fail" => return self.read_failing(rest),
             _ => return Err(Unread::Form),
