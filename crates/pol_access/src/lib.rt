@@ -21,6 +21,3 @@ pub use privilege::{Privilege, grantable};
 pub use referent::Referent;
 pub use rows::{CatalogRoleRow, GrantRow, JoinRow, MemberRow, PrincipalRoleRow, PrincipalRow};
 pub use securable::{Securable, SecurableKind};
-
-#[cfg(test)]
-mod tests;

@@ -8,6 +8,3 @@ mod words;
 pub use program::{Devices, run};
 pub use report::{Reason, Report, ServedLink};
 pub use words::{Plan, Words, plan_of};
-
-#[cfg(test)]
-mod tests;

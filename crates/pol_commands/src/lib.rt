@@ -5,8 +5,6 @@ mod command;
 mod grants;
 mod reply;
 mod securables;
-#[cfg(test)]
-mod tests;
 
 pub use command::{Action, Caller, Command, Words4};
 pub use grants::{Grant, GrantedOn};

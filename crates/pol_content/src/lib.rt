@@ -10,6 +10,3 @@ mod rows;
 pub use change::{Change, RowKind};
 pub use content::Content;
 pub use rows::{CatalogRow, NamespaceName, NamespaceRow};
-
-#[cfg(test)]
-mod tests;

@@ -6,8 +6,6 @@ mod disk;
 mod file;
 mod hollow;
 mod memory;
-#[cfg(test)]
-mod tests;
 
 pub use disk::Disk;
 pub use file::FileDisk;

@@ -6,4 +6,5 @@ pub mod LawLemmas
 pub mod Moments
 pub mod ReadLemmas
 pub mod RecordLemmas
+pub mod SortLemmas
 pub mod Steps

@@ -93,6 +93,7 @@ cannot_fail test P fails tells holds = false_true (sym fails ∙ tells.1 holds)
 pub header_read : (kind : Kind) (file : List ℕ) → HasHeader kind file → IsReadTo kind [] 64 file
 unfolding records_of extent
 header_read kind file has = record {
+  long = has.long;
   tail = drop 64 file;
   bytes = sym (take-append-drop 64 file) ∙ ap (λ (l : List ℕ). l ++ drop 64 file) has.header;
   place = refl;
@@ -106,6 +107,7 @@ module _ (kind : Kind) (bodies : List (List ℕ)) (gate : ℕ) (file : List ℕ)
 
   pub one_more : (body : List ℕ) → IsRecord body (drop gate file) → IsReadTo kind (bodies ++ body ∷ []) (gate + 9 + length body) file
   one_more body is = record {
+    long = read.long;
     tail = is.rest;
     bytes = read.bytes
         ∙ ap (λ (l : List ℕ). header_of kind ++ (records_of bodies ++ l)) (sym tail_read ∙ is.bytes)

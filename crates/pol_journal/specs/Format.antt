@@ -71,8 +71,9 @@ pub record IsStaged (kind : Kind) (bodies : List (List ℕ)) (body : List ℕ) (
   pub rest : List ℕ
   pub bytes : file ≡ header_of kind ++ (records_of bodies ++ gate ∷ (framed body ++ 0 ∷ rest))
 
--- the records of these bodies were read, up to the gate at this place
+-- the records of these bodies were read, up to the gate at this place, in bytes that are long enough for a journal
 pub record IsReadTo (kind : Kind) (bodies : List (List ℕ)) (gate : ℕ) (file : List ℕ) : Type 0 where
+  pub long : 65 ≤ length file
   pub tail : List ℕ
   pub bytes : file ≡ header_of kind ++ (records_of bodies ++ tail)
   pub place : gate + 1 ≡ extent bodies

@@ -15,6 +15,3 @@ mod writes;
 pub use journal::Journal;
 pub use kind::Kind;
 pub use refused::JournalRefused;
-
-#[cfg(test)]
-mod tests;

@@ -11,6 +11,3 @@ pub use location::{Location, covers, overlaps};
 pub use location_set::{LocationSet, Member};
 pub use refused::LocationRefused;
 pub use steps::Steps;
-
-#[cfg(test)]
-mod tests;

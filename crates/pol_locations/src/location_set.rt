@@ -1,4 +1,4 @@
-ghost use Rattle.std.specs.Prelude.{◌≡◌, ◌≢◌, ◌≤◌, ◌<◌, ◌+◌, ◌↔◌, [], false, not, true, All, Any, IsTrue, MatchOption, OnErr, OnOk};
+ghost use Rattle.std.specs.Prelude.{◌≡◌, ◌≢◌, ◌≤◌, ◌<◌, ◌+◌, ◌↔◌, [], false, not, true, All, Any, IsOk, IsTrue, MatchOption, OnErr, OnOk};
 ghost use Rattle.std.specs.List.{list_any};
 ghost use Rattle.pol_locations.specs.Location.{Overlaps, is_overlap};
 ghost use Rattle.pol_locations.specs.declared.location_set.Member.{Member};
@@ -70,10 +70,11 @@ impl LocationSet {
         !overlaps_any(self.members.as_slice(), wanted)
     }
 
-    /// Makes at least so many places.
+    /// Makes at least so many places. Where there are as many already, it takes no memory and succeeds.
     pub fn reserve(&mut self, more: usize) -> Result<(), OutOfMemory>
         ensures members { self.new.members ≡ self.old.members }
         ensures places { OnOk result (more ≤ self.new.spare) }
+        ensures succeeds { more ≤ self.old.spare → IsOk result }
         ensures kept { self.old.spare ≤ self.new.spare }
     {
         self.members.reserve(more)?;

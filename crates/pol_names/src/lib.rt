@@ -14,6 +14,3 @@ pub use name::{Name, NameRefused};
 pub use namespace::{Namespace, NamespaceRefused};
 pub use plain::Plain;
 pub use scope::{RoleIds, Scope};
-
-#[cfg(test)]
-mod tests;

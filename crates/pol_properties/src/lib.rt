@@ -7,6 +7,3 @@ mod property;
 
 pub use properties::Properties;
 pub use property::Property;
-
-#[cfg(test)]
-mod tests;

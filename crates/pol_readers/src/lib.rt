@@ -24,6 +24,3 @@ pub use minus_one::OrMinusOne;
 pub use number::Ranged;
 pub use path::{Path, Step};
 pub use word::{Word, one_of};
-
-#[cfg(test)]
-mod tests;

@@ -1,8 +1,8 @@
 -- No management request's action is want of memory.
 use Rattle.std.proofs.Common.{◌≢◌, ℕ, List, Err}
-use Rattle.pol_routes.specs.declared.plans.RouteRefused.TheVariants.{OutOfMemory}
-use Rattle.pol_routes.specs.declared.table.Endpoint.{Endpoint}
-use Rattle.pol_routes.specs.declared.table.Endpoint.TheVariants.{ListPrincipals, CreatePrincipal, GetPrincipal, DropPrincipal, Rotate, ListMembers, AddMember, EndMember, ListPrincipalRoles, CreatePrincipalRole, GetPrincipalRole, DropPrincipalRole, ListJoins, AddJoin, EndJoin, ListCatalogRoles, CreateCatalogRole, GetCatalogRole, DropCatalogRole, ListGrants, AddGrant, Revoke}
+use Rattle.pol_requests.specs.declared.refused.RouteRefused.TheVariants.{OutOfMemory}
+use Rattle.pol_requests.specs.declared.table.Endpoint.{Endpoint}
+use Rattle.pol_requests.specs.declared.table.Endpoint.TheVariants.{ListPrincipals, CreatePrincipal, GetPrincipal, DropPrincipal, Rotate, ListMembers, AddMember, EndMember, ListPrincipalRoles, CreatePrincipalRole, GetPrincipalRole, DropPrincipalRole, ListJoins, AddJoin, EndJoin, ListCatalogRoles, CreateCatalogRole, GetCatalogRole, DropCatalogRole, ListGrants, AddGrant, Revoke}
 use Rattle.pol_routes.proofs.ToldLemmas.{body_told, done_told, plain_segment_told, read_told}
 use Rattle.pol_routes.specs.Management.{management_of, owner_and_part, create_principal, get_principal, drop_principal, rotate, list_members, add_member, end_member, create_principal_role, get_principal_role, drop_principal_role, list_joins, add_join, end_join, list_catalog_roles, create_catalog_role, get_catalog_role, drop_catalog_role, list_grants, add_grant, revoke}
 

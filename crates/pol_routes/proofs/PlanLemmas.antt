@@ -2,20 +2,20 @@
 use Rattle.std.proofs.Common.{◌≢◌, ℕ, List, Bool, true, false, cond, Option, Some, None, Result, Ok, Err}
 use Rattle.form_urlencoded.specs.Form.{parse}
 use Rattle.pol_http.specs.Message.{Message}
+use Rattle.pol_requests.specs.declared.refused.RouteRefused.{RouteRefused}
+use Rattle.pol_requests.specs.declared.refused.RouteRefused.TheVariants.{InvalidRequest, GrantType, OutOfMemory}
+use Rattle.pol_requests.specs.declared.table.Endpoint.{Endpoint}
+use Rattle.pol_requests.specs.declared.table.Endpoint.TheVariants.{OpenSession as OpensSession, GetConfig, ListNamespaces, CreateNamespace, LoadNamespace, HeadNamespace, DropNamespace, UpdateProperties, ListCatalogs, CreateCatalog, GetCatalog, DropCatalog}
 use Rattle.pol_routes.specs.declared.plans.Planned.{Planned}
-use Rattle.pol_routes.specs.declared.plans.RouteRefused.{RouteRefused}
-use Rattle.pol_routes.specs.declared.plans.RouteRefused.TheVariants.{InvalidRequest, GrantType, OutOfMemory}
 use Rattle.pol_routes.specs.declared.token_form.TokenForm.{TokenForm}
-use Rattle.pol_routes.specs.declared.table.Endpoint.{Endpoint}
-use Rattle.pol_routes.specs.declared.table.Endpoint.TheVariants.{OpenSession as OpensSession, GetConfig, ListNamespaces, CreateNamespace, LoadNamespace, HeadNamespace, DropNamespace, UpdateProperties, ListCatalogs, CreateCatalog, GetCatalog, DropCatalog}
 use Rattle.pol_commands.specs.declared.command.Caller.{Caller}
+use Rattle.pol_requests.specs.Table.{table}
 use Rattle.pol_routes.proofs.ManagementLemmas.{management_told}
 use Rattle.pol_routes.proofs.ToldLemmas.{IsTold, body_told, done_told, if_told, namespace_segment_told, namespace_told, plain_segment_told, plain_told, read_told, unreadable_told}
 use Rattle.pol_routes.specs.Query.{query_value, readable}
 use Rattle.pol_routes.specs.Requests.{action_of, warehouse_of, parent_of, namespace_path, get_config, list_namespaces, create_namespace, load_namespace, head_namespace, drop_namespace, update_properties, create_catalog, get_catalog, drop_catalog}
 use Rattle.pol_routes.specs.Plan.{plan_of_form, action_plan, token_plan, endpoint_plan, plan_by, plan_of}
 use Rattle.pol_routes.specs.Route.{of_method, of_path, path_found, endpoint_at, endpoint_of}
-use Rattle.pol_routes.specs.Table.{table}
 use Rattle.pol_routes.specs.Target.{path_of}
 use Rattle.pol_routes.specs.TokenForm.{token_form}
 

@@ -11,19 +11,19 @@ use Rattle.pol_commands.specs.declared.grants.Grant.{Grant}
 use Rattle.pol_readers.specs.Exactness.{bodies_exact}
 use Rattle.pol_readers.specs.Forms.{body}
 use Rattle.pol_readers.specs.Reading.{Reading}
-use Rattle.pol_routes.specs.declared.plans.RouteRefused.{RouteRefused}
-use Rattle.pol_routes.specs.declared.table.Endpoint.{Endpoint}
-use Rattle.pol_routes.specs.declared.table.Endpoint.TheVariants.{OpenSession as OpensSession, GetConfig, ListNamespaces, CreateNamespace, LoadNamespace, HeadNamespace, DropNamespace, UpdateProperties, ListCatalogs, CreateCatalog, GetCatalog, DropCatalog, ListPrincipals, CreatePrincipal, GetPrincipal, DropPrincipal, Rotate, ListMembers, AddMember, EndMember, ListPrincipalRoles, CreatePrincipalRole, GetPrincipalRole, DropPrincipalRole, ListJoins, AddJoin, EndJoin, ListCatalogRoles, CreateCatalogRole, GetCatalogRole, DropCatalogRole, ListGrants, AddGrant, Revoke}
-use Rattle.pol_routes.specs.declared.management_bodies.GrantBody.{GrantBody}
+use Rattle.pol_requests.specs.declared.refused.RouteRefused.{RouteRefused}
+use Rattle.pol_requests.specs.declared.table.Endpoint.{Endpoint}
+use Rattle.pol_requests.specs.declared.table.Endpoint.TheVariants.{OpenSession as OpensSession, GetConfig, ListNamespaces, CreateNamespace, LoadNamespace, HeadNamespace, DropNamespace, UpdateProperties, ListCatalogs, CreateCatalog, GetCatalog, DropCatalog, ListPrincipals, CreatePrincipal, GetPrincipal, DropPrincipal, Rotate, ListMembers, AddMember, EndMember, ListPrincipalRoles, CreatePrincipalRole, GetPrincipalRole, DropPrincipalRole, ListJoins, AddJoin, EndJoin, ListCatalogRoles, CreateCatalogRole, GetCatalogRole, DropCatalogRole, ListGrants, AddGrant, Revoke}
+use Rattle.pol_requests.specs.Refused.{Gives, read_on}
+use Rattle.pol_bodies.specs.declared.management_bodies.GrantBody.{GrantBody}
+use Rattle.pol_bodies.proofs.ManagementBodyLemmas.{grant_bodies_exact}
+use Rattle.pol_bodies.specs.Body.{body_of}
+use Rattle.pol_bodies.specs.Bodies.{new_namespace, property_updates}
+use Rattle.pol_bodies.specs.ManagementBodies.{catalog_role_body, grant_body, principal_role_body}
 use Rattle.pol_routes.specs.declared.plans.Planned.{Planned}
 use Rattle.pol_routes.specs.declared.token_form.TokenForm.{TokenForm}
-use Rattle.pol_routes.proofs.ManagementBodyLemmas.{grant_bodies_exact}
-use Rattle.pol_routes.specs.Body.{body_of}
 use Rattle.pol_routes.specs.Management.{management_of, owner, owner_and_part, create_principal, get_principal, drop_principal, rotate, list_members, add_member, end_member, create_principal_role, get_principal_role, drop_principal_role, list_joins, add_join, end_join, list_catalog_roles, create_catalog_role, get_catalog_role, drop_catalog_role, list_grants, add_grant, revoke}
-use Rattle.pol_routes.specs.Bodies.{new_namespace, property_updates}
-use Rattle.pol_routes.specs.ManagementBodies.{catalog_role_body, grant_body, principal_role_body}
 use Rattle.pol_routes.specs.Plan.{action_plan, endpoint_plan, plan_by, plan_of, plan_of_form, token_plan}
-use Rattle.pol_routes.specs.Refused.{Gives, read_on}
 use Rattle.pol_routes.specs.Requests.{action_of, namespace_path, parent_of, prefix_of, warehouse_of, get_config, list_namespaces, create_namespace, load_namespace, head_namespace, drop_namespace, update_properties, create_catalog, get_catalog, drop_catalog}
 use Rattle.pol_routes.specs.Route.{endpoint_of}
 use Rattle.pol_routes.specs.Query.{query_value}

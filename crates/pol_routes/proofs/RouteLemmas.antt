@@ -8,9 +8,9 @@ use Rattle.matchit.specs.Router.{InsertsRead, route_from}
 use Rattle.matchit.specs.Order.{placed}
 use Rattle.matchit.specs.declared.error.InsertError.{InsertError}
 use Rattle.matchit.specs.declared.error.InsertError.TheVariants.{Conflict, InvalidParamSegment, InvalidParam, InvalidCatchAll, OutOfMemory}
+use Rattle.pol_requests.specs.Table.{entry_of}
+use Rattle.pol_requests.specs.declared.table.Endpoint.{Endpoint}
 use Rattle.pol_routes.specs.Route.{PathRoutes, with_scan, routes_from, serves, endpoint_by}
-use Rattle.pol_routes.specs.Table.{entry_of}
-use Rattle.pol_routes.specs.declared.table.Endpoint.{Endpoint}
 
 pub find_map : {A B : Type 0} (p : B → Bool) (g : A → B) (xs : List A) → find p (map g xs) ≡ option_map g (find (λ x. p (g x)) xs)
 find_map p g [] = refl

@@ -2,11 +2,11 @@
 use Rattle.std.proofs.Common.{◌≡◌, ℕ, true, false, List, Some, None, Ok, Err, inl, inr, ap, codes}
 use Rattle.std.specs.Str.{is_utf8}
 use Rattle.percent_encoding.specs.Percent.{percent_decode}
+use Rattle.pol_requests.specs.declared.refused.RouteRefused.{RouteRefused}
+use Rattle.pol_requests.specs.declared.refused.RouteRefused.TheVariants.{Unreadable}
+use Rattle.pol_requests.specs.Refused.{Gives, IsUnreadable}
 use Rattle.pol_routes.proofs.FieldLemmas.{cond_none, cond_some}
-use Rattle.pol_routes.specs.declared.plans.RouteRefused.{RouteRefused}
-use Rattle.pol_routes.specs.declared.plans.RouteRefused.TheVariants.{Unreadable}
 use Rattle.pol_routes.specs.Form.{text_of}
-use Rattle.pol_routes.specs.Refused.{Gives, IsUnreadable}
 use Rattle.pol_routes.specs.Segment.{has_whole_escapes, segment_text}
 
 -- what is to be refused is

@@ -1,11 +1,11 @@
 -- No reading of a part of a request is want of memory.
 use Rattle.std.proofs.Common.{◌≢◌, ℕ, List, Bool, true, false, cond, Result, Ok, Err, codes}
 use Rattle.pol_readers.specs.Reading.{Reading}
-use Rattle.pol_routes.specs.Body.{body_of}
-use Rattle.pol_routes.specs.Refused.{read_on}
+use Rattle.pol_requests.specs.Refused.{read_on}
+use Rattle.pol_requests.specs.declared.refused.RouteRefused.{RouteRefused}
+use Rattle.pol_requests.specs.declared.refused.RouteRefused.TheVariants.{Unreadable, OutOfMemory}
+use Rattle.pol_bodies.specs.Body.{body_of}
 use Rattle.pol_routes.specs.Segment.{segment_text, plain_of, namespace_of, plain_segment, namespace_segment}
-use Rattle.pol_routes.specs.declared.plans.RouteRefused.{RouteRefused}
-use Rattle.pol_routes.specs.declared.plans.RouteRefused.TheVariants.{Unreadable, OutOfMemory}
 
 -- the result is no want of memory
 abbrev pub IsTold : {A : Type 0} → Result A RouteRefused → Type 0

@@ -1,15 +1,9 @@
--- Laws of plans, and of the bodies that they read.
+-- Laws of plans.
 use Rattle.std.specs.Prelude.{◌≡◌, ◌≢◌, Ok, Err}
 use Rattle.pol_http.specs.Message.{Message}
 use Rattle.pol_commands.specs.Proper.{IsProper}
-use Rattle.pol_readers.specs.Forms.{body}
-use Rattle.pol_readers.specs.Grammar.{Exact, IsBody}
-use Rattle.pol_routes.specs.Bodies.{catalog_body, new_namespace, property_updates}
-use Rattle.pol_routes.specs.BodyGrammars.{IsCatalogBody, IsNewNamespace, IsPropertyUpdates}
-use Rattle.pol_routes.specs.ManagementBodies.{catalog_role_body, grant_body, principal_body, principal_role_body}
-use Rattle.pol_routes.specs.ManagementGrammars.{IsCatalogRoleBody, IsGrantBody, IsPrincipalBody, IsPrincipalRoleBody}
+use Rattle.pol_requests.specs.declared.refused.RouteRefused.TheVariants.{OutOfMemory}
 use Rattle.pol_routes.specs.declared.plans.Planned.{Planned}
-use Rattle.pol_routes.specs.declared.plans.RouteRefused.TheVariants.{OutOfMemory}
 use Rattle.pol_routes.specs.Plan.{plan_of}
 
 -- no message asks for want of memory
@@ -19,25 +13,3 @@ PlansTellNoWantOfMemory = (message : Message) → plan_of message ≢ Err OutOfM
 -- the action of each plan is proper
 abbrev pub PlansAreProper : Type 0
 PlansAreProper = (message : Message) (planned : Planned) → plan_of message ≡ Ok planned → IsProper planned.action
-
--- each body is read exactly where it is of its grammar
-abbrev pub CatalogBodiesAreExact : Type 0
-CatalogBodiesAreExact = Exact (body catalog_body) (IsBody IsCatalogBody)
-
-abbrev pub NewNamespacesAreExact : Type 0
-NewNamespacesAreExact = Exact (body new_namespace) (IsBody IsNewNamespace)
-
-abbrev pub PropertyUpdatesAreExact : Type 0
-PropertyUpdatesAreExact = Exact (body property_updates) (IsBody IsPropertyUpdates)
-
-abbrev pub PrincipalBodiesAreExact : Type 0
-PrincipalBodiesAreExact = Exact (body principal_body) (IsBody IsPrincipalBody)
-
-abbrev pub PrincipalRoleBodiesAreExact : Type 0
-PrincipalRoleBodiesAreExact = Exact (body principal_role_body) (IsBody IsPrincipalRoleBody)
-
-abbrev pub CatalogRoleBodiesAreExact : Type 0
-CatalogRoleBodiesAreExact = Exact (body catalog_role_body) (IsBody IsCatalogRoleBody)
-
-abbrev pub GrantBodiesAreExact : Type 0
-GrantBodiesAreExact = Exact (body grant_body) (IsBody IsGrantBody)

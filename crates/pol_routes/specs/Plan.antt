@@ -9,15 +9,15 @@ use Rattle.pol_commands.specs.declared.command.Caller.{Caller}
 use Rattle.pol_commands.specs.declared.command.Caller.TheVariants.{Nobody}
 use Rattle.pol_commands.specs.declared.command.Command.{Command}
 use Rattle.pol_commands.specs.declared.command.Words4.{Words4}
+use Rattle.pol_requests.specs.declared.refused.RouteRefused.{RouteRefused}
+use Rattle.pol_requests.specs.declared.refused.RouteRefused.TheVariants.{InvalidRequest, GrantType}
+use Rattle.pol_requests.specs.declared.table.Endpoint.{Endpoint}
+use Rattle.pol_requests.specs.declared.table.Endpoint.TheVariants.{OpenSession as OpensSession, CreatePrincipal, Rotate}
+use Rattle.pol_requests.specs.Refused.{read_on}
 use Rattle.pol_routes.specs.declared.plans.Planned.{Planned}
-use Rattle.pol_routes.specs.declared.plans.RouteRefused.{RouteRefused}
-use Rattle.pol_routes.specs.declared.plans.RouteRefused.TheVariants.{InvalidRequest, GrantType}
 use Rattle.pol_routes.specs.declared.plans.TheConstants.{REQUEST_CHARGE}
-use Rattle.pol_routes.specs.declared.table.Endpoint.{Endpoint}
-use Rattle.pol_routes.specs.declared.table.Endpoint.TheVariants.{OpenSession as OpensSession, CreatePrincipal, Rotate}
 use Rattle.pol_routes.specs.declared.token_form.TokenForm.{TokenForm}
 use Rattle.pol_routes.specs.Bearer.{caller_of}
-use Rattle.pol_routes.specs.Refused.{read_on}
 use Rattle.pol_routes.specs.Requests.{action_of}
 use Rattle.pol_routes.specs.Route.{endpoint_of}
 use Rattle.pol_routes.specs.Target.{path_of}

@@ -3,9 +3,9 @@ use Rattle.std.specs.Prelude.{ℕ, List, if◌then◌else◌, Option, Some, None
 use Rattle.std.specs.List.{last_or}
 use Rattle.std.specs.Str.{is_utf8}
 use Rattle.form_urlencoded.specs.Form.{parse}
+use Rattle.pol_requests.specs.declared.refused.RouteRefused.{RouteRefused}
+use Rattle.pol_requests.specs.declared.refused.RouteRefused.TheVariants.{Unreadable}
 use Rattle.pol_routes.specs.Form.{values_of}
-use Rattle.pol_routes.specs.declared.plans.RouteRefused.{RouteRefused}
-use Rattle.pol_routes.specs.declared.plans.RouteRefused.TheVariants.{Unreadable}
 
 -- the value of a key, where it is UTF-8
 unfoldable pub readable : List ℕ → Option (List ℕ) → Result (Option (List ℕ)) RouteRefused

@@ -4,16 +4,16 @@ use Rattle.form_urlencoded.specs.Form.{is_nonempty}
 use Rattle.pol_commands.specs.declared.command.Action.{Action}
 use Rattle.pol_commands.specs.declared.command.Action.TheVariants as action
 use Rattle.pol_readers.specs.Forms.{body}
-use Rattle.pol_routes.specs.declared.bodies.NewCatalog.{NewCatalog}
-use Rattle.pol_routes.specs.declared.plans.RouteRefused.{RouteRefused}
-use Rattle.pol_routes.specs.declared.plans.RouteRefused.TheVariants.{Unreadable}
-use Rattle.pol_routes.specs.declared.table.Endpoint.{Endpoint}
-use Rattle.pol_routes.specs.declared.table.Endpoint.TheVariants.{GetConfig, ListNamespaces, CreateNamespace, LoadNamespace, HeadNamespace, DropNamespace, UpdateProperties, ListCatalogs, CreateCatalog, GetCatalog, DropCatalog}
-use Rattle.pol_routes.specs.Bodies.{catalog_body, new_namespace, property_updates}
-use Rattle.pol_routes.specs.Body.{body_of}
+use Rattle.pol_requests.specs.declared.refused.RouteRefused.{RouteRefused}
+use Rattle.pol_requests.specs.declared.refused.RouteRefused.TheVariants.{Unreadable}
+use Rattle.pol_requests.specs.declared.table.Endpoint.{Endpoint}
+use Rattle.pol_requests.specs.declared.table.Endpoint.TheVariants.{GetConfig, ListNamespaces, CreateNamespace, LoadNamespace, HeadNamespace, DropNamespace, UpdateProperties, ListCatalogs, CreateCatalog, GetCatalog, DropCatalog}
+use Rattle.pol_requests.specs.Refused.{read_on}
+use Rattle.pol_bodies.specs.declared.bodies.NewCatalog.{NewCatalog}
+use Rattle.pol_bodies.specs.Bodies.{catalog_body, new_namespace, property_updates}
+use Rattle.pol_bodies.specs.Body.{body_of}
 use Rattle.pol_routes.specs.Management.{management_of}
 use Rattle.pol_routes.specs.Query.{query_value}
-use Rattle.pol_routes.specs.Refused.{read_on}
 use Rattle.pol_routes.specs.Segment.{segment_at, plain_of, namespace_of, plain_segment, namespace_segment}
 use Rattle.pol_routes.specs.Target.{path_of, query_of}
 

@@ -7,10 +7,10 @@ use Rattle.matchit.specs.Router.{RouteOf, nearest, route_from}
 use Rattle.matchit.specs.Rows.{RowsOf}
 use Rattle.matchit.specs.Seek.{first}
 use Rattle.matchit.specs.declared.error.InsertError.{InsertError}
-use Rattle.pol_routes.specs.declared.plans.RouteRefused.{RouteRefused}
-use Rattle.pol_routes.specs.declared.plans.RouteRefused.TheVariants.{NoRoute, WrongMethod}
-use Rattle.pol_routes.specs.declared.table.Endpoint.{Endpoint}
-use Rattle.pol_routes.specs.Table.{Entry, table}
+use Rattle.pol_requests.specs.declared.refused.RouteRefused.{RouteRefused}
+use Rattle.pol_requests.specs.declared.refused.RouteRefused.TheVariants.{NoRoute, WrongMethod}
+use Rattle.pol_requests.specs.declared.table.Endpoint.{Endpoint}
+use Rattle.pol_requests.specs.Table.{Entry, table}
 
 -- routes, each with the place in the table of the first row with its path
 abbrev pub PathRoutes : Type 0

@@ -7,9 +7,9 @@ use Rattle.percent_encoding.specs.Percent.{percent_decode, percent_sign}
 use Rattle.pol_names.specs.Name.{name_refusal}
 use Rattle.pol_names.specs.Namespace.{levels_of, namespace_refusal}
 use Rattle.pol_names.specs.Plain.{plain_refusal}
-use Rattle.pol_routes.specs.Refused.{read_on}
-use Rattle.pol_routes.specs.declared.plans.RouteRefused.{RouteRefused}
-use Rattle.pol_routes.specs.declared.plans.RouteRefused.TheVariants.{Unreadable}
+use Rattle.pol_requests.specs.Refused.{read_on}
+use Rattle.pol_requests.specs.declared.refused.RouteRefused.{RouteRefused}
+use Rattle.pol_requests.specs.declared.refused.RouteRefused.TheVariants.{Unreadable}
 
 -- `b'/'`
 abbrev pub slash : ℕ

@@ -1,14 +1,12 @@
 //! What management requests ask for (Apache Polaris Management Service), by their paths and bodies.
+ghost use Rattle.pol_requests.specs.Refused.{Gives};
 ghost use Rattle.pol_routes.specs.Management as spec;
-ghost use Rattle.pol_routes.specs.Refused.{Gives};
 
-use crate::body::body_of;
-use crate::management_bodies::{CatalogRoleBody, GrantBody, PrincipalBody, PrincipalRoleBody};
-use crate::plans::RouteRefused;
 use crate::segment::{plain_segment, segment_at};
-use crate::table::Endpoint;
+use pol_bodies::{CatalogRoleBody, GrantBody, PrincipalBody, PrincipalRoleBody, body_of};
 use pol_commands::Action;
 use pol_names::Plain;
+use pol_requests::{Endpoint, RouteRefused};
 use std::alloc::Global;
 
 /// The place of what a path names first: a principal, a principal role or a catalogue.
@@ -66,7 +64,7 @@ fn owner(alloc: Global, path: &[u8]) -> Result<Plain, RouteRefused>
 }
 
 /// What a path names first, and what it names behind that.
-#[tactic(auto, using(crate::proofs::RefusedLemmas::read_on_refused, crate::proofs::RefusedLemmas::read_on_read), unfolding(crate::specs::Management::owner_and_part))]
+#[tactic(auto, using(pol_requests::proofs::RefusedLemmas::read_on_refused, pol_requests::proofs::RefusedLemmas::read_on_read), unfolding(crate::specs::Management::owner_and_part))]
 fn owner_and_part(alloc: Global, path: &[u8]) -> Result<(Plain, Plain), RouteRefused>
     ensures { Gives (spec.owner_and_part path.now) result }
 {
@@ -76,7 +74,7 @@ fn owner_and_part(alloc: Global, path: &[u8]) -> Result<(Plain, Plain), RouteRef
 }
 
 /// A new principal, whose client id and secret are drawn (createPrincipal).
-#[tactic(auto, using(crate::proofs::RefusedLemmas::read_on_refused, crate::proofs::RefusedLemmas::read_on_read), unfolding(crate::specs::Management::create_principal))]
+#[tactic(auto, using(pol_requests::proofs::RefusedLemmas::read_on_refused, pol_requests::proofs::RefusedLemmas::read_on_read), unfolding(crate::specs::Management::create_principal))]
 fn create_principal(alloc: Global, body: &[u8]) -> Result<Action, RouteRefused>
     ensures { Gives (spec.create_principal body.now) result }
 {
@@ -89,7 +87,7 @@ fn create_principal(alloc: Global, body: &[u8]) -> Result<Action, RouteRefused>
 }
 
 /// A principal that is shown (getPrincipal).
-#[tactic(auto, using(crate::proofs::RefusedLemmas::read_on_refused, crate::proofs::RefusedLemmas::read_on_read), unfolding(crate::specs::Management::get_principal))]
+#[tactic(auto, using(pol_requests::proofs::RefusedLemmas::read_on_refused, pol_requests::proofs::RefusedLemmas::read_on_read), unfolding(crate::specs::Management::get_principal))]
 fn get_principal(alloc: Global, path: &[u8]) -> Result<Action, RouteRefused>
     ensures { Gives (spec.get_principal path.now) result }
 {
@@ -98,7 +96,7 @@ fn get_principal(alloc: Global, path: &[u8]) -> Result<Action, RouteRefused>
 }
 
 /// The end of a principal (deletePrincipal).
-#[tactic(auto, using(crate::proofs::RefusedLemmas::read_on_refused, crate::proofs::RefusedLemmas::read_on_read), unfolding(crate::specs::Management::drop_principal))]
+#[tactic(auto, using(pol_requests::proofs::RefusedLemmas::read_on_refused, pol_requests::proofs::RefusedLemmas::read_on_read), unfolding(crate::specs::Management::drop_principal))]
 fn drop_principal(alloc: Global, path: &[u8]) -> Result<Action, RouteRefused>
     ensures { Gives (spec.drop_principal path.now) result }
 {
@@ -107,7 +105,7 @@ fn drop_principal(alloc: Global, path: &[u8]) -> Result<Action, RouteRefused>
 }
 
 /// Another secret of a principal, which is drawn (rotateCredentials).
-#[tactic(auto, using(crate::proofs::RefusedLemmas::read_on_refused, crate::proofs::RefusedLemmas::read_on_read), unfolding(crate::specs::Management::rotate))]
+#[tactic(auto, using(pol_requests::proofs::RefusedLemmas::read_on_refused, pol_requests::proofs::RefusedLemmas::read_on_read), unfolding(crate::specs::Management::rotate))]
 fn rotate(alloc: Global, path: &[u8]) -> Result<Action, RouteRefused>
     ensures { Gives (spec.rotate path.now) result }
 {
@@ -116,7 +114,7 @@ fn rotate(alloc: Global, path: &[u8]) -> Result<Action, RouteRefused>
 }
 
 /// The roles of a principal (listPrincipalRolesAssigned).
-#[tactic(auto, using(crate::proofs::RefusedLemmas::read_on_refused, crate::proofs::RefusedLemmas::read_on_read), unfolding(crate::specs::Management::list_members))]
+#[tactic(auto, using(pol_requests::proofs::RefusedLemmas::read_on_refused, pol_requests::proofs::RefusedLemmas::read_on_read), unfolding(crate::specs::Management::list_members))]
 fn list_members(alloc: Global, path: &[u8]) -> Result<Action, RouteRefused>
     ensures { Gives (spec.list_members path.now) result }
 {
@@ -125,7 +123,7 @@ fn list_members(alloc: Global, path: &[u8]) -> Result<Action, RouteRefused>
 }
 
 /// A role that a principal gets (assignPrincipalRole).
-#[tactic(auto, using(crate::proofs::RefusedLemmas::read_on_refused, crate::proofs::RefusedLemmas::read_on_read), unfolding(crate::specs::Management::add_member))]
+#[tactic(auto, using(pol_requests::proofs::RefusedLemmas::read_on_refused, pol_requests::proofs::RefusedLemmas::read_on_read), unfolding(crate::specs::Management::add_member))]
 fn add_member(alloc: Global, path: &[u8], body: &[u8]) -> Result<Action, RouteRefused>
     ensures { Gives (spec.add_member path.now body.now) result }
 {
@@ -138,7 +136,7 @@ fn add_member(alloc: Global, path: &[u8], body: &[u8]) -> Result<Action, RouteRe
 }
 
 /// A role that is taken from a principal (revokePrincipalRole).
-#[tactic(auto, using(crate::proofs::RefusedLemmas::read_on_refused, crate::proofs::RefusedLemmas::read_on_read), unfolding(crate::specs::Management::end_member))]
+#[tactic(auto, using(pol_requests::proofs::RefusedLemmas::read_on_refused, pol_requests::proofs::RefusedLemmas::read_on_read), unfolding(crate::specs::Management::end_member))]
 fn end_member(alloc: Global, path: &[u8]) -> Result<Action, RouteRefused>
     ensures { Gives (spec.end_member path.now) result }
 {
@@ -147,7 +145,7 @@ fn end_member(alloc: Global, path: &[u8]) -> Result<Action, RouteRefused>
 }
 
 /// A new principal role (createPrincipalRole).
-#[tactic(auto, using(crate::proofs::RefusedLemmas::read_on_refused, crate::proofs::RefusedLemmas::read_on_read), unfolding(crate::specs::Management::create_principal_role))]
+#[tactic(auto, using(pol_requests::proofs::RefusedLemmas::read_on_refused, pol_requests::proofs::RefusedLemmas::read_on_read), unfolding(crate::specs::Management::create_principal_role))]
 fn create_principal_role(alloc: Global, body: &[u8]) -> Result<Action, RouteRefused>
     ensures { Gives (spec.create_principal_role body.now) result }
 {
@@ -156,7 +154,7 @@ fn create_principal_role(alloc: Global, body: &[u8]) -> Result<Action, RouteRefu
 }
 
 /// A principal role that is shown (getPrincipalRole).
-#[tactic(auto, using(crate::proofs::RefusedLemmas::read_on_refused, crate::proofs::RefusedLemmas::read_on_read), unfolding(crate::specs::Management::get_principal_role))]
+#[tactic(auto, using(pol_requests::proofs::RefusedLemmas::read_on_refused, pol_requests::proofs::RefusedLemmas::read_on_read), unfolding(crate::specs::Management::get_principal_role))]
 fn get_principal_role(alloc: Global, path: &[u8]) -> Result<Action, RouteRefused>
     ensures { Gives (spec.get_principal_role path.now) result }
 {
@@ -165,7 +163,7 @@ fn get_principal_role(alloc: Global, path: &[u8]) -> Result<Action, RouteRefused
 }
 
 /// The end of a principal role (deletePrincipalRole).
-#[tactic(auto, using(crate::proofs::RefusedLemmas::read_on_refused, crate::proofs::RefusedLemmas::read_on_read), unfolding(crate::specs::Management::drop_principal_role))]
+#[tactic(auto, using(pol_requests::proofs::RefusedLemmas::read_on_refused, pol_requests::proofs::RefusedLemmas::read_on_read), unfolding(crate::specs::Management::drop_principal_role))]
 fn drop_principal_role(alloc: Global, path: &[u8]) -> Result<Action, RouteRefused>
     ensures { Gives (spec.drop_principal_role path.now) result }
 {
@@ -174,7 +172,7 @@ fn drop_principal_role(alloc: Global, path: &[u8]) -> Result<Action, RouteRefuse
 }
 
 /// The roles of a catalogue to which a principal role is joined (listCatalogRolesForPrincipalRole).
-#[tactic(auto, using(crate::proofs::RefusedLemmas::read_on_refused, crate::proofs::RefusedLemmas::read_on_read), unfolding(crate::specs::Management::list_joins))]
+#[tactic(auto, using(pol_requests::proofs::RefusedLemmas::read_on_refused, pol_requests::proofs::RefusedLemmas::read_on_read), unfolding(crate::specs::Management::list_joins))]
 fn list_joins(alloc: Global, path: &[u8]) -> Result<Action, RouteRefused>
     ensures { Gives (spec.list_joins path.now) result }
 {
@@ -183,7 +181,7 @@ fn list_joins(alloc: Global, path: &[u8]) -> Result<Action, RouteRefused>
 }
 
 /// A principal role that is joined to a role of a catalogue (assignCatalogRoleToPrincipalRole).
-#[tactic(auto, using(crate::proofs::RefusedLemmas::read_on_refused, crate::proofs::RefusedLemmas::read_on_read), unfolding(crate::specs::Management::add_join))]
+#[tactic(auto, using(pol_requests::proofs::RefusedLemmas::read_on_refused, pol_requests::proofs::RefusedLemmas::read_on_read), unfolding(crate::specs::Management::add_join))]
 fn add_join(alloc: Global, path: &[u8], body: &[u8]) -> Result<Action, RouteRefused>
     ensures { Gives (spec.add_join path.now body.now) result }
 {
@@ -197,7 +195,7 @@ fn add_join(alloc: Global, path: &[u8], body: &[u8]) -> Result<Action, RouteRefu
 }
 
 /// The end of such a join (revokeCatalogRoleFromPrincipalRole).
-#[tactic(auto, using(crate::proofs::RefusedLemmas::read_on_refused, crate::proofs::RefusedLemmas::read_on_read), unfolding(crate::specs::Management::end_join))]
+#[tactic(auto, using(pol_requests::proofs::RefusedLemmas::read_on_refused, pol_requests::proofs::RefusedLemmas::read_on_read), unfolding(crate::specs::Management::end_join))]
 fn end_join(alloc: Global, path: &[u8]) -> Result<Action, RouteRefused>
     ensures { Gives (spec.end_join path.now) result }
 {
@@ -211,7 +209,7 @@ fn end_join(alloc: Global, path: &[u8]) -> Result<Action, RouteRefused>
 }
 
 /// The roles of a catalogue (listCatalogRoles).
-#[tactic(auto, using(crate::proofs::RefusedLemmas::read_on_refused, crate::proofs::RefusedLemmas::read_on_read), unfolding(crate::specs::Management::list_catalog_roles))]
+#[tactic(auto, using(pol_requests::proofs::RefusedLemmas::read_on_refused, pol_requests::proofs::RefusedLemmas::read_on_read), unfolding(crate::specs::Management::list_catalog_roles))]
 fn list_catalog_roles(alloc: Global, path: &[u8]) -> Result<Action, RouteRefused>
     ensures { Gives (spec.list_catalog_roles path.now) result }
 {
@@ -220,7 +218,7 @@ fn list_catalog_roles(alloc: Global, path: &[u8]) -> Result<Action, RouteRefused
 }
 
 /// A new role of a catalogue (createCatalogRole).
-#[tactic(auto, using(crate::proofs::RefusedLemmas::read_on_refused, crate::proofs::RefusedLemmas::read_on_read), unfolding(crate::specs::Management::create_catalog_role))]
+#[tactic(auto, using(pol_requests::proofs::RefusedLemmas::read_on_refused, pol_requests::proofs::RefusedLemmas::read_on_read), unfolding(crate::specs::Management::create_catalog_role))]
 fn create_catalog_role(alloc: Global, path: &[u8], body: &[u8]) -> Result<Action, RouteRefused>
     ensures { Gives (spec.create_catalog_role path.now body.now) result }
 {
@@ -233,7 +231,7 @@ fn create_catalog_role(alloc: Global, path: &[u8], body: &[u8]) -> Result<Action
 }
 
 /// A role of a catalogue that is shown (getCatalogRole).
-#[tactic(auto, using(crate::proofs::RefusedLemmas::read_on_refused, crate::proofs::RefusedLemmas::read_on_read), unfolding(crate::specs::Management::get_catalog_role))]
+#[tactic(auto, using(pol_requests::proofs::RefusedLemmas::read_on_refused, pol_requests::proofs::RefusedLemmas::read_on_read), unfolding(crate::specs::Management::get_catalog_role))]
 fn get_catalog_role(alloc: Global, path: &[u8]) -> Result<Action, RouteRefused>
     ensures { Gives (spec.get_catalog_role path.now) result }
 {
@@ -242,7 +240,7 @@ fn get_catalog_role(alloc: Global, path: &[u8]) -> Result<Action, RouteRefused>
 }
 
 /// The end of a role of a catalogue (deleteCatalogRole).
-#[tactic(auto, using(crate::proofs::RefusedLemmas::read_on_refused, crate::proofs::RefusedLemmas::read_on_read), unfolding(crate::specs::Management::drop_catalog_role))]
+#[tactic(auto, using(pol_requests::proofs::RefusedLemmas::read_on_refused, pol_requests::proofs::RefusedLemmas::read_on_read), unfolding(crate::specs::Management::drop_catalog_role))]
 fn drop_catalog_role(alloc: Global, path: &[u8]) -> Result<Action, RouteRefused>
     ensures { Gives (spec.drop_catalog_role path.now) result }
 {
@@ -251,7 +249,7 @@ fn drop_catalog_role(alloc: Global, path: &[u8]) -> Result<Action, RouteRefused>
 }
 
 /// The grants of a role of a catalogue (listGrantsForCatalogRole).
-#[tactic(auto, using(crate::proofs::RefusedLemmas::read_on_refused, crate::proofs::RefusedLemmas::read_on_read), unfolding(crate::specs::Management::list_grants))]
+#[tactic(auto, using(pol_requests::proofs::RefusedLemmas::read_on_refused, pol_requests::proofs::RefusedLemmas::read_on_read), unfolding(crate::specs::Management::list_grants))]
 fn list_grants(alloc: Global, path: &[u8]) -> Result<Action, RouteRefused>
     ensures { Gives (spec.list_grants path.now) result }
 {
@@ -260,7 +258,7 @@ fn list_grants(alloc: Global, path: &[u8]) -> Result<Action, RouteRefused>
 }
 
 /// A grant that such a role gets (addGrantToCatalogRole).
-#[tactic(auto, using(crate::proofs::RefusedLemmas::read_on_refused, crate::proofs::RefusedLemmas::read_on_read), unfolding(crate::specs::Management::add_grant))]
+#[tactic(auto, using(pol_requests::proofs::RefusedLemmas::read_on_refused, pol_requests::proofs::RefusedLemmas::read_on_read), unfolding(crate::specs::Management::add_grant))]
 fn add_grant(alloc: Global, path: &[u8], body: &[u8]) -> Result<Action, RouteRefused>
     ensures { Gives (spec.add_grant path.now body.now) result }
 {
@@ -274,7 +272,7 @@ fn add_grant(alloc: Global, path: &[u8], body: &[u8]) -> Result<Action, RouteRef
 }
 
 /// A grant that is taken from such a role (revokeGrantFromCatalogRole).
-#[tactic(auto, using(crate::proofs::RefusedLemmas::read_on_refused, crate::proofs::RefusedLemmas::read_on_read), unfolding(crate::specs::Management::revoke))]
+#[tactic(auto, using(pol_requests::proofs::RefusedLemmas::read_on_refused, pol_requests::proofs::RefusedLemmas::read_on_read), unfolding(crate::specs::Management::revoke))]
 fn revoke(alloc: Global, path: &[u8], body: &[u8]) -> Result<Action, RouteRefused>
     ensures { Gives (spec.revoke path.now body.now) result }
 {

@@ -3,21 +3,20 @@ ghost use Rattle.std.specs.Prelude.{◌≡◌, IfOk, IsUtf8};
 ghost use Rattle.pol_http.specs.Message.{Message};
 ghost use Rattle.pol_http.specs.Next.{IsMessageAt, LiesWithin};
 ghost use Rattle.pol_commands.specs.Proper.{IsProper};
+ghost use Rattle.pol_requests.specs.Refused.{Gives};
 ghost use Rattle.pol_routes.specs.Plan as spec;
-ghost use Rattle.pol_routes.specs.Refused.{Gives};
 ghost use Rattle.pol_routes.specs.Route as route;
 ghost use Rattle.pol_routes.specs.Target.{path_of};
 
 use crate::bearer::caller_of;
 use crate::requests::action_of;
 use crate::routes::Routes;
-use crate::table::Endpoint;
 use crate::target;
 use crate::token_form::{TokenForm, read_token_form};
 use httparse::spans::Span;
 use pol_commands::{Action, Caller, Command, Words4};
 use pol_http::Head;
-use pol_types::{OutOfMemory, Text};
+use pol_requests::{Endpoint, RouteRefused};
 use std::alloc::Global;
 use std::str;
 
@@ -33,35 +32,6 @@ pub struct Planned {
     pub words: u8,
     /// What the request counts towards the bound of a run: its bytes and `REQUEST_CHARGE`.
     pub charge: u64,
-}
-
-/// Why a message has no plan. The refusals of the route come first, in the order in which they stand here.
-#[derive(Debug, Drop, PartialEq, Eq)]
-pub enum RouteRefused {
-    /// The path is none of the table's.
-    NoRoute,
-    /// The path is one of the table's, and none of its methods is the request's.
-    WrongMethod,
-    /// The table has the method and path, but no such request is served yet.
-    NotBuilt,
-    /// A part of the request can't be read: `path` for a segment of the path, else a key of the query or a place of
-    /// the body.
-    Unreadable { field: Text },
-    /// A token request isn't UTF-8 once decoded, lacks a field, has one twice or empty, or has too many scopes.
-    InvalidRequest,
-    /// A token request is of a grant type other than `client_credentials`.
-    GrantType,
-    OutOfMemory,
-}
-
-impl From<OutOfMemory> for RouteRefused {
-    ghost use Rattle.pol_routes.specs.declared.plans.RouteRefused.TheVariants as why;
-
-    ghost from_gives = { λ _ refused. refused ≡ why.OutOfMemory };
-
-    fn from(_error: OutOfMemory) -> Self {
-        RouteRefused::OutOfMemory
-    }
 }
 
 /// The plan of the message of which these are the ranges: its route, its method, whether such requests are served
@@ -114,7 +84,7 @@ fn endpoint_plan(
 }
 
 /// The plan of a request for an action other than opening a session.
-#[tactic(auto, using(crate::proofs::RefusedLemmas::read_on_refused, crate::proofs::RefusedLemmas::read_on_read), unfolding(crate::specs::Plan::action_plan))]
+#[tactic(auto, using(pol_requests::proofs::RefusedLemmas::read_on_refused, pol_requests::proofs::RefusedLemmas::read_on_read), unfolding(crate::specs::Plan::action_plan))]
 fn action_plan(
     alloc: Global,
     endpoint: Endpoint,

@@ -3,14 +3,13 @@ ghost use Rattle.std.specs.Prelude.{◌≡◌, None, Some, option_map, IfOk};
 ghost use Rattle.std.specs.List.{last_or};
 ghost use Rattle.std.specs.Str.{bytes_eq};
 ghost use Rattle.form_urlencoded.specs.Form.{decode, parse};
+ghost use Rattle.pol_requests.specs.Refused.{Gives};
 ghost use Rattle.pol_routes.specs.Form.{values_of};
 ghost use Rattle.pol_routes.specs.Query as spec;
-ghost use Rattle.pol_routes.specs.Refused.{Gives};
 
 use crate::form::{decoded, decoded_bytes};
-use crate::plans::RouteRefused;
-use crate::segment::unreadable;
 use form_urlencoded::raw_pairs;
+use pol_requests::{RouteRefused, unreadable};
 use pol_types::{OutOfMemory, Text};
 use std::alloc::Global;
 

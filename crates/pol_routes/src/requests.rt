@@ -1,20 +1,16 @@
 //! What requests ask for, by their paths, queries and bodies.
 ghost use Rattle.std.specs.Prelude.{◌≡◌};
-ghost use Rattle.pol_routes.specs.Refused.{Gives};
+ghost use Rattle.pol_requests.specs.Refused.{Gives};
 ghost use Rattle.pol_routes.specs.Requests as spec;
 
-use crate::bodies::{CatalogBody, NewCatalog, NewNamespace, PropertyUpdates};
-use crate::body::body_of;
 use crate::management::management_of;
-use crate::plans::RouteRefused;
 use crate::query::query_value;
-use crate::segment::{
-    namespace_of, namespace_segment, plain_of, plain_segment, segment_at, unreadable,
-};
-use crate::table::Endpoint;
+use crate::segment::{namespace_of, namespace_segment, plain_of, plain_segment, segment_at};
 use crate::target::{path_of, query_of};
+use pol_bodies::{CatalogBody, NewCatalog, NewNamespace, PropertyUpdates, body_of};
 use pol_commands::Action;
 use pol_names::{Namespace, Plain};
+use pol_requests::{Endpoint, RouteRefused, unreadable};
 use pol_types::Text;
 use std::alloc::Global;
 
@@ -54,7 +50,7 @@ pub(crate) fn action_of(
 }
 
 /// How to speak to the catalogue of a warehouse (Iceberg REST OpenAPI, getConfig).
-#[tactic(auto, using(crate::proofs::RefusedLemmas::read_on_refused, crate::proofs::RefusedLemmas::read_on_read), unfolding(crate::specs::Requests::get_config))]
+#[tactic(auto, using(pol_requests::proofs::RefusedLemmas::read_on_refused, pol_requests::proofs::RefusedLemmas::read_on_read), unfolding(crate::specs::Requests::get_config))]
 fn get_config(alloc: Global, query: &[u8]) -> Result<Action, RouteRefused>
     ensures { Gives (spec.get_config query.now) result }
 {
@@ -75,7 +71,7 @@ fn warehouse_of(alloc: Global, value: Option<Text>) -> Result<Plain, RouteRefuse
 }
 
 /// The namespaces below a parent (Iceberg REST OpenAPI, listNamespaces).
-#[tactic(auto, using(crate::proofs::RefusedLemmas::read_on_refused, crate::proofs::RefusedLemmas::read_on_read), unfolding(crate::specs::Requests::list_namespaces))]
+#[tactic(auto, using(pol_requests::proofs::RefusedLemmas::read_on_refused, pol_requests::proofs::RefusedLemmas::read_on_read), unfolding(crate::specs::Requests::list_namespaces))]
 fn list_namespaces(alloc: Global, path: &[u8], query: &[u8]) -> Result<Action, RouteRefused>
     ensures { Gives (spec.list_namespaces path.now query.now) result }
 {
@@ -86,7 +82,7 @@ fn list_namespaces(alloc: Global, path: &[u8], query: &[u8]) -> Result<Action, R
 }
 
 /// The parent that a query names by the key `parent`. An empty one is an absent one.
-#[tactic(auto, using(crate::proofs::RefusedLemmas::read_on_refused, crate::proofs::RefusedLemmas::read_on_read), unfolding(crate::specs::Requests::parent_of))]
+#[tactic(auto, using(pol_requests::proofs::RefusedLemmas::read_on_refused, pol_requests::proofs::RefusedLemmas::read_on_read), unfolding(crate::specs::Requests::parent_of))]
 fn parent_of(alloc: Global, value: Option<Text>) -> Result<Option<Namespace>, RouteRefused>
     ensures { Gives (spec.parent_of value) result }
 {
@@ -101,7 +97,7 @@ fn parent_of(alloc: Global, value: Option<Text>) -> Result<Option<Namespace>, Ro
 }
 
 /// A new namespace (Iceberg REST OpenAPI, createNamespace).
-#[tactic(auto, using(crate::proofs::RefusedLemmas::read_on_refused, crate::proofs::RefusedLemmas::read_on_read), unfolding(crate::specs::Requests::create_namespace))]
+#[tactic(auto, using(pol_requests::proofs::RefusedLemmas::read_on_refused, pol_requests::proofs::RefusedLemmas::read_on_read), unfolding(crate::specs::Requests::create_namespace))]
 fn create_namespace(alloc: Global, path: &[u8], body: &[u8]) -> Result<Action, RouteRefused>
     ensures { Gives (spec.create_namespace path.now body.now) result }
 {
@@ -115,7 +111,7 @@ fn create_namespace(alloc: Global, path: &[u8], body: &[u8]) -> Result<Action, R
 }
 
 /// The catalogue and the namespace of a path.
-#[tactic(auto, using(crate::proofs::RefusedLemmas::read_on_refused, crate::proofs::RefusedLemmas::read_on_read), unfolding(crate::specs::Requests::namespace_path))]
+#[tactic(auto, using(pol_requests::proofs::RefusedLemmas::read_on_refused, pol_requests::proofs::RefusedLemmas::read_on_read), unfolding(crate::specs::Requests::namespace_path))]
 fn namespace_path(alloc: Global, path: &[u8]) -> Result<(Plain, Namespace), RouteRefused>
     ensures { Gives (spec.namespace_path path.now) result }
 {
@@ -125,7 +121,7 @@ fn namespace_path(alloc: Global, path: &[u8]) -> Result<(Plain, Namespace), Rout
 }
 
 /// A namespace with its properties (Iceberg REST OpenAPI, loadNamespaceMetadata).
-#[tactic(auto, using(crate::proofs::RefusedLemmas::read_on_refused, crate::proofs::RefusedLemmas::read_on_read), unfolding(crate::specs::Requests::load_namespace))]
+#[tactic(auto, using(pol_requests::proofs::RefusedLemmas::read_on_refused, pol_requests::proofs::RefusedLemmas::read_on_read), unfolding(crate::specs::Requests::load_namespace))]
 fn load_namespace(alloc: Global, path: &[u8]) -> Result<Action, RouteRefused>
     ensures { Gives (spec.load_namespace path.now) result }
 {
@@ -134,7 +130,7 @@ fn load_namespace(alloc: Global, path: &[u8]) -> Result<Action, RouteRefused>
 }
 
 /// Whether a namespace is there (Iceberg REST OpenAPI, namespaceExists).
-#[tactic(auto, using(crate::proofs::RefusedLemmas::read_on_refused, crate::proofs::RefusedLemmas::read_on_read), unfolding(crate::specs::Requests::head_namespace))]
+#[tactic(auto, using(pol_requests::proofs::RefusedLemmas::read_on_refused, pol_requests::proofs::RefusedLemmas::read_on_read), unfolding(crate::specs::Requests::head_namespace))]
 fn head_namespace(alloc: Global, path: &[u8]) -> Result<Action, RouteRefused>
     ensures { Gives (spec.head_namespace path.now) result }
 {
@@ -143,7 +139,7 @@ fn head_namespace(alloc: Global, path: &[u8]) -> Result<Action, RouteRefused>
 }
 
 /// The end of a namespace (Iceberg REST OpenAPI, dropNamespace).
-#[tactic(auto, using(crate::proofs::RefusedLemmas::read_on_refused, crate::proofs::RefusedLemmas::read_on_read), unfolding(crate::specs::Requests::drop_namespace))]
+#[tactic(auto, using(pol_requests::proofs::RefusedLemmas::read_on_refused, pol_requests::proofs::RefusedLemmas::read_on_read), unfolding(crate::specs::Requests::drop_namespace))]
 fn drop_namespace(alloc: Global, path: &[u8]) -> Result<Action, RouteRefused>
     ensures { Gives (spec.drop_namespace path.now) result }
 {
@@ -152,7 +148,7 @@ fn drop_namespace(alloc: Global, path: &[u8]) -> Result<Action, RouteRefused>
 }
 
 /// Properties that go and properties that are set (Iceberg REST OpenAPI, updateProperties).
-#[tactic(auto, using(crate::proofs::RefusedLemmas::read_on_refused, crate::proofs::RefusedLemmas::read_on_read), unfolding(crate::specs::Requests::update_properties))]
+#[tactic(auto, using(pol_requests::proofs::RefusedLemmas::read_on_refused, pol_requests::proofs::RefusedLemmas::read_on_read), unfolding(crate::specs::Requests::update_properties))]
 fn update_properties(alloc: Global, path: &[u8], body: &[u8]) -> Result<Action, RouteRefused>
     ensures { Gives (spec.update_properties path.now body.now) result }
 {
@@ -167,7 +163,7 @@ fn update_properties(alloc: Global, path: &[u8], body: &[u8]) -> Result<Action, 
 }
 
 /// A new catalogue (Apache Polaris Management Service, createCatalog).
-#[tactic(auto, using(crate::proofs::RefusedLemmas::read_on_refused, crate::proofs::RefusedLemmas::read_on_read), unfolding(crate::specs::Requests::create_catalog))]
+#[tactic(auto, using(pol_requests::proofs::RefusedLemmas::read_on_refused, pol_requests::proofs::RefusedLemmas::read_on_read), unfolding(crate::specs::Requests::create_catalog))]
 fn create_catalog(alloc: Global, body: &[u8]) -> Result<Action, RouteRefused>
     ensures { Gives (spec.create_catalog body.now) result }
 {
@@ -189,7 +185,7 @@ fn creation_of(new: NewCatalog) -> Action
 }
 
 /// A catalogue that is shown (Apache Polaris Management Service, getCatalog).
-#[tactic(auto, using(crate::proofs::RefusedLemmas::read_on_refused, crate::proofs::RefusedLemmas::read_on_read), unfolding(crate::specs::Requests::get_catalog))]
+#[tactic(auto, using(pol_requests::proofs::RefusedLemmas::read_on_refused, pol_requests::proofs::RefusedLemmas::read_on_read), unfolding(crate::specs::Requests::get_catalog))]
 fn get_catalog(alloc: Global, path: &[u8]) -> Result<Action, RouteRefused>
     ensures { Gives (spec.get_catalog path.now) result }
 {
@@ -198,7 +194,7 @@ fn get_catalog(alloc: Global, path: &[u8]) -> Result<Action, RouteRefused>
 }
 
 /// The end of a catalogue (Apache Polaris Management Service, deleteCatalog).
-#[tactic(auto, using(crate::proofs::RefusedLemmas::read_on_refused, crate::proofs::RefusedLemmas::read_on_read), unfolding(crate::specs::Requests::drop_catalog))]
+#[tactic(auto, using(pol_requests::proofs::RefusedLemmas::read_on_refused, pol_requests::proofs::RefusedLemmas::read_on_read), unfolding(crate::specs::Requests::drop_catalog))]
 fn drop_catalog(alloc: Global, path: &[u8]) -> Result<Action, RouteRefused>
     ensures { Gives (spec.drop_catalog path.now) result }
 {

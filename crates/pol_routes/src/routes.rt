@@ -1,12 +1,11 @@
 //! The routes of the table's paths.
 ghost use Rattle.std.specs.Prelude.{◌≡◌, ◌≢◌, IfOk, OnOk, [], map, option_map, find};
 ghost use Rattle.matchit.specs.Route.{parse_route};
+ghost use Rattle.pol_requests.specs.Table.{entry_of};
 ghost use Rattle.pol_routes.specs.Route as spec;
-ghost use Rattle.pol_routes.specs.Table.{entry_of, table};
 
-use crate::plans::RouteRefused;
-use crate::table::{Endpoint, Row, TABLE};
 use matchit::{InsertError, Router};
+use pol_requests::{Endpoint, RouteRefused, Row, table_rows};
 use pol_types::OutOfMemory;
 use std::alloc::Global;
 use std::marker::Model;
@@ -62,14 +61,6 @@ impl Routes {
             Err(_) => None,
         }
     }
-}
-
-/// The table's rows.
-#[tactic(auto, unfolding(crate::specs::Table::table))]
-pub(crate) fn table_rows() -> &'static [Row]
-    ensures { map entry_of result.now ≡ table }
-{
-    &TABLE
 }
 
 /// What a method asks for of the path of the row at a place.

@@ -1,16 +1,16 @@
 //! The segments of a path, as texts and as names (RFC 3986, sections 2.1 and 3.3).
 ghost use Rattle.std.specs.Prelude.{◌≡◌, IfOk};
 ghost use Rattle.percent_encoding.specs.Percent.{percent_decode};
+ghost use Rattle.pol_requests.specs.Refused.{Gives};
 ghost use Rattle.pol_routes.specs.Form as form;
-ghost use Rattle.pol_routes.specs.Refused.{Gives, IsUnreadable};
 ghost use Rattle.pol_routes.specs.Segment as spec;
 
 use crate::form::text_of;
-use crate::plans::RouteRefused;
 use percent_encoding::percent_decode;
 use pol_names::{Name, NameRefused, Namespace, NamespaceRefused, Plain};
+use pol_requests::{RouteRefused, unreadable};
 use pol_types::{OutOfMemory, Text};
-use std::alloc::{AllocError, Global};
+use std::alloc::Global;
 
 /// The field that is named where a segment can't be read.
 const PATH_FIELD: &str = "path";
@@ -40,7 +40,7 @@ pub fn segment_text(alloc: Global, segment: &[u8]) -> Result<Text, RouteRefused>
 }
 
 /// The plain name that a segment is, which is unreadable where it is none.
-#[tactic(auto, using(crate::proofs::RefusedLemmas::read_on_refused, crate::proofs::RefusedLemmas::read_on_read))]
+#[tactic(auto, using(pol_requests::proofs::RefusedLemmas::read_on_refused, pol_requests::proofs::RefusedLemmas::read_on_read))]
 pub fn plain_segment(alloc: Global, segment: &[u8]) -> Result<Plain, RouteRefused>
     ensures { Gives (spec.plain_segment segment.now) result }
 {
@@ -49,7 +49,7 @@ pub fn plain_segment(alloc: Global, segment: &[u8]) -> Result<Plain, RouteRefuse
 }
 
 /// The name that a segment is, which is unreadable where it is none.
-#[tactic(auto, using(crate::proofs::RefusedLemmas::read_on_refused, crate::proofs::RefusedLemmas::read_on_read))]
+#[tactic(auto, using(pol_requests::proofs::RefusedLemmas::read_on_refused, pol_requests::proofs::RefusedLemmas::read_on_read))]
 pub fn name_segment(alloc: Global, segment: &[u8]) -> Result<Name, RouteRefused>
     ensures { Gives (spec.name_segment segment.now) result }
 {
@@ -59,24 +59,12 @@ pub fn name_segment(alloc: Global, segment: &[u8]) -> Result<Name, RouteRefused>
 
 /// The namespace that a segment is, its levels behind one another with 0x1F between them (Iceberg REST OpenAPI,
 /// parameter `namespace`). It is unreadable where it is none.
-#[tactic(auto, using(crate::proofs::RefusedLemmas::read_on_refused, crate::proofs::RefusedLemmas::read_on_read))]
+#[tactic(auto, using(pol_requests::proofs::RefusedLemmas::read_on_refused, pol_requests::proofs::RefusedLemmas::read_on_read))]
 pub fn namespace_segment(alloc: Global, segment: &[u8]) -> Result<Namespace, RouteRefused>
     ensures { Gives (spec.namespace_segment segment.now) result }
 {
     let text = segment_text(alloc, segment)?;
     namespace_of(alloc, text.as_str(), PATH_FIELD)
-}
-
-/// A refusal that names a field, or want of memory for its name.
-pub(crate) fn unreadable(alloc: Global, field: &str) -> RouteRefused
-    ensures { IsUnreadable field.now result }
-{
-    match String::from_str(alloc, field) {
-        Ok(field) => RouteRefused::Unreadable {
-            field: Text::from(field),
-        },
-        Err(AllocError) => RouteRefused::OutOfMemory,
-    }
 }
 
 /// Whether each `%` is followed by two hexadecimal digits.

@@ -15,12 +15,12 @@ use Rattle.pol_commands.specs.declared.command.Command.{Command}
 use Rattle.pol_commands.specs.declared.command.Words4.{Words4}
 use Rattle.pol_commands.specs.declared.reply.Refusal.TheVariants as refusal
 use Rattle.pol_commands.specs.declared.reply.Reply.TheVariants.{Refused}
+use Rattle.pol_requests.specs.Refused.{Gives}
+use Rattle.pol_requests.specs.declared.refused.RouteRefused.{RouteRefused}
+use Rattle.pol_requests.specs.declared.refused.RouteRefused.TheVariants as refused
+use Rattle.pol_answers.specs.Texts.{answer_of, draw_fault_answer, refusal_answer}
 use Rattle.pol_routes.specs.Plan.{command_of, plan_of}
-use Rattle.pol_routes.specs.Refused.{Gives}
-use Rattle.pol_routes.specs.Texts.{answer_of, draw_fault_answer, refusal_answer}
 use Rattle.pol_routes.specs.declared.plans.Planned.{Planned}
-use Rattle.pol_routes.specs.declared.plans.RouteRefused.{RouteRefused}
-use Rattle.pol_routes.specs.declared.plans.RouteRefused.TheVariants as refused
 use Rattle.pol_shared.specs.History.{Log, entered, state_at, state_of}
 use Rattle.pol_shared.specs.declared.entry.Entry.{Entry}
 use Rattle.pol_wire.proofs.StreamsLemmas.{IsShifted-nil}

@@ -15,8 +15,8 @@ use Rattle.pol_http.proofs.HeadLemmas.{length-print_request}
 use Rattle.pol_http.proofs.MessageLemmas.{length-message, message_not_refused, message_unique, refused_stays, refused_unique}
 use Rattle.pol_machine.specs.Machine.{reply_of}
 use Rattle.pol_machine.specs.Rows.{Rows}
+use Rattle.pol_answers.specs.Texts.{answer_of, refusal_answer}
 use Rattle.pol_routes.specs.Plan.{command_of, plan_of}
-use Rattle.pol_routes.specs.Texts.{answer_of, refusal_answer}
 use Rattle.pol_routes.specs.declared.plans.Planned.{Planned}
 use Rattle.pol_commands.specs.declared.reply.Refusal.TheVariants as refusal
 use Rattle.pol_commands.specs.declared.reply.Reply.TheVariants.{Refused}

@@ -6,7 +6,7 @@ use Rattle.std.proofs.lemmas.List.{take-append-le, get_or_append_left}
 use Rattle.std.proofs.lemmas.Option.{slice_get_within, slice_get-get_or}
 use Rattle.pol_machine.specs.Machine.{reply_of}
 use Rattle.pol_machine.specs.Rows.{Rows}
-use Rattle.pol_routes.specs.Texts.{answer_of}
+use Rattle.pol_answers.specs.Texts.{answer_of}
 use Rattle.pol_shared.specs.History.{state_at}
 use Rattle.pol_shared.specs.declared.entry.Entry.{Entry}
 use Rattle.pol_server.specs.Turn.{AnsweredAs, Case, IsAnswered, IsFrom, IsFullAt, IsOrdered, IsStepped, LastCloses, NoneCloses, Turn, failed_draws, failed_in, full, low_after, stepped, text_of, undrawn, unplanned, without_memory}

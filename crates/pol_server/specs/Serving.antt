@@ -10,7 +10,7 @@ use Rattle.pol_commands.specs.declared.command.Command.{Command}
 use Rattle.pol_commands.specs.declared.command.Words4.{Words4}
 use Rattle.pol_commands.specs.declared.reply.Refusal.TheVariants as refusal
 use Rattle.pol_commands.specs.declared.reply.Reply.TheVariants.{Refused}
-use Rattle.pol_routes.specs.Texts.{answer_of}
+use Rattle.pol_answers.specs.Texts.{answer_of}
 use Rattle.pol_shared.specs.History.{Log, entered, state_of}
 use Rattle.pol_wire.specs.Faults.{Rises}
 use Rattle.pol_wire.specs.Streams.{IsShifted}

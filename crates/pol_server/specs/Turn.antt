@@ -12,10 +12,10 @@ use Rattle.pol_machine.specs.Rows.{Rows}
 use Rattle.pol_commands.specs.declared.command.Words4.{Words4}
 use Rattle.pol_commands.specs.declared.reply.Refusal.TheVariants as refusal
 use Rattle.pol_commands.specs.declared.reply.Reply.TheVariants.{Refused}
+use Rattle.pol_requests.specs.declared.refused.RouteRefused.{RouteRefused}
+use Rattle.pol_answers.specs.Texts.{answer_of, refusal_answer, draw_fault_answer}
 use Rattle.pol_routes.specs.Plan.{plan_of, command_of}
-use Rattle.pol_routes.specs.Texts.{answer_of, refusal_answer, draw_fault_answer}
 use Rattle.pol_routes.specs.declared.plans.Planned.{Planned}
-use Rattle.pol_routes.specs.declared.plans.RouteRefused.{RouteRefused}
 use Rattle.pol_shared.specs.History.{state_at}
 use Rattle.pol_shared.specs.declared.entry.Entry.{Entry}
 use Rattle.pol_server.specs.declared.served.Place.{Place}

@@ -8,8 +8,8 @@ ghost use Rattle.pol_http.specs.Answer.{answer_text};
 ghost use Rattle.pol_http.specs.Head.{closes};
 ghost use Rattle.pol_http.specs.Message.{Message};
 ghost use Rattle.pol_http.specs.Next.{IsMessageAt, LiesWithin};
+ghost use Rattle.pol_answers.specs.Texts as text;
 ghost use Rattle.pol_routes.specs.Plan.{plan_of};
-ghost use Rattle.pol_routes.specs.Texts as text;
 ghost use Rattle.pol_server.specs.Link.{refused_text};
 ghost use Rattle.pol_server.specs.Serving.{Handles, IsEntered};
 ghost use Rattle.pol_server.specs.Turn.{framed, is_head};
@@ -17,12 +17,11 @@ ghost use Rattle.pol_server.specs.Turn.{framed, is_head};
 use crate::Place;
 use crate::ends::{Linked, draw_words};
 use httparse::spans::Span;
+use pol_answers::{answer_of, draw_fault_answer, head_refused_answer, refusal_answer};
 use pol_http::{Answer, Head, HeadRefused, write_answer};
 use pol_machine::{Command, Reply};
-use pol_routes::{
-    Planned, RouteRefused, Routes, answer_of, command_of, draw_fault_answer, head_refused_answer,
-    plan, refusal_answer,
-};
+use pol_requests::RouteRefused;
+use pol_routes::{Planned, Routes, command_of, plan};
 use pol_shared::{Kept, Render, Stepped};
 use pol_types::OutOfMemory;
 use std::alloc::Global;

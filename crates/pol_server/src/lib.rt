@@ -7,8 +7,6 @@ mod handle;
 pub mod laws;
 mod serve;
 mod served;
-#[cfg(test)]
-mod tests;
 
 pub use serve::serve_connection;
 pub use served::{Ending, Place, Served};

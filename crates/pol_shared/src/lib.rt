@@ -7,8 +7,6 @@ mod entry;
 mod kept;
 mod render;
 mod stepped;
-#[cfg(test)]
-mod tests;
 
 pub use closed::Closed;
 pub use entry::Entry;

@@ -21,6 +21,3 @@ pub use named_table::NamedTable;
 pub use number::number_of;
 pub use order::sorted_facts;
 pub use table::Table;
-
-#[cfg(test)]
-mod tests;

@@ -1,7 +1,16 @@
 //! Laws of tokens: each is a function without a body, whose clause is the law.
+ghost use Rattle.std.specs.Prelude.{◌≡◌};
 ghost use Rattle.pol_tokens.specs.Laws.{TextsTellTokens};
+ghost use Rattle.pol_tokens.specs.declared.session.TheConstants.{SESSION_LIFE};
+ghost use Rattle.pol_tokens.specs.declared.text.TheConstants.{TOKEN_LENGTH};
 
 /// Tokens with one text have one serial and the same two words.
 pub fn texts_tell_tokens()
     ensures { TextsTellTokens }
+{}
+
+/// A session lasts an hour, in milliseconds, and the text of a token has 48 bytes.
+pub fn bounds_are_those()
+    ensures life { SESSION_LIFE ≡ 3600000 }
+    ensures length { TOKEN_LENGTH ≡ 48 }
 {}

@@ -9,6 +9,3 @@ mod tokens;
 pub use session::{SESSION_LIFE, SessionRow};
 pub use text::{TOKEN_LENGTH, token_text};
 pub use tokens::Tokens;
-
-#[cfg(test)]
-mod tests;

@@ -183,26 +183,8 @@ fn counts_at_the_end(turns: Turns<Account>, founder: Pass<Account>) -> Option<[u
     }
 }
 
-/// Two passes add all their entries, each in a thread of its own, and are joined.
-fn enter_in_two_threads<R: Threads + Wait + Sync>(
-    rt: &R,
-    turns: &Turns<Account>,
-    founder: &mut Pass<Account>,
-)
-    requires lock { founder.old.lock ≡ turns.now }
-    requires founds { (founder.old.number ≡ 0) × (founder.old.made ≡ 1) × (founder.old.gathered ≡ []) × (founder.old.has_turn ≡ false) }
-    ensures founds { (founder.new.lock ≡ turns.now) × (founder.new.number ≡ 0) }
-    ensures joined { length founder.new.gathered + 1 ≡ founder.new.made }
-{
-    let mut passes = [turns.split(founder), turns.split(founder)];
-    enter_abreast(rt, turns, &mut passes);
-    let [first, second] = passes;
-    turns.join(founder, first);
-    turns.join(founder, second);
-}
-
-/// The same of four passes, which are joined from the last one on.
-fn enter_in_four_threads<R: Threads + Wait + Sync>(
+/// Four passes add all their entries, each in a thread of its own, and are joined from the last one on.
+fn enter_in_threads<R: Threads + Wait + Sync>(
     rt: &R,
     turns: &Turns<Account>,
     founder: &mut Pass<Account>,
@@ -258,18 +240,9 @@ fn value_that_is_out_does_not_come_back(rt: HostRuntime) -> Result<(), Fail> {
 }
 
 #[test]
-fn two_threads_add_all_their_entries(rt: HostRuntime) -> Result<(), Fail> {
-    let (turns, mut founder) = open(rt.alloc())?;
-    enter_in_two_threads(&rt, &turns, &mut founder);
-    let counts = counts_at_the_end(turns, founder);
-    assert!(rt; counts == Some([0, 10_000, 10_000, 0, 0]));
-    Ok(())
-}
-
-#[test]
 fn four_threads_add_all_their_entries(rt: HostRuntime) -> Result<(), Fail> {
     let (turns, mut founder) = open(rt.alloc())?;
-    enter_in_four_threads(&rt, &turns, &mut founder);
+    enter_in_threads(&rt, &turns, &mut founder);
     let counts = counts_at_the_end(turns, founder);
     assert!(rt; counts == Some([0, 10_000, 10_000, 10_000, 10_000]));
     Ok(())

@@ -13,6 +13,3 @@ pub use exact::Exact;
 pub use listed::Listed;
 pub use out_of_memory::OutOfMemory;
 pub use text::Text;
-
-#[cfg(test)]
-mod tests;

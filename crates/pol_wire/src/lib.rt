@@ -7,6 +7,7 @@ mod clock;
 mod draw;
 mod failed;
 mod faults;
+pub mod laws;
 mod link;
 mod sink;
 mod source;

@@ -76,31 +76,17 @@ fn source_gives(alloc: Global, steps: &[Given]) -> Option<bool> {
     Some(given && source.faults() == 2 && source.left().is_empty())
 }
 
-#[test]
-fn source_gives_pieces_and_fails_where_it_is_told(rt: HostRuntime) {
-    let steps: [Given; 9] = [
-        (3, Some(b"ab")),
-        (3, None),
-        (1, Some(b"c")),
-        (3, Some(b"d")),
-        (0, Some(b"")),
-        (1, Some(b"e")),
-        (1, None),
-        (9, Some(b"f")),
-        (9, Some(b"")),
-    ];
-    assert!(rt; source_gives(rt.alloc(), &steps) == Some(true));
-}
-
-#[test]
-fn source_without_bytes_is_at_its_end(rt: HostRuntime) {
-    let alloc = rt.alloc();
-    let mut source = MemorySource::new(Vec::new(alloc), Vec::new(alloc), Vec::new(alloc));
-    let ended = gives(&mut source, 0, Some(b"")) && gives(&mut source, 5, Some(b""));
-    let faults = source.faults();
-    drop(source);
-    assert!(rt; ended && faults == 0);
-}
+const STEPS: [Given; 9] = [
+    (3, Some(b"ab")),
+    (3, None),
+    (1, Some(b"c")),
+    (3, Some(b"d")),
+    (0, Some(b"")),
+    (1, Some(b"e")),
+    (1, None),
+    (9, Some(b"f")),
+    (9, Some(b"")),
+];
 
 // Whether a sink that has a byte, takes three at a time and fails at its second call, takes four pieces so.
 fn sink_takes(alloc: Global) -> Option<bool> {
@@ -115,27 +101,11 @@ fn sink_takes(alloc: Global) -> Option<bool> {
     Some(first && second && third && last && kept)
 }
 
-#[test]
-fn sink_keeps_what_it_takes_and_fails_where_it_is_told(rt: HostRuntime) {
-    assert!(rt; sink_takes(rt.alloc()) == Some(true));
-}
-
 // The first four moments of a clock of three.
 fn four_moments(alloc: Global) -> Option<((u64, u64), (u64, u64))> {
     let mut clock = MemoryClock::new(Vec::from_slice(alloc, &[5, 3, u64::MAX]).ok()?);
     let first = two_moments(&mut clock);
     Some((first, two_moments(&mut clock)))
-}
-
-#[test]
-fn clock_stays_at_its_last_moment(rt: HostRuntime) {
-    const LAST: u64 = 1 << 62;
-    let moments = four_moments(rt.alloc());
-    assert!(rt; matches!(moments, Some(((5, 3), (LAST, LAST)))));
-    let mut clock = MemoryClock::new(Vec::new(rt.alloc()));
-    let moments = two_moments(&mut clock);
-    drop(clock);
-    assert!(rt; matches!(moments, (0, 0)));
 }
 
 // Whether a draw of three words, whose first call is to fail, gives them and then fails.
@@ -150,11 +120,6 @@ fn draw_gives(alloc: Global) -> Option<bool> {
     Some(first && second && third && last && draw.faults() == 2)
 }
 
-#[test]
-fn draw_gives_its_words_and_then_fails(rt: HostRuntime) {
-    assert!(rt; draw_gives(rt.alloc()) == Some(true));
-}
-
 // Whether a counting draw whose third and fourth calls are to fail loses no word.
 fn counting_draw_gives(alloc: Global) -> Option<bool> {
     let mut draw = CountingDraw::new(Vec::from_slice(alloc, &[3, 4]).ok()?);
@@ -166,8 +131,14 @@ fn counting_draw_gives(alloc: Global) -> Option<bool> {
 }
 
 #[test]
-fn counting_draw_loses_no_word_where_it_fails(rt: HostRuntime) {
-    assert!(rt; counting_draw_gives(rt.alloc()) == Some(true));
+fn devices_in_memory_do_as_they_are_told(rt: HostRuntime) {
+    let alloc = rt.alloc();
+    assert!(rt; source_gives(alloc, &STEPS) == Some(true));
+    assert!(rt; sink_takes(alloc) == Some(true));
+    let moments = four_moments(alloc);
+    assert!(rt; moments == Some(((5, 3), (LAST_MOMENT, LAST_MOMENT))));
+    assert!(rt; draw_gives(alloc) == Some(true));
+    assert!(rt; counting_draw_gives(alloc) == Some(true));
 }
 
 // A reader and writer whose calls fail, or which takes no byte.
@@ -274,16 +245,8 @@ fn std_writer_that_fails_or_takes_nothing_is_a_failed_sink(rt: HostRuntime) {
         let failed = count_taken(&mut StdSink::new(broken), b"a").is_err();
         assert!(rt; failed);
     }
-    let mut sink = StdSink::new(Broken::TakesNothing);
-    let taken = count_taken(&mut sink, b"");
+    let taken = count_taken(&mut StdSink::new(Broken::TakesNothing), b"");
     assert!(rt; matches!(taken, Ok(0)));
-}
-
-#[test]
-fn failure_says_what_it_is(rt: HostRuntime) -> Result<(), Fail> {
-    let text = format!(in rt.alloc(); "{Failed}")?;
-    assert_eq!(rt; text.as_str(), "a call of the outside world failed");
-    Ok(())
 }
 
 // Two moments of a wall clock over one that can be read once.

@@ -1,7 +1,7 @@
-ghost use Rattle.std.specs.Prelude.{◌≡◌, ℕ, List, IfOk, IsSome, OnOk, is_err, length};
+ghost use Rattle.std.specs.Prelude.{◌≡◌, ℕ, List, IfOk, IsSome, OnOk, length};
 ghost use Rattle.std.specs.Int.{w64, from_le_bytes};
 ghost use Rattle.std.specs.Io.KnownBytes.{Consumes};
-ghost use Rattle.pol_wire.specs.Faults.{CountsFaults, count_after};
+ghost use Rattle.pol_wire.specs.Faults.{CountsFaults};
 
 use crate::faults::Faults;
 use crate::{Draw, Failed};
@@ -53,7 +53,6 @@ impl<R: Files> Draw for FileDraw<R> {
 
     fn word(&mut self) -> Result<u64, Failed>
         ensures count { CountsFaults self.old self.new result }
-        ensures faults { self.new ≡ count_after self.old (is_err result) }
     {
         match read_word(&self.runtime, &mut self.file) {
             Ok(word) => Ok(word),

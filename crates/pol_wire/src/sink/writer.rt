@@ -1,7 +1,7 @@
-ghost use Rattle.std.specs.Prelude.{◌≡◌, ◌<◌, ◌≤◌, IfOk, is_err, take, length};
+ghost use Rattle.std.specs.Prelude.{◌≡◌, ◌<◌, ◌≤◌, IfOk, take, length};
 ghost use Rattle.std.specs.Io.{WritesAtMost};
 ghost use Rattle.std.specs.Io.KnownBytes.{Appends};
-ghost use Rattle.pol_wire.specs.Faults.{CountsFaults, count_after};
+ghost use Rattle.pol_wire.specs.Faults.{CountsFaults};
 
 use crate::faults::Faults;
 use crate::{Failed, Sink};
@@ -50,7 +50,6 @@ impl<W: Write> Sink for StdSink<W> {
         ensures progress { IfOk result (λ count. 0 < length piece.now → 0 < count) }
         ensures count { CountsFaults self.old.faults self.new.faults result }
 
-        ensures faults { self.new.faults ≡ count_after self.old.faults (is_err result) }
         ensures written { IfOk result (λ count.
             Appends (W.contents self.old.inner) (W.contents self.new.inner) (take count piece.now)) }
     {

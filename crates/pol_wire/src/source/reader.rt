@@ -1,7 +1,7 @@
-ghost use Rattle.std.specs.Prelude.{◌≡◌, is_err};
+ghost use Rattle.std.specs.Prelude.{◌≡◌};
 ghost use Rattle.std.specs.Io.{ReadsAtMost};
 ghost use Rattle.std.specs.Io.KnownBytes.{ReadConsumes};
-ghost use Rattle.pol_wire.specs.Faults.{CountsFaults, count_after};
+ghost use Rattle.pol_wire.specs.Faults.{CountsFaults};
 
 use crate::faults::Faults;
 use crate::{Failed, Source};
@@ -49,8 +49,6 @@ impl<R: Read> Source for StdSource<R> {
         ensures bytes { ReadConsumes
             (R.remaining self.old.inner) (R.remaining self.new.inner) result buf.new }
         ensures count { CountsFaults self.old.faults self.new.faults result }
-
-        ensures faults { self.new.faults ≡ count_after self.old.faults (is_err result) }
     {
         match self.reader.read(buf) {
             Ok(count) => Ok(count),

@@ -1,7 +1,7 @@
 use Rattle.std.proofs.Common.{◌∙◌, ap, map, sym}
 use Rattle.std.proofs.lemmas.List.{drop_all}
+use Rattle.pol_requests.specs.Table.{entry_of}
 use Rattle.pol_routes.specs.Route.{routes_from}
-use Rattle.pol_routes.specs.Table.{entry_of}
 use Rattle.pol_routes.proofs.RouteLemmas.{routes_next}
 use Rattle.pol_routes.proofs.routes.insert_paths.Goals as goal
 

@@ -1,6 +1,6 @@
 use Rattle.std.proofs.Common.{◌≡◌, drop, map}
+use Rattle.pol_requests.specs.Table.{entry_of}
 use Rattle.pol_routes.specs.Route.{routes_from}
-use Rattle.pol_routes.specs.Table.{entry_of}
 use Rattle.pol_routes.proofs.routes.insert_paths.Given as goal
 
 abbrev pub invariant-loop-place : goal.invariant-loop-place

@@ -1,8 +1,8 @@
 use Rattle.std.proofs.Common.{◌≡◌, ◌≤◌, ◌^◌, arith, sym, subst, ◌∙◌, ap, Ok, Err}
 use Rattle.std.specs.Option.{option_map}
 use Rattle.pol_commands.specs.Proper.{IsProper}
+use Rattle.pol_answers.specs.Texts.{draw_fault_answer}
 use Rattle.pol_routes.specs.Plan.{command_of}
-use Rattle.pol_routes.specs.Texts.{draw_fault_answer}
 use Rattle.pol_server.specs.Serving.{Handles, IsEntered}
 use Rattle.pol_server.specs.Turn.{words_of}
 use Rattle.pol_server.specs.declared.served.Place.TheVariants.{NoEntry}

@@ -1,0 +1,3 @@
+pub mod JsonLemmas
+pub mod ManagementJsonLemmas
+pub mod TokenLemmas

@@ -1,0 +1,4 @@
+pub mod Json
+pub mod ManagementJson
+pub mod Refusals
+pub mod Texts

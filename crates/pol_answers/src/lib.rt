@@ -1,0 +1,10 @@
+//! The texts of answers to replies and refusals.
+#![tactic(auto)]
+
+mod error_body;
+mod json;
+mod management_json;
+mod refusals;
+mod texts;
+
+pub use texts::{answer_of, draw_fault_answer, head_refused_answer, refusal_answer};

@@ -1,0 +1,207 @@
+//! The answers to replies and refusals.
+ghost use Rattle.std.specs.Prelude.{◌≡◌, IfOk, IsErr, string_bytes};
+ghost use Rattle.serde_json.specs.View.{view};
+ghost use Rattle.pol_tokens.specs.Text.{text_of_token};
+ghost use Rattle.pol_answers.specs.ManagementJson.{credentials_json};
+ghost use Rattle.pol_answers.specs.Texts as spec;
+
+use crate::error_body::{answer_with, error_answer, json_answer, text_of, token_error};
+use crate::json::{
+    Shown, catalogs_json, config_json, namespace_json, namespaces_json, updated_json,
+};
+use crate::management_json::{credentials_json, grants_json, principals_json, roles_json};
+use crate::refusals::{
+    BAD_REQUEST, NOT_FOUND, SERVICE_UNAVAILABLE, UNSUPPORTED_OPERATION, kind_of, message_of,
+    status_of,
+};
+use pol_commands::{Answer as Done, Refusal, Reply};
+use pol_http::{Answer, Body, HeadRefused};
+use pol_names::Plain;
+use pol_requests::RouteRefused;
+use pol_tokens::{SESSION_LIFE, token_text};
+use pol_types::{OutOfMemory, Text};
+use serde_json::{Value, json};
+use std::alloc::{AllocError, Global};
+
+/// The answer to a reply.
+#[tactic(auto, unfolding(crate::specs::Texts::answer_of))]
+pub fn answer_of(alloc: Global, reply: &Reply) -> Result<Answer, OutOfMemory>
+    ensures { IfOk result (λ answer. answer ≡ spec.answer_of reply.now) }
+{
+    match reply {
+        Reply::Answered(done) => done_answer(alloc, done),
+        Reply::Refused(refusal) => refused_answer(alloc, refusal),
+    }
+}
+
+/// The answer to a command that is done.
+#[tactic(auto, using(crate::proofs::JsonLemmas::config_whole, crate::proofs::JsonLemmas::catalog_whole, crate::proofs::JsonLemmas::catalogs_whole, crate::proofs::JsonLemmas::namespace_whole, crate::proofs::JsonLemmas::namespaces_whole, crate::proofs::JsonLemmas::updated_whole))]
+fn done_answer(alloc: Global, done: &Done) -> Result<Answer, OutOfMemory>
+    ensures { IfOk result (λ answer. answer ≡ spec.done_answer done.now) }
+{
+    match done {
+        Done::SessionOpened {
+            serial,
+            word_a,
+            word_b,
+        } => session_answer(alloc, *serial, *word_a, *word_b),
+        Done::ConfigTold { catalog } => json_answer(alloc, 200, config_json(alloc, catalog)?),
+        Done::CatalogsListed(rows) => json_answer(alloc, 200, catalogs_json(alloc, rows)?),
+        Done::CatalogCreated(row) => json_answer(alloc, 201, row.shown(alloc)?),
+        Done::CatalogLoaded(row) => json_answer(alloc, 200, row.shown(alloc)?),
+        Done::NamespacesListed(namespaces) => {
+            json_answer(alloc, 200, namespaces_json(alloc, namespaces)?)
+        }
+        Done::NamespaceCreated {
+            namespace,
+            properties,
+        }
+        | Done::NamespaceLoaded {
+            namespace,
+            properties,
+        } => json_answer(alloc, 200, namespace_json(alloc, namespace, properties)?),
+        Done::PropertiesUpdated {
+            missing,
+            removed,
+            updated,
+        } => json_answer(alloc, 200, updated_json(alloc, missing, removed, updated)?),
+        _ => management_answer(alloc, done),
+    }
+}
+
+/// The answer to a management command that is done. What has no arm of its own has ended or is there, of which nothing
+/// is told.
+#[tactic(auto, using(crate::proofs::ManagementJsonLemmas::principal_whole, crate::proofs::ManagementJsonLemmas::principals_whole, crate::proofs::ManagementJsonLemmas::credentials_whole, crate::proofs::ManagementJsonLemmas::role_whole, crate::proofs::ManagementJsonLemmas::roles_whole, crate::proofs::ManagementJsonLemmas::grants_whole), unfolding(crate::specs::Texts::management_answer))]
+fn management_answer(alloc: Global, done: &Done) -> Result<Answer, OutOfMemory>
+    ensures { IfOk result (λ answer. answer ≡ spec.management_answer done.now) }
+{
+    match done {
+        Done::PrincipalsListed(rows) => json_answer(alloc, 200, principals_json(alloc, rows)?),
+        Done::PrincipalCreated {
+            name,
+            client_id,
+            secret,
+        } => credentials_answer(alloc, 201, client_id, secret, name),
+        Done::PrincipalLoaded(row) => json_answer(alloc, 200, row.shown(alloc)?),
+        Done::SecretRotated {
+            name,
+            client_id,
+            secret,
+        } => credentials_answer(alloc, 200, client_id, secret, name),
+        Done::RolesListed(names) => json_answer(alloc, 200, roles_json(alloc, names)?),
+        Done::RoleLoaded { name } => json_answer(alloc, 200, name.shown(alloc)?),
+        Done::GrantsListed(grants) => json_answer(alloc, 200, grants_json(alloc, grants)?),
+        Done::RoleCreated
+        | Done::MemberAdded
+        | Done::JoinAdded
+        | Done::GrantAdded
+        | Done::GrantRevoked => Ok(answer_with(201, Body::Nothing)),
+        _ => Ok(answer_with(204, Body::Nothing)),
+    }
+}
+
+/// The answer that gives a principal's credentials.
+#[tactic(auto, using(crate::proofs::ManagementJsonLemmas::credentials_whole))]
+fn credentials_answer(
+    alloc: Global,
+    code: u16,
+    client_id: &Text,
+    secret: &Text,
+    name: &Plain,
+) -> Result<Answer, OutOfMemory>
+    ensures { IfOk result (λ answer. answer ≡ spec.json_answer code (credentials_json client_id.now secret.now name.now)) }
+{
+    let json = credentials_json(alloc, client_id.as_str(), secret.as_str(), name.as_str())?;
+    json_answer(alloc, code, json)
+}
+
+/// The answer that gives a session's token (RFC 6749, section 5.1).
+#[tactic(auto, unfolding(crate::specs::Texts::session_answer))]
+fn session_answer(
+    alloc: Global,
+    serial: u64,
+    word_a: u64,
+    word_b: u64,
+) -> Result<Answer, OutOfMemory>
+    ensures { IfOk result (λ answer. answer ≡ spec.session_answer (text_of_token serial word_a word_b)) }
+{
+    let token = written_token(alloc, serial, word_a, word_b)?;
+    let json = token_json(alloc, token.as_str())?;
+    Ok(answer_with(200, Body::Token(text_of(alloc, &json)?)))
+}
+
+/// The text of a session's token.
+fn written_token(alloc: Global, serial: u64, word_a: u64, word_b: u64) -> Result<String, AllocError>
+    ensures { IfOk result (λ token. string_bytes token ≡ text_of_token serial word_a word_b) }
+{
+    String::from_utf8_lossy(alloc, &token_text(serial, word_a, word_b))
+}
+
+/// The JSON of an access token, which lasts so many seconds (RFC 6749, section 5.1).
+fn token_json(alloc: Global, token: &str) -> Result<Value, AllocError>
+    ensures { IfOk result (λ json. view json ≡ spec.token_json token.now) }
+{
+    json!(in alloc; {
+        "access_token": token,
+        "expires_in": SESSION_LIFE / 1000,
+        "issued_token_type": "urn:ietf:params:oauth:token-type:access_token",
+        "token_type": "bearer"
+    })
+}
+
+/// The answer to a command that is refused. A refused token request has a body of its own kind.
+fn refused_answer(alloc: Global, refusal: &Refusal) -> Result<Answer, OutOfMemory>
+    ensures { IfOk result (λ answer. answer ≡ spec.refused_answer refusal.now) }
+{
+    let message = message_of(alloc, refusal)?;
+    match kind_of(refusal) {
+        Some(kind) => error_answer(alloc, status_of(refusal), message.as_str(), kind),
+        None => token_error(alloc, status_of(refusal), message.as_str()),
+    }
+}
+
+/// The answer to a request that has no plan. Want of memory has none that could be made here: it is handed back.
+#[tactic(auto, unfolding(crate::specs::Texts::refusal_answer))]
+pub fn refusal_answer(alloc: Global, refused: &RouteRefused) -> Result<Answer, OutOfMemory>
+    ensures exact { IfOk result (λ answer. answer ≡ spec.refusal_answer refused.now) }
+    ensures wanting { refused.now ≡ RouteRefused.OutOfMemory → IsErr result }
+{
+    match refused {
+        RouteRefused::NoRoute => error_answer(alloc, 404, "No route", NOT_FOUND),
+        RouteRefused::WrongMethod => error_answer(alloc, 405, "Wrong method", BAD_REQUEST),
+        RouteRefused::NotBuilt => error_answer(alloc, 501, "Not built", UNSUPPORTED_OPERATION),
+        RouteRefused::Unreadable { field } => unreadable_answer(alloc, field.as_str()),
+        RouteRefused::InvalidRequest => token_error(alloc, 400, "invalid_request"),
+        RouteRefused::GrantType => token_error(alloc, 400, "unsupported_grant_type"),
+        RouteRefused::OutOfMemory => Err(OutOfMemory),
+    }
+}
+
+/// The answer to a request with a field that can't be read.
+fn unreadable_answer(alloc: Global, field: &str) -> Result<Answer, OutOfMemory>
+    ensures { IfOk result (λ answer. answer ≡ spec.unreadable_answer field.now) }
+{
+    let message = format!(in alloc; "Unreadable: {field}")?;
+    error_answer(alloc, 400, message.as_str(), BAD_REQUEST)
+}
+
+/// The answer where no random word could be drawn.
+#[tactic(auto, unfolding(crate::specs::Texts::draw_fault_answer))]
+pub fn draw_fault_answer(alloc: Global) -> Result<Answer, OutOfMemory>
+    ensures { IfOk result (λ answer. answer ≡ spec.draw_fault_answer) }
+{
+    error_answer(alloc, 503, "DrawFault", SERVICE_UNAVAILABLE)
+}
+
+/// The answer to a head that is refused. The connection ends after it.
+#[tactic(auto, unfolding(crate::specs::Texts::head_refused_answer))]
+pub fn head_refused_answer(alloc: Global, refused: HeadRefused) -> Result<Answer, OutOfMemory>
+    ensures { IfOk result (λ answer. answer ≡ spec.head_refused_answer refused) }
+{
+    let (code, name) = match refused {
+        HeadRefused::BadHead => (400, "BadHead"),
+        HeadRefused::LengthNeeded => (411, "LengthNeeded"),
+        HeadRefused::BodyTooLong => (413, "BodyTooLong"),
+    };
+    error_answer(alloc, code, name, BAD_REQUEST)
+}

@@ -1,0 +1,11 @@
+//! The bodies of requests, each as a form.
+#![tactic(auto)]
+
+mod bodies;
+mod body;
+pub mod laws;
+mod management_bodies;
+
+pub use bodies::{CatalogBody, NewCatalog, NewNamespace, PropertyUpdates};
+pub use body::body_of;
+pub use management_bodies::{CatalogRoleBody, GrantBody, PrincipalBody, PrincipalRoleBody};

@@ -1,5 +1,0 @@
-use Rattle.pol_journal.specs.Journal.{IsReady}
-use Rattle.pol_journal.proofs.tests.append_many.Given as goal
-
-abbrev pub invariant-loop : goal.invariant-loop
-invariant-loop l = IsReady l.journal

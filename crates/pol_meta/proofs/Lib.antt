@@ -1,0 +1,2 @@
+pub mod CreationLemmas
+pub mod ValidLemmas

@@ -1,0 +1,5 @@
+pub mod Columns
+pub mod Creation
+pub mod Exactness
+pub mod Valid
+pub mod Weight

@@ -1,0 +1,318 @@
+ghost use Rattle.std.specs.Prelude.{◌≡◌, ◌≤◌, ◌+◌, ◌∷◌, ◌↔◌, [], None, Some, IfErr, IfOk, IsTrue, OnOk, List, map, not};
+ghost use Rattle.std.specs.List.{list_all, list_any};
+ghost use Rattle.pol_meta.specs.Columns.{column_ids, has_column};
+ghost use Rattle.pol_meta.specs.Creation.{IsAskedFor, IsCreateRefusal, assembled, bound, bound_fields, create_refusal, created, field_ids, first_order, first_schema, first_spec, given_ids, highest, highest_given, is_same_field, is_same_id, numbered, order_refusal, spec_refusal, stands_twice, unnumbered};
+ghost use Rattle.pol_meta.specs.Valid.{IsValid};
+
+use crate::{
+    Column, CreateRefused, PartitionField, PartitionSpec, Schema, SortField, SortOrder,
+    TableMetadata, UnboundField, UnboundOrder, UnboundSpec, Why,
+};
+use pol_properties::Properties;
+use pol_types::{Listed, Text};
+use std::alloc::{AllocError, AllocFailed, Global};
+use uuid::Uuid;
+
+/// The highest id that a partition field may have.
+const HIGHEST_ID: u64 = 2_147_483_647;
+
+impl TableMetadata {
+    /// The metadata of a new table at a moment, in milliseconds since the Unix epoch. Its schema and spec have id 0,
+    /// and its order id 1, or 0 where nothing is sorted. Partition fields without an id get the ids after the highest
+    /// one given, and at least 1000. A spec is refused for a source that is no column, then for an id or a name that
+    /// stands twice, then for an id above 2,147,483,647; after it an order is refused for a source that is no column.
+    #[tactic(auto, unfolding(crate::specs::Creation::created))]
+    pub fn create(
+        alloc: Global,
+        uuid: Uuid,
+        location: &str,
+        schema: Schema,
+        spec: UnboundSpec,
+        order: UnboundOrder,
+        properties: Properties,
+        moment: u64,
+    ) -> Result<Self, CreateRefused>
+        ensures value { IfOk result (λ meta. meta ≡ created uuid location.now schema spec order properties moment) }
+        ensures passes { OnOk result (create_refusal schema spec order ≡ None) }
+        ensures refused { IfErr result (IsCreateRefusal schema spec order) }
+        ensures valid { IsAskedFor schema spec order moment → IfOk result IsValid }
+    {
+        let highest = judge(&schema, &spec, &order)?;
+        let spec = first_spec(alloc, spec, highest)?;
+        let location = Text::from(String::from_str(alloc, location)?);
+        Ok(assembled(
+            alloc,
+            uuid,
+            location,
+            schema,
+            spec,
+            first_order(order),
+            properties,
+            moment,
+        )?)
+    }
+}
+
+/// Whether a column has this id.
+fn has_column(columns: &[Column], id: u32) -> bool
+    ensures { result ≡ has_column columns.now id }
+{
+    columns.iter().any(|column| column.id == id)
+}
+
+/// Whether the sources of all these partition fields are columns.
+fn are_partition_sources(columns: &[Column], fields: &[UnboundField]) -> bool
+    ensures { result ≡ list_all (λ field. has_column columns.now field.source_id) fields.now }
+{
+    fields
+        .iter()
+        .all(|field| has_column(columns, field.source_id))
+}
+
+/// Whether the sources of all these sort fields are columns.
+fn are_sort_sources(columns: &[Column], fields: &[SortField]) -> bool
+    ensures { result ≡ list_all (λ field. has_column columns.now field.source_id) fields.now }
+{
+    fields
+        .iter()
+        .all(|field| has_column(columns, field.source_id))
+}
+
+fn is_same_id(left: Option<u32>, right: Option<u32>) -> bool
+    ensures { result ≡ is_same_id left right }
+{
+    match (left, right) {
+        (Some(left), Some(right)) => left == right,
+        _ => false,
+    }
+}
+
+/// Whether two fields are asked for with one id or one name.
+fn is_same_field(left: &UnboundField, right: &UnboundField) -> bool
+    ensures { result ≡ is_same_field left.now right.now }
+{
+    is_same_id(left.field_id, right.field_id) || left.name == right.name
+}
+
+/// Whether one of these fields is asked for with the id or the name of the first.
+fn is_among(field: &UnboundField, others: &[UnboundField]) -> bool
+    ensures { result ≡ list_any (is_same_field field.now) others.now }
+{
+    others.iter().any(|other| is_same_field(field, other))
+}
+
+/// Whether two of these fields are asked for with one id or one name.
+#[tactic(auto, using(crate::proofs::CreationLemmas::stands_twice_past))]
+fn is_field_twice(fields: &[UnboundField]) -> bool
+    ensures { result ≡ stands_twice is_same_field fields.now }
+{
+    for (place, field) in fields.iter().enumerate() {
+        if is_among(field, &fields[place + 1..]) {
+            return true;
+        }
+    }
+    false
+}
+
+/// The highest id that fields are asked for with, at least 999.
+fn highest_given(fields: &[UnboundField]) -> u32
+    ensures { result ≡ highest_given fields.now }
+{
+    fields
+        .iter()
+        .filter_map(|field| field.field_id)
+        .fold(999, |highest, id| highest.max(id))
+}
+
+/// How many fields are asked for without an id.
+fn unnumbered(fields: &[UnboundField]) -> usize
+    ensures { result ≡ unnumbered fields.now }
+{
+    fields
+        .iter()
+        .filter(|field| field.field_id.is_none())
+        .count()
+}
+
+/// Judges a partition spec, and tells above which id its fields get theirs.
+#[tactic(auto, unfolding(crate::specs::Creation::spec_refusal))]
+fn judge_spec(columns: &[Column], fields: &[UnboundField]) -> Result<u32, Why>
+    ensures highest { IfOk result (λ highest. highest ≡ highest_given fields.now) }
+    ensures bounded { OnOk result (highest_given fields.now + unnumbered fields.now ≤ 2147483647) }
+    ensures passes { OnOk result (spec_refusal columns.now fields.now ≡ None) }
+    ensures refused { IfErr result (λ why. spec_refusal columns.now fields.now ≡ Some why) }
+{
+    if !are_partition_sources(columns, fields) {
+        return Err(Why::NoSuchField);
+    }
+    if is_field_twice(fields) {
+        return Err(Why::FieldTwice);
+    }
+    let highest = highest_given(fields);
+    if highest as u64 + unnumbered(fields) as u64 > HIGHEST_ID {
+        return Err(Why::IdsUsedUp);
+    }
+    Ok(highest)
+}
+
+#[tactic(auto, unfolding(crate::specs::Creation::order_refusal))]
+fn judge_order(columns: &[Column], fields: &[SortField]) -> Result<(), Why>
+    ensures passes { OnOk result (order_refusal columns.now fields.now ≡ None) }
+    ensures refused { IfErr result (λ why. order_refusal columns.now fields.now ≡ Some why) }
+{
+    if are_sort_sources(columns, fields) {
+        Ok(())
+    } else {
+        Err(Why::NoSuchField)
+    }
+}
+
+/// Judges what a table is asked for with, and tells above which id its partition fields get theirs.
+#[tactic(auto, unfolding(crate::specs::Creation::create_refusal))]
+fn judge(schema: &Schema, spec: &UnboundSpec, order: &UnboundOrder) -> Result<u32, Why>
+    ensures highest { IfOk result (λ highest. highest ≡ highest_given spec.now.fields) }
+    ensures bounded { OnOk result (highest_given spec.now.fields + unnumbered spec.now.fields ≤ 2147483647) }
+    ensures passes { OnOk result (create_refusal schema.now spec.now order.now ≡ None) }
+    ensures refused { IfErr result (λ why. create_refusal schema.now spec.now order.now ≡ Some why) }
+{
+    let columns = schema.fields.as_slice();
+    let highest = judge_spec(columns, spec.fields.as_slice())?;
+    judge_order(columns, order.fields.as_slice())?;
+    Ok(highest)
+}
+
+/// A field with its id: its own, or this.
+fn bound(field: UnboundField, id: u32) -> PartitionField
+    ensures { result ≡ bound id field }
+{
+    PartitionField {
+        source_id: field.source_id,
+        field_id: id,
+        name: field.name,
+        transform: field.transform,
+    }
+}
+
+/// Fields with their ids: those without get the next ones in turn, above this.
+fn number(
+    alloc: Global,
+    fields: Vec<UnboundField>,
+    highest: u32,
+) -> Result<Vec<PartitionField>, AllocError>
+    requires { highest + unnumbered fields.items ≤ 2147483647 }
+    ensures { IfOk result (λ bound. bound.items ≡ numbered (highest + 1) fields.items) }
+{
+    let mut next = highest + 1;
+    let mut numbered = Vec::with_capacity(alloc, fields.len())?;
+    for field in fields {
+        let id = field.field_id.unwrap_or(next);
+        if field.field_id.is_none() {
+            next += 1;
+        }
+        numbered.push(bound(field, id))?;
+    }
+    Ok(numbered)
+}
+
+/// The partition spec of a new table.
+fn first_spec(alloc: Global, spec: UnboundSpec, highest: u32) -> Result<PartitionSpec, AllocError>
+    requires given { highest ≡ highest_given spec.fields }
+    requires bounded { highest_given spec.fields + unnumbered spec.fields ≤ 2147483647 }
+    ensures { IfOk result (λ first. first ≡ first_spec spec) }
+{
+    let fields = number(alloc, spec.fields.into(), highest)?;
+    Ok(PartitionSpec {
+        spec_id: 0,
+        fields: Listed::from(fields),
+    })
+}
+
+/// The sort order of a new table.
+fn first_order(order: UnboundOrder) -> SortOrder
+    ensures { result ≡ first_order order }
+{
+    let order_id = if order.fields.is_empty() { 0 } else { 1 };
+    SortOrder {
+        order_id,
+        fields: order.fields,
+    }
+}
+
+fn last_column_id(columns: &[Column]) -> u32
+    ensures { result ≡ highest 0 (column_ids columns.now) }
+{
+    columns
+        .iter()
+        .map(|column| column.id)
+        .fold(0, |highest, id| highest.max(id))
+}
+
+fn last_partition_id(fields: &[PartitionField]) -> u32
+    ensures { result ≡ highest 999 (field_ids fields.now) }
+{
+    fields
+        .iter()
+        .map(|field| field.field_id)
+        .fold(999, |highest, id| highest.max(id))
+}
+
+/// The metadata of a new table whose parts have their ids.
+fn assembled(
+    alloc: Global,
+    uuid: Uuid,
+    location: Text,
+    schema: Schema,
+    spec: PartitionSpec,
+    order: SortOrder,
+    properties: Properties,
+    moment: u64,
+) -> Result<TableMetadata, AllocError>
+    ensures { IfOk result (λ meta. meta ≡ assembled uuid location schema spec order properties moment) }
+{
+    let last_column_id = last_column_id(schema.fields.as_slice());
+    let last_partition_id = last_partition_id(spec.fields.as_slice());
+    let default_sort_order_id = order.order_id;
+    let schemas = list_of_one(alloc, first_schema(schema))?;
+    let partition_specs = list_of_one(alloc, spec)?;
+    let sort_orders = list_of_one(alloc, order)?;
+    Ok(TableMetadata {
+        current_schema_id: 0,
+        current_snapshot_id: None,
+        default_sort_order_id,
+        default_spec_id: 0,
+        format_version: 2,
+        last_column_id,
+        last_partition_id,
+        last_sequence_number: 0,
+        last_updated_ms: moment,
+        location,
+        metadata_log: Listed::from(Vec::new(alloc)),
+        partition_specs,
+        properties,
+        refs: Listed::from(Vec::new(alloc)),
+        schemas,
+        snapshot_log: Listed::from(Vec::new(alloc)),
+        snapshots: Listed::from(Vec::new(alloc)),
+        sort_orders,
+        table_uuid: uuid,
+    })
+}
+
+/// The schema of a new table.
+fn first_schema(schema: Schema) -> Schema
+    ensures { result ≡ first_schema schema }
+{
+    Schema {
+        schema_id: 0,
+        identifier_field_ids: schema.identifier_field_ids,
+        fields: schema.fields,
+    }
+}
+
+fn list_of_one<T: Drop>(alloc: Global, item: T) -> Result<Listed<T>, AllocError>
+    ensures { IfOk result (λ list. list ≡ item ∷ []) }
+{
+    let mut items = Vec::with_capacity(alloc, 1)?;
+    items.push_reserved(item);
+    Ok(Listed::from(items))
+}

@@ -1,0 +1,66 @@
+ghost use Rattle.std.specs.Prelude.{◌≡◌};
+ghost use Rattle.pol_meta.specs.declared.why.CreateRefused.TheVariants.{OutOfMemory, Refused};
+
+use std::alloc::{AllocError, AllocFailed};
+
+/// Why a table can't be made or changed as it is asked.
+#[derive(Clone, Copy, Debug, PartialEq, Eq)]
+pub enum Why {
+    /// The table has another uuid.
+    UuidDiffers,
+    /// No such format version is served.
+    FormatVersion,
+    /// An id above the highest that there may be is wanted.
+    IdsUsedUp,
+    /// The last one that was added is named, and none was.
+    NoneAdded,
+    /// No member has this id.
+    NoSuchId,
+    /// No column of the current schema has the id of this source.
+    NoSuchField,
+    /// Two partition fields have one id or one name.
+    FieldTwice,
+    /// The table has a snapshot of this id.
+    SnapshotThere,
+    /// The sequence number isn't above the last one.
+    SequenceNotAbove,
+    /// The table has no snapshot of this id.
+    NoSuchSnapshot,
+    /// The reference `main` is to be a tag.
+    MainNotBranch,
+    /// A tag has numbers that only branches have.
+    BranchOnly,
+    /// The current or default member is to be removed.
+    InUse,
+}
+
+/// Why `create` makes no metadata.
+#[derive(Clone, Copy, Debug, PartialEq, Eq)]
+pub enum CreateRefused {
+    Refused { why: Why },
+    OutOfMemory,
+}
+
+impl From<AllocError> for CreateRefused {
+    ghost from_gives = { λ _ refused. refused ≡ OutOfMemory };
+
+    fn from(_error: AllocError) -> Self {
+        CreateRefused::OutOfMemory
+    }
+}
+
+impl<T: Drop> From<AllocFailed<T>> for CreateRefused {
+    ghost from_gives = { λ _ refused. refused ≡ OutOfMemory };
+
+    fn from(_error: AllocFailed<T>) -> Self {
+        CreateRefused::OutOfMemory
+    }
+}
+
+impl From<Why> for CreateRefused {
+    ghost from_gives = { λ why refused. refused ≡ Refused why };
+
+    fn from(why: Why) -> Self {
+        CreateRefused::Refused { why }
+    }
+}

@@ -1,0 +1,47 @@
+//! Why a message has no plan.
+ghost use Rattle.std.specs.Prelude.{◌≡◌};
+ghost use Rattle.pol_requests.specs.Refused.{IsUnreadable};
+
+use pol_types::{OutOfMemory, Text};
+use std::alloc::{AllocError, Global};
+
+/// Why a message has no plan. The refusals of the route come first, in the order in which they stand here.
+#[derive(Debug, Drop, PartialEq, Eq)]
+pub enum RouteRefused {
+    /// The path is none of the table's.
+    NoRoute,
+    /// The path is one of the table's, and none of its methods is the request's.
+    WrongMethod,
+    /// The table has the method and path, but no such request is served yet.
+    NotBuilt,
+    /// A part of the request can't be read: `path` for a segment of the path, else a key of the query or a place of
+    /// the body.
+    Unreadable { field: Text },
+    /// A token request isn't UTF-8 once decoded, lacks a field, has one twice or empty, or has too many scopes.
+    InvalidRequest,
+    /// A token request is of a grant type other than `client_credentials`.
+    GrantType,
+    OutOfMemory,
+}
+
+impl From<OutOfMemory> for RouteRefused {
+    ghost use Rattle.pol_requests.specs.declared.refused.RouteRefused.TheVariants as why;
+
+    ghost from_gives = { λ _ refused. refused ≡ why.OutOfMemory };
+
+    fn from(_error: OutOfMemory) -> Self {
+        RouteRefused::OutOfMemory
+    }
+}
+
+/// A refusal that names a field, or want of memory for its name.
+pub fn unreadable(alloc: Global, field: &str) -> RouteRefused
+    ensures { IsUnreadable field.now result }
+{
+    match String::from_str(alloc, field) {
+        Ok(field) => RouteRefused::Unreadable {
+            field: Text::from(field),
+        },
+        Err(AllocError) => RouteRefused::OutOfMemory,
+    }
+}

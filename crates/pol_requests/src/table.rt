@@ -1,0 +1,336 @@
+//! The table of requests: each method of each path, with what it asks for (Iceberg REST OpenAPI; Apache Polaris
+//! Management Service; the object server's own paths).
+ghost use Rattle.std.specs.Prelude.{◌≡◌, map};
+ghost use Rattle.pol_requests.specs.Table.{entry_of, table};
+
+/// What a request asks for.
+#[derive(Clone, Copy, Debug)]
+pub enum Endpoint {
+    OpenSession,
+    GetConfig,
+    ListNamespaces,
+    CreateNamespace,
+    LoadNamespace,
+    HeadNamespace,
+    DropNamespace,
+    UpdateProperties,
+    ListTables,
+    CreateTable,
+    LoadTable,
+    HeadTable,
+    CommitTable,
+    DropTable,
+    LoadCredentials,
+    ReportMetrics,
+    RenameTable,
+    CommitTransaction,
+    ListViews,
+    CreateView,
+    LoadView,
+    HeadView,
+    ReplaceView,
+    DropView,
+    RenameView,
+    ListCatalogs,
+    CreateCatalog,
+    GetCatalog,
+    DropCatalog,
+    ListPrincipals,
+    CreatePrincipal,
+    GetPrincipal,
+    DropPrincipal,
+    Rotate,
+    ListMembers,
+    AddMember,
+    EndMember,
+    ListPrincipalRoles,
+    CreatePrincipalRole,
+    GetPrincipalRole,
+    DropPrincipalRole,
+    ListJoins,
+    AddJoin,
+    EndJoin,
+    ListCatalogRoles,
+    CreateCatalogRole,
+    GetCatalogRole,
+    DropCatalogRole,
+    ListGrants,
+    AddGrant,
+    Revoke,
+    GetObject,
+    HeadObject,
+    PutObject,
+    DeleteObject,
+    ListObjects,
+}
+
+/// A method, a path, and what a request of both asks for. In a path `{name}` stands for a segment that may be any
+/// text, and `{*name}` for all that follows.
+pub type Row = (&'static str, &'static str, Endpoint);
+
+/// The number of rows of the table.
+pub const ROW_COUNT: usize = 56;
+
+/// The table, in the order in which a catalogue lists its endpoints. The rows of a path stand together.
+pub const TABLE: [Row; ROW_COUNT] = [
+    (
+        "POST",
+        "/api/catalog/v1/oauth/tokens",
+        Endpoint::OpenSession,
+    ),
+    ("GET", "/api/catalog/v1/config", Endpoint::GetConfig),
+    (
+        "GET",
+        "/api/catalog/v1/{prefix}/namespaces",
+        Endpoint::ListNamespaces,
+    ),
+    (
+        "POST",
+        "/api/catalog/v1/{prefix}/namespaces",
+        Endpoint::CreateNamespace,
+    ),
+    (
+        "GET",
+        "/api/catalog/v1/{prefix}/namespaces/{namespace}",
+        Endpoint::LoadNamespace,
+    ),
+    (
+        "HEAD",
+        "/api/catalog/v1/{prefix}/namespaces/{namespace}",
+        Endpoint::HeadNamespace,
+    ),
+    (
+        "DELETE",
+        "/api/catalog/v1/{prefix}/namespaces/{namespace}",
+        Endpoint::DropNamespace,
+    ),
+    (
+        "POST",
+        "/api/catalog/v1/{prefix}/namespaces/{namespace}/properties",
+        Endpoint::UpdateProperties,
+    ),
+    (
+        "GET",
+        "/api/catalog/v1/{prefix}/namespaces/{namespace}/tables",
+        Endpoint::ListTables,
+    ),
+    (
+        "POST",
+        "/api/catalog/v1/{prefix}/namespaces/{namespace}/tables",
+        Endpoint::CreateTable,
+    ),
+    (
+        "GET",
+        "/api/catalog/v1/{prefix}/namespaces/{namespace}/tables/{table}",
+        Endpoint::LoadTable,
+    ),
+    (
+        "HEAD",
+        "/api/catalog/v1/{prefix}/namespaces/{namespace}/tables/{table}",
+        Endpoint::HeadTable,
+    ),
+    (
+        "POST",
+        "/api/catalog/v1/{prefix}/namespaces/{namespace}/tables/{table}",
+        Endpoint::CommitTable,
+    ),
+    (
+        "DELETE",
+        "/api/catalog/v1/{prefix}/namespaces/{namespace}/tables/{table}",
+        Endpoint::DropTable,
+    ),
+    (
+        "GET",
+        "/api/catalog/v1/{prefix}/namespaces/{namespace}/tables/{table}/credentials",
+        Endpoint::LoadCredentials,
+    ),
+    (
+        "POST",
+        "/api/catalog/v1/{prefix}/namespaces/{namespace}/tables/{table}/metrics",
+        Endpoint::ReportMetrics,
+    ),
+    (
+        "POST",
+        "/api/catalog/v1/{prefix}/tables/rename",
+        Endpoint::RenameTable,
+    ),
+    (
+        "POST",
+        "/api/catalog/v1/{prefix}/transactions/commit",
+        Endpoint::CommitTransaction,
+    ),
+    (
+        "GET",
+        "/api/catalog/v1/{prefix}/namespaces/{namespace}/views",
+        Endpoint::ListViews,
+    ),
+    (
+        "POST",
+        "/api/catalog/v1/{prefix}/namespaces/{namespace}/views",
+        Endpoint::CreateView,
+    ),
+    (
+        "GET",
+        "/api/catalog/v1/{prefix}/namespaces/{namespace}/views/{view}",
+        Endpoint::LoadView,
+    ),
+    (
+        "HEAD",
+        "/api/catalog/v1/{prefix}/namespaces/{namespace}/views/{view}",
+        Endpoint::HeadView,
+    ),
+    (
+        "POST",
+        "/api/catalog/v1/{prefix}/namespaces/{namespace}/views/{view}",
+        Endpoint::ReplaceView,
+    ),
+    (
+        "DELETE",
+        "/api/catalog/v1/{prefix}/namespaces/{namespace}/views/{view}",
+        Endpoint::DropView,
+    ),
+    (
+        "POST",
+        "/api/catalog/v1/{prefix}/views/rename",
+        Endpoint::RenameView,
+    ),
+    ("GET", "/api/management/v1/catalogs", Endpoint::ListCatalogs),
+    (
+        "POST",
+        "/api/management/v1/catalogs",
+        Endpoint::CreateCatalog,
+    ),
+    (
+        "GET",
+        "/api/management/v1/catalogs/{catalog}",
+        Endpoint::GetCatalog,
+    ),
+    (
+        "DELETE",
+        "/api/management/v1/catalogs/{catalog}",
+        Endpoint::DropCatalog,
+    ),
+    (
+        "GET",
+        "/api/management/v1/principals",
+        Endpoint::ListPrincipals,
+    ),
+    (
+        "POST",
+        "/api/management/v1/principals",
+        Endpoint::CreatePrincipal,
+    ),
+    (
+        "GET",
+        "/api/management/v1/principals/{principal}",
+        Endpoint::GetPrincipal,
+    ),
+    (
+        "DELETE",
+        "/api/management/v1/principals/{principal}",
+        Endpoint::DropPrincipal,
+    ),
+    (
+        "POST",
+        "/api/management/v1/principals/{principal}/rotate",
+        Endpoint::Rotate,
+    ),
+    (
+        "GET",
+        "/api/management/v1/principals/{principal}/principal-roles",
+        Endpoint::ListMembers,
+    ),
+    (
+        "PUT",
+        "/api/management/v1/principals/{principal}/principal-roles",
+        Endpoint::AddMember,
+    ),
+    (
+        "DELETE",
+        "/api/management/v1/principals/{principal}/principal-roles/{role}",
+        Endpoint::EndMember,
+    ),
+    (
+        "GET",
+        "/api/management/v1/principal-roles",
+        Endpoint::ListPrincipalRoles,
+    ),
+    (
+        "POST",
+        "/api/management/v1/principal-roles",
+        Endpoint::CreatePrincipalRole,
+    ),
+    (
+        "GET",
+        "/api/management/v1/principal-roles/{role}",
+        Endpoint::GetPrincipalRole,
+    ),
+    (
+        "DELETE",
+        "/api/management/v1/principal-roles/{role}",
+        Endpoint::DropPrincipalRole,
+    ),
+    (
+        "GET",
+        "/api/management/v1/principal-roles/{role}/catalog-roles/{catalog}",
+        Endpoint::ListJoins,
+    ),
+    (
+        "PUT",
+        "/api/management/v1/principal-roles/{role}/catalog-roles/{catalog}",
+        Endpoint::AddJoin,
+    ),
+    (
+        "DELETE",
+        "/api/management/v1/principal-roles/{role}/catalog-roles/{catalog}/{catalog_role}",
+        Endpoint::EndJoin,
+    ),
+    (
+        "GET",
+        "/api/management/v1/catalogs/{catalog}/catalog-roles",
+        Endpoint::ListCatalogRoles,
+    ),
+    (
+        "POST",
+        "/api/management/v1/catalogs/{catalog}/catalog-roles",
+        Endpoint::CreateCatalogRole,
+    ),
+    (
+        "GET",
+        "/api/management/v1/catalogs/{catalog}/catalog-roles/{catalog_role}",
+        Endpoint::GetCatalogRole,
+    ),
+    (
+        "DELETE",
+        "/api/management/v1/catalogs/{catalog}/catalog-roles/{catalog_role}",
+        Endpoint::DropCatalogRole,
+    ),
+    (
+        "GET",
+        "/api/management/v1/catalogs/{catalog}/catalog-roles/{catalog_role}/grants",
+        Endpoint::ListGrants,
+    ),
+    (
+        "PUT",
+        "/api/management/v1/catalogs/{catalog}/catalog-roles/{catalog_role}/grants",
+        Endpoint::AddGrant,
+    ),
+    (
+        "POST",
+        "/api/management/v1/catalogs/{catalog}/catalog-roles/{catalog_role}/grants",
+        Endpoint::Revoke,
+    ),
+    ("GET", "/objects/{*path}", Endpoint::GetObject),
+    ("HEAD", "/objects/{*path}", Endpoint::HeadObject),
+    ("PUT", "/objects/{*path}", Endpoint::PutObject),
+    ("DELETE", "/objects/{*path}", Endpoint::DeleteObject),
+    ("GET", "/list/{*path}", Endpoint::ListObjects),
+];
+
+/// The table's rows.
+#[tactic(auto, unfolding(crate::specs::Table::table))]
+pub fn table_rows() -> &'static [Row]
+    ensures { map entry_of result.now ≡ table }
+{
+    &TABLE
+}

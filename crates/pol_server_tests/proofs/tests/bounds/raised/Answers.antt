@@ -1,0 +1,45 @@
+use Rattle.std.proofs.Common.{◌≡◌, ◌≤◌, ◌^◌, ℕ, List, [], ◌∷◌, arith, ap, subst, sym, lit≤, ◌∙◌}
+use Rattle.pol_machine.specs.Applied.{applied, HasRoom}
+use Rattle.pol_machine.specs.Rows.{fresh_state, Room}
+use Rattle.pol_machine.specs.Sound.{IsSound}
+use Rattle.pol_content.specs.declared.change.Change.{Change}
+use Rattle.pol_content.specs.declared.change.Change.TheVariants.{NextSerial}
+use Rattle.pol_machine.proofs.FreshLemmas.{fresh-sound}
+use Rattle.pol_server_tests.proofs.tests.bounds.raised.Goals as goal
+
+raised-sound : (secret : List ℕ) (serial charged : ℕ) → serial ≤ 2 ^ 62 → charged ≤ 2 ^ 30 → IsSound (applied (NextSerial serial ∷ []) 0 charged (fresh_state secret))
+unfolding fresh_state
+raised-sound secret serial charged bound within = record {
+  access = (fresh-sound secret).access;
+  content = (fresh-sound secret).content;
+  ties = (fresh-sound secret).ties;
+  tokens = record { sessions_rise = (fresh-sound secret).tokens.sessions_rise; sessions = tt };
+  time_bound = lit≤ tt;
+  next_id_bound = lit≤ tt;
+  next_serial_bound = bound;
+  charged_bound = omega (arith, within);
+}
+
+no-room : (serial : ℕ) (room : Room) → HasRoom (NextSerial serial ∷ []) room
+no-room serial room = record {
+  principals = omega arith;
+  principal_roles = omega arith;
+  catalogs = omega arith;
+  catalog_roles = omega arith;
+  namespaces = omega arith;
+  members = omega arith;
+  joins = omega arith;
+  grants = omega arith;
+  sessions = omega arith;
+}
+
+pub apply-requires-clause-sound : goal.apply-requires-clause-sound
+apply-requires-clause-sound c =
+    let changes : c.in_ok-changes.changes.items ≡ NextSerial c.args.serial ∷ [] = c.in_ok-changes.ensures.items in
+    let is = ap (λ (changes : List Change). applied changes 0 c.args.charged c.in_ok-state.state.rows) changes ∙ ap (applied (NextSerial c.args.serial ∷ []) 0 c.args.charged) c.in_ok-state.ensures.rows in
+    subst IsSound (sym is) (raised-sound _ c.args.serial c.args.charged c.requires.serial c.requires.charged)
+
+pub apply-requires-clause-room : goal.apply-requires-clause-room
+apply-requires-clause-room c =
+    let changes : c.in_ok-changes.changes.items ≡ NextSerial c.args.serial ∷ [] = c.in_ok-changes.ensures.items in
+    subst (λ (changes : List Change). HasRoom changes c.in_ok-state.state.room) (sym changes) (no-room c.args.serial c.in_ok-state.state.room)

@@ -1,0 +1,3 @@
+mod bounds;
+mod links;
+mod messages;

@@ -1,0 +1,89 @@
+use pol_server::{Ending, Place, serve_connection};
+use pol_shared::Kept;
+use pol_wire::{CountingDraw, Link, MemoryClock, MemorySink, MemorySource};
+use std::alloc::{AllocError, Global};
+use std::test::Fail;
+
+/// A request that opens a session.
+const OPENS: &str =
+    "POST /api/catalog/v1/oauth/tokens HTTP/1.1\r\nhost: l\r\ncontent-length: 65\r\n\r\ngrant_type=client_credentials&client_id=root&client_secret=s3cret";
+
+/// A request that opens a session, one that asks for nothing, and one more that opens a session.
+const THREE: &str =
+    "POST /api/catalog/v1/oauth/tokens HTTP/1.1\r\nhost: l\r\ncontent-length: 65\r\n\r\ngrant_type=client_credentials&client_id=root&client_secret=s3cretGET /objects/b/x HTTP/1.1\r\n\r\nPOST /api/catalog/v1/oauth/tokens HTTP/1.1\r\nhost: l\r\ncontent-length: 65\r\n\r\ngrant_type=client_credentials&client_id=root&client_secret=s3cret";
+
+/// The bytes of a link; the call of its source, its sink and its draw that is to fail, counted from 1, or 0; how it
+/// ends; and the places of its requests.
+type Case<'a> = (&'a str, (u64, u64, u64), Ending, &'a [Place]);
+
+/// Links over one catalogue, whose places go on where those of the last one ended.
+const LINKS: [Case<'static>; 6] = [
+    ("", (0, 0, 0), Ending::Ended, &[]),
+    ("G", (0, 0, 0), Ending::Cut, &[]),
+    (
+        THREE,
+        (0, 0, 0),
+        Ending::Ended,
+        &[Place::Catalogue(0), Place::NoEntry, Place::Catalogue(1)],
+    ),
+    (
+        THREE,
+        (0, 0, 1),
+        Ending::Ended,
+        &[Place::NoEntry, Place::NoEntry, Place::Catalogue(2)],
+    ),
+    (OPENS, (2, 0, 0), Ending::ReadFault, &[Place::Catalogue(3)]),
+    (
+        THREE,
+        (0, 2, 0),
+        Ending::WriteFault,
+        &[Place::Catalogue(4), Place::NoEntry],
+    ),
+];
+
+type MemoryLink = Link<MemorySource, MemorySink, MemoryClock, CountingDraw>;
+
+/// A link in memory with these bytes in one piece, at moment 1,000 and with words that count from 0.
+fn linked(alloc: Global, case: &Case<'_>) -> Result<MemoryLink, AllocError> {
+    let (bytes, (take, give, word), _, _) = *case;
+    let bytes = bytes.as_bytes().to_vec(alloc)?;
+    let takes = vec![in alloc; take]?;
+    let gives = vec![in alloc; give]?;
+    let words = vec![in alloc; word]?;
+    let moments = vec![in alloc; 1_000]?;
+    Ok(Link {
+        source: MemorySource::new(bytes, Vec::new(alloc), takes),
+        sink: MemorySink::new(Vec::new(alloc), usize::MAX, gives),
+        clock: MemoryClock::new(moments),
+        words: CountingDraw::new(words),
+    })
+}
+
+/// Whether a link ends so, with these places.
+fn is_served(alloc: Global, catalogue: &mut Kept, case: &Case<'_>) -> Option<bool> {
+    let mut link = linked(alloc, case).ok()?;
+    let served = serve_connection(alloc, catalogue, &mut link);
+    let is_right = served.ending == case.2 && served.places.as_slice() == case.3;
+    drop(served);
+    drop(link);
+    Some(is_right)
+}
+
+/// Whether these links are served so, one after the other.
+fn are_served(alloc: Global, catalogue: &mut Kept, cases: &[Case<'_>]) -> bool {
+    for case in cases {
+        if is_served(alloc, catalogue, case) != Some(true) {
+            return false;
+        }
+    }
+    true
+}
+
+#[test]
+fn links_share_one_history(rt: HostRuntime) -> Result<(), Fail> {
+    let mut catalogue = Kept::fresh(rt.alloc(), "s3cret")?;
+    let served = are_served(rt.alloc(), &mut catalogue, &LINKS);
+    drop(catalogue);
+    assert!(rt; served);
+    Ok(())
+}

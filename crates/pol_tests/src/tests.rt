@@ -1,0 +1,6 @@
+mod locations;
+mod privileges;
+mod properties;
+mod readers;
+mod tables;
+mod values;
