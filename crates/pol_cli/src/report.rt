@@ -1,11 +1,9 @@
 //! What a run reports.
-ghost use Rattle.std.specs.Prelude.{◌≡◌, [], ◌∷◌, Some};
+ghost use Rattle.std.specs.Prelude.{◌≡◌};
 ghost use Rattle.pol_cli.specs.Run as spec;
-ghost use Rattle.pol_cli.specs.Reason.{reason_text};
 
 use pol_server::{Ending, Served};
 use pol_types::Listed;
-use std::fmt;
 
 /// Why a run ended as it did.
 #[derive(Clone, Copy, Debug, PartialEq, Eq)]
@@ -24,22 +22,6 @@ pub enum Reason {
     InputCut,
     /// 2^40 bytes were taken from its link.
     Spent,
-}
-
-impl fmt::Display for Reason {
-    ghost output = { λ reason. Some (reason_text reason) };
-
-    fn fmt<W: fmt::Write>(&self, f: &mut fmt::Formatter<W>) -> fmt::Result {
-        f.write_str(match self {
-            Reason::Done => "done",
-            Reason::ReadFault => "the input can't be read",
-            Reason::WriteFault => "the output can't be written",
-            Reason::Usage => "the words are no command line",
-            Reason::NoMemory => "memory is wanting",
-            Reason::InputCut => "the input ended inside a message",
-            Reason::Spent => "2^40 bytes were taken",
-        })
-    }
 }
 
 /// A link that was served, and the worker that served it.
