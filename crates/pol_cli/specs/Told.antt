@@ -21,10 +21,10 @@ abbrev pub line_of : Reason → List ℕ
 line_of Done = []
 line_of reason = codes "polaris: " ++ reason_text reason ++ 10 ∷ []
 
--- a sink was given a text, or its front and then its count of faults rose
+-- a sink was given a text and its count of faults stays, or its front and then the count rose
 pub record GivesText (old new : Option (List ℕ)) (old_faults new_faults : ℕ) (text : List ℕ) : Type 0 where
   pub given : List ℕ
   pub missing : List ℕ
   pub text_is : text ≡ given ++ missing
   pub gives : Appends old new given
-  pub caused : (missing ≡ []) ⊎ Rises old_faults new_faults
+  pub caused : ((missing ≡ []) × (new_faults ≡ old_faults)) ⊎ Rises old_faults new_faults
