@@ -1,7 +1,7 @@
 -- What a run reports.
 use Rattle.std.specs.Prelude.{◌≡◌, ◌⊎◌, ◌<◌, ⊤, ℕ, List, [], ◌∷◌, length, IfSome, IsSome}
 use Rattle.std.specs.Io.KnownBytes.{Consumes}
-use Rattle.pol_machine.specs.Rows.{Rows, fresh_state}
+use Rattle.pol_state.specs.Rows.{Rows, fresh_state}
 use Rattle.pol_shared.specs.declared.entry.Entry.{Entry}
 use Rattle.pol_server.specs.Ends.{Ends}
 use Rattle.pol_server.specs.Link.{ServesLink, taken_bound}

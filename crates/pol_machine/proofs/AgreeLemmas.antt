@@ -10,46 +10,47 @@ use Rattle.pol_access.specs.declared.privilege.Privilege.{Privilege}
 use Rattle.pol_access.specs.declared.privilege.Privilege.TheVariants.{CatalogManageAccess, CatalogReadProperties, NamespaceCreate, NamespaceDrop, NamespaceList, NamespaceReadProperties, NamespaceWriteProperties}
 use Rattle.pol_access.specs.declared.rows.PrincipalRoleRow.{PrincipalRoleRow}
 use Rattle.pol_access.specs.declared.rows.PrincipalRow.{PrincipalRow}
-use Rattle.pol_content.specs.Content.{catalog_named}
-use Rattle.pol_names.specs.Namespace.{parent_of}
 use Rattle.pol_tables.specs.Rising.{KeysBelow}
-use Rattle.pol_content.proofs.TiesLemmas.{unknown-put, unknown-without}
 use Rattle.pol_tables.specs.Table.{has_id, knows, rows_without}
 use Rattle.pol_tables.proofs.ListLemmas.{each-all, each-weaken}
 use Rattle.pol_tables.proofs.RisingLemmas.{KeysBelow-filter}
+use Rattle.pol_content.specs.Content.{catalog_named}
+use Rattle.pol_content.proofs.TiesLemmas.{unknown-put, unknown-without}
 use Rattle.pol_tokens.specs.Tokens.{TokenRows, serial_of}
 use Rattle.pol_tokens.specs.declared.session.SessionRow.{SessionRow}
-use Rattle.pol_machine.specs.AccessRules.{catalog_role_at, catalog_role_taken, client_taken, grant_of, in_catalog, in_realm, join_of, member_of, no_catalog_role, no_grant, no_join, no_member, no_principal, no_principal_role, no_securable, principal_role_taken, principal_taken}
-use Rattle.pol_machine.specs.Acting.{done, Acting}
-use Rattle.pol_machine.specs.Agree.{is_live, live_part, live_tokens, Agree, DoesAlike}
-use Rattle.pol_machine.specs.Catalogs.{new_catalog, with_catalog, without_catalog}
-use Rattle.pol_machine.specs.CatalogRoles.{with_role_in, without_catalog_role}
-use Rattle.pol_machine.specs.Changes.{changes_between, headed, id_change, in_turn, row_changes, serial_change}
-use Rattle.pol_machine.specs.Grants.{with_grant, without_grant}
-use Rattle.pol_machine.specs.Joins.{with_join, without_join}
-use Rattle.pol_machine.specs.Machine.{acting, next_by, next_state, reply_by, reply_of, rows_by, stamped}
-use Rattle.pol_machine.specs.Members.{with_member, without_member}
-use Rattle.pol_machine.specs.Namespaces.{namespace_at, with_namespace, with_properties, without_namespace}
-use Rattle.pol_machine.specs.Needs.{caller_may, first_unmet, forbidden, on_catalog, on_parent, on_path, service, session_may, shown}
-use Rattle.pol_machine.specs.PrincipalRoles.{with_principal_role, without_principal_role}
-use Rattle.pol_machine.specs.Principals.{client_id_or, new_principal, rotated, secret_or, with_new_principal, with_principal, without_principal}
-use Rattle.pol_machine.specs.Rows.{Rows, digest_of}
-use Rattle.pol_machine.specs.Rules.{bad_text, bad_texts, catalog_holds, catalog_taken, client_of, first_refusal, given, inside, invalid_client, invalid_scope, is_signed_in, key_twice, namespace_holds, namespace_taken, no_catalogue, no_namespace, no_parent, over_limit, refuse_if, run_full, time_of, unauthenticated, unsupported_type}
-use Rattle.pol_machine.specs.Sessions.{opened, scope_of, session_opened, with_session}
-use Rattle.pol_machine.specs.Sound.{IsSessionOf, IsSound}
+use Rattle.pol_names.specs.Namespace.{parent_of}
 use Rattle.pol_commands.specs.declared.command.Action.{Action}
 use Rattle.pol_commands.specs.declared.command.Action.TheVariants.{OpenSession, GetConfig, ListCatalogs, CreateCatalog, GetCatalog, DropCatalog, ListNamespaces, CreateNamespace, LoadNamespace, HeadNamespace, DropNamespace, UpdateProperties, ListPrincipals, CreatePrincipal, GetPrincipal, DropPrincipal, Rotate, ListMembers, AddMember, EndMember, ListPrincipalRoles, CreatePrincipalRole, GetPrincipalRole, DropPrincipalRole, ListJoins, AddJoin, EndJoin, ListCatalogRoles, CreateCatalogRole, GetCatalogRole, DropCatalogRole, ListGrants, AddGrant, Revoke}
 use Rattle.pol_commands.specs.declared.command.Caller.{Caller}
 use Rattle.pol_commands.specs.declared.command.Caller.TheVariants.{Nobody, Bearer, Setup}
 use Rattle.pol_commands.specs.declared.command.Command.{Command}
-use Rattle.pol_machine.specs.declared.needs.Need.{Need}
 use Rattle.pol_commands.specs.declared.reply.Answer.{Answer}
 use Rattle.pol_commands.specs.declared.reply.Refusal.{Refusal}
 use Rattle.pol_commands.specs.declared.reply.Refusal.TheVariants.{Forbidden, Unauthenticated}
-use Rattle.pol_machine.proofs.AccessFoundLemmas.{known, principal-own}
-use Rattle.pol_machine.proofs.ChangesLemmas.{changes-opened, changes-timed, sessions-kept}
+use Rattle.pol_state.specs.Changes.{changes_between, headed, id_change, in_turn, row_changes, serial_change}
+use Rattle.pol_state.specs.Rows.{Rows, digest_of}
+use Rattle.pol_state.specs.Sound.{IsSessionOf, IsSound}
+use Rattle.pol_state.proofs.ChangesLemmas.{changes-timed, sessions-kept}
+use Rattle.pol_rules.specs.AccessRules.{catalog_role_at, catalog_role_taken, client_taken, grant_of, in_catalog, in_realm, join_of, member_of, no_catalog_role, no_grant, no_join, no_member, no_principal, no_principal_role, no_securable, principal_role_taken, principal_taken}
+use Rattle.pol_rules.specs.Acting.{done, Acting, rows_by, stamped}
+use Rattle.pol_rules.specs.Needs.{caller_may, first_unmet, forbidden, on_catalog, on_parent, on_path, service, session_may, shown}
+use Rattle.pol_rules.specs.Rules.{bad_text, bad_texts, catalog_holds, catalog_taken, client_of, first_refusal, given, inside, invalid_client, invalid_scope, is_signed_in, key_twice, namespace_holds, namespace_taken, no_catalogue, no_namespace, no_parent, over_limit, refuse_if, run_full, time_of, unauthenticated, unsupported_type}
+use Rattle.pol_rules.specs.declared.needs.Need.{Need}
+use Rattle.pol_rules.proofs.FoundLemmas.{known, principal-own}
+use Rattle.pol_content_actions.specs.Catalogs.{new_catalog, with_catalog, without_catalog}
+use Rattle.pol_content_actions.specs.Namespaces.{namespace_at, with_namespace, with_properties, without_namespace}
+use Rattle.pol_content_actions.specs.Sessions.{opened, scope_of, session_opened, with_session}
+use Rattle.pol_content_actions.proofs.ChangesLemmas.{changes-opened}
+use Rattle.pol_content_actions.proofs.SessionsLemmas.{opened-below}
+use Rattle.pol_principal_actions.specs.Members.{with_member, without_member}
+use Rattle.pol_principal_actions.specs.PrincipalRoles.{with_principal_role, without_principal_role}
+use Rattle.pol_principal_actions.specs.Principals.{client_id_or, new_principal, rotated, secret_or, with_new_principal, with_principal, without_principal}
+use Rattle.pol_grant_actions.specs.CatalogRoles.{with_role_in, without_catalog_role}
+use Rattle.pol_grant_actions.specs.Grants.{with_grant, without_grant}
+use Rattle.pol_grant_actions.specs.Joins.{with_join, without_join}
+use Rattle.pol_machine.specs.Agree.{is_live, live_part, live_tokens, Agree, DoesAlike}
+use Rattle.pol_machine.specs.Machine.{acting, next_by, next_state, reply_by, reply_of}
 use Rattle.pol_machine.proofs.LiveLemmas.{filter-weaker, live-agrees, live-before, session-live}
-use Rattle.pol_machine.proofs.SessionsLemmas.{opened-below}
 
 -- rows with these tokens
 abbrev with_tokens : TokenRows → Rows → Rows

@@ -1,58 +1,56 @@
--- Decisions: the reply and the state after, by the first rule that fails.
-use Rattle.std.proofs.Common.{◌≡◌, ◌≤◌, ◌+◌, ◌^◌, ℕ, List, [], ◌∷◌, Option, None, Some, Result, Ok, Err, refl, sym, ap, subst, ◌∙◌, true, false, codes, is_some, true≢false}
+-- The first of the rules that fails.
+use Rattle.std.proofs.Common.{◌≡◌, [], ◌∷◌, Option, None, Some, refl, ◌∙◌, ◌≤◌, ◌+◌, ◌^◌, ℕ, List, Result, Ok, Err, sym, ap, true, false, codes, is_some, true≢false}
 use Rattle.std.specs.List.{AllByRecursion}
-use Rattle.std.specs.Result.{IsErrAnd}
 use Rattle.pol_access.specs.declared.rows.PrincipalRow.{PrincipalRow}
 use Rattle.pol_access.specs.Names.{principal_named, principal_role_named}
 use Rattle.pol_content.specs.Content.{catalog_named}
 use Rattle.pol_names.specs.Namespace.{parent_of}
-use Rattle.pol_machine.specs.AccessRules.{catalog_role_at, grant_of, join_of, member_of}
-use Rattle.pol_machine.specs.Applied.{applied}
-use Rattle.pol_machine.specs.Catalogs.{new_catalog}
-use Rattle.pol_machine.specs.Acting.{done}
-use Rattle.pol_machine.specs.Namespaces.{namespace_at, with_properties}
-use Rattle.pol_machine.specs.Changes.{changes_between}
-use Rattle.pol_machine.specs.Needs.{service}
-use Rattle.pol_machine.specs.Judged.{Acts, Judges}
-use Rattle.pol_machine.specs.Machine.{acting, next_by, next_state, reply_by, reply_of, rows_by, rules_of, stamped}
+use Rattle.pol_commands.specs.declared.reply.Answer.{Answer}
+use Rattle.pol_commands.specs.declared.reply.Refusal.{Refusal}
+use Rattle.pol_commands.specs.declared.reply.Reply.TheVariants.{Answered, Refused}
 use Rattle.pol_commands.specs.Proper.{IsProper}
 use Rattle.pol_commands.specs.Reply.{is_run_full}
-use Rattle.pol_machine.specs.Principals.{client_id_or, new_principal, secret_or}
-use Rattle.pol_machine.specs.Rows.{Rows}
-use Rattle.pol_machine.specs.Rules.{above, client_of, first_refusal, given, key_twice, namespace_holds, over_limit, run_full, with_serial, time_of}
-use Rattle.pol_machine.specs.Sessions.{open_session, opened, session_opened}
-use Rattle.pol_machine.specs.Sound.{IsSound}
 use Rattle.pol_commands.specs.declared.command.Action.{Action}
 use Rattle.pol_commands.specs.declared.command.Action.TheVariants.{OpenSession, GetConfig, ListCatalogs, CreateCatalog, GetCatalog, DropCatalog, ListNamespaces, CreateNamespace, LoadNamespace, HeadNamespace, DropNamespace, UpdateProperties, ListPrincipals, CreatePrincipal, GetPrincipal, DropPrincipal, Rotate, ListMembers, AddMember, EndMember, ListPrincipalRoles, CreatePrincipalRole, GetPrincipalRole, DropPrincipalRole, ListJoins, AddJoin, EndJoin, ListCatalogRoles, CreateCatalogRole, GetCatalogRole, DropCatalogRole, ListGrants, AddGrant, Revoke}
 use Rattle.pol_commands.specs.declared.command.Command.{Command}
-use Rattle.pol_commands.specs.declared.reply.Answer.{Answer}
 use Rattle.pol_commands.specs.declared.reply.Quantity.TheVariants as quantity
-use Rattle.pol_commands.specs.declared.reply.Refusal.{Refusal}
-use Rattle.pol_commands.specs.declared.reply.Reply.TheVariants.{Answered, Refused}
-use Rattle.pol_machine.specs.declared.rules.Acted.{Acted}
-use Rattle.pol_machine.specs.declared.rules.Stop.{Stop}
-use Rattle.pol_machine.specs.declared.rules.Stop.TheVariants as stop
-use Rattle.pol_machine.proofs.AccessFoundLemmas.{at-own, principal-own, role-at, role-own}
-use Rattle.pol_machine.proofs.AccessLeadsLemmas.{leads-done, leads-rotated, leads-with_catalog_role, leads-with_grant, leads-with_join, leads-with_member, leads-with_new_principal, leads-with_principal_role, leads-without_catalog_role, leads-without_grant, leads-without_join, leads-without_member, leads-without_principal, leads-without_principal_role}
-use Rattle.pol_machine.proofs.AccessRulesLemmas.{catalog_role-other, client_id-other, no_catalog_role-other, no_grant-other, no_join-other, no_member-other, no_principal-other, no_role-other, principal-other, reserved-other, reserved_grant-other, reserved_join-other, reserved_member-other, role-other, securable-other}
-use Rattle.pol_machine.proofs.AccessSoundLemmas.{sound-add_member, sound-create_principal, sound-create_principal_role, sound-drop_principal, sound-drop_principal_role, sound-end_member, sound-rotate}
-use Rattle.pol_machine.proofs.ActionLemmas.{leads-catalog, leads-catalog_dropped, leads-first, leads-namespace, leads-namespace_dropped, leads-properties, leads-reading, sound-create_catalog, sound-create_namespace, sound-drop_catalog, sound-drop_namespace, sound-reading, sound-update_properties}
-use Rattle.pol_machine.proofs.ChangesLemmas.{changes-timed}
-use Rattle.pol_machine.proofs.GrantSoundLemmas.{sound-add_grant, sound-add_join, sound-create_catalog_role, sound-drop_catalog_role, sound-end_join, sound-revoke}
-use Rattle.pol_machine.proofs.LimitsLemmas.{above-within, serial_limits}
-use Rattle.pol_machine.proofs.RulesLemmas.{caller-other, catalog-other, client-other, deeper-other, first-other, given-other, holds-other, key-other, levels-other, limit-other, need-other, no_catalogue-other, on_namespace-other, parent-other, refusal-past, run_full-tells, scope-other, tells_full, text-other, texts-other, type-other, EachPasses-none}
-use Rattle.pol_machine.proofs.SessionsLemmas.{leads-by, limit-opened}
-use Rattle.pol_machine.proofs.SoundLemmas.{client-given, opened-sound, scope-given, stamped-sound, within-bounds, IsWithin}
+use Rattle.pol_state.specs.Applied.{applied}
+use Rattle.pol_state.specs.Changes.{changes_between}
+use Rattle.pol_state.specs.Rows.{Rows}
+use Rattle.pol_state.specs.Sound.{IsSound}
+use Rattle.pol_state.proofs.ChangesLemmas.{changes-timed}
+use Rattle.pol_rules.specs.AccessRules.{catalog_role_at, grant_of, join_of, member_of}
+use Rattle.pol_rules.specs.Acting.{done, rows_by, stamped}
+use Rattle.pol_rules.specs.Needs.{service}
+use Rattle.pol_rules.specs.Judged.{Acts}
+use Rattle.pol_rules.specs.Rules.{above, client_of, first_refusal, given, key_twice, namespace_holds, over_limit, run_full, with_serial, time_of}
+use Rattle.pol_rules.specs.declared.rules.Acted.{Acted}
+use Rattle.pol_rules.specs.declared.rules.Stop.{Stop}
+use Rattle.pol_rules.specs.declared.rules.Stop.TheVariants as stop
+use Rattle.pol_rules.proofs.FoundLemmas.{at-own, principal-own, role-at, role-own}
+use Rattle.pol_rules.proofs.LeadsLemmas.{leads-done, leads-first, leads-reading}
+use Rattle.pol_rules.proofs.AccessRulesLemmas.{catalog_role-other, client_id-other, no_catalog_role-other, no_grant-other, no_join-other, no_member-other, no_principal-other, no_role-other, principal-other, reserved-other, reserved_grant-other, reserved_join-other, reserved_member-other, role-other, securable-other}
+use Rattle.pol_rules.proofs.SoundLemmas.{sound-reading, stamped-sound, within-bounds, IsWithin}
+use Rattle.pol_rules.proofs.LimitsLemmas.{above-within, serial_limits}
+use Rattle.pol_rules.proofs.RulesLemmas.{caller-other, catalog-other, client-other, deeper-other, first-other, given-other, holds-other, key-other, levels-other, limit-other, need-other, no_catalogue-other, parent-other, refusal-past, run_full-tells, scope-other, tells_full, text-other, texts-other, type-other, EachPasses-none}
+use Rattle.pol_content_actions.specs.Catalogs.{new_catalog}
+use Rattle.pol_content_actions.specs.Namespaces.{namespace_at, with_properties}
+use Rattle.pol_content_actions.specs.Sessions.{open_session, opened, session_opened}
+use Rattle.pol_content_actions.proofs.ActionLemmas.{leads-catalog, leads-catalog_dropped, leads-namespace, leads-namespace_dropped, leads-properties, sound-create_catalog, sound-create_namespace, sound-drop_catalog, sound-drop_namespace, sound-update_properties}
+use Rattle.pol_content_actions.proofs.RulesLemmas.{on_namespace-other}
+use Rattle.pol_content_actions.proofs.SessionsLemmas.{leads-by, limit-opened}
+use Rattle.pol_content_actions.proofs.SoundLemmas.{client-given, opened-sound, scope-given}
+use Rattle.pol_principal_actions.specs.Principals.{client_id_or, new_principal, secret_or}
+use Rattle.pol_principal_actions.proofs.LeadsLemmas.{leads-rotated, leads-with_member, leads-with_new_principal, leads-with_principal_role, leads-without_member, leads-without_principal, leads-without_principal_role}
+use Rattle.pol_principal_actions.proofs.SoundLemmas.{sound-add_member, sound-create_principal, sound-create_principal_role, sound-drop_principal, sound-drop_principal_role, sound-end_member, sound-rotate}
+use Rattle.pol_grant_actions.proofs.LeadsLemmas.{leads-with_catalog_role, leads-with_grant, leads-with_join, leads-without_catalog_role, leads-without_grant, leads-without_join}
+use Rattle.pol_grant_actions.proofs.SoundLemmas.{sound-add_grant, sound-add_join, sound-create_catalog_role, sound-drop_catalog_role, sound-end_join, sound-revoke}
+use Rattle.pol_machine.specs.Machine.{reply_by, acting, next_by, next_state, reply_of, rules_of}
 
--- where a judging function stops an action by a rule that is the first to fail, the action answers so
-stopped-by : {T : Type 0} (s : Rows) (command : Command) (rules : List (Option Refusal)) (after : Rows) (answer : Answer) (rule : Option Refusal) (P : T → Type 0) (why : Stop) → ((refusal : Refusal) → rule ≡ Some refusal → first_refusal rules ≡ Some refusal) → Judges rule P (Err why) → Acts s command rules after answer (Err why)
-stopped-by s command rules after answer rule P (stop.Refused refusal) first judged = first refusal judged
-stopped-by s command rules after answer rule P stop.OutOfMemory first judged = tt
-
-pub acts-stopped : {T : Type 0} (s : Rows) (command : Command) (rules : List (Option Refusal)) (after : Rows) (answer : Answer) (rule : Option Refusal) (P : T → Type 0) (why : Stop) (result : Result Acted Stop) → IsErrAnd result (λ told. told ≡ why) → ((refusal : Refusal) → rule ≡ Some refusal → first_refusal rules ≡ Some refusal) → Judges rule P (Err why) → Acts s command rules after answer result
-acts-stopped s command rules after answer rule P why (Ok acted) told first judged = absurd told
-acts-stopped s command rules after answer rule P why (Err one) told first judged =
-    subst (λ stopped. Acts s command rules after answer (Err stopped)) (sym told) (stopped-by s command rules after answer rule P why first judged)
+-- a reply is the answer exactly where no rule fails
+pub answered-none : (first : Option Refusal) (answer : Answer) → reply_by first answer ≡ Answered answer → first ≡ None
+answered-none None answer is = refl
+answered-none (Some why) answer is = let contrary : Refused why ≡ Answered answer = is in cc
 
 -- a rule that passes first leaves what an action does
 pub acts-past : (s : Rows) (command : Command) (rule : Option Refusal) (rules : List (Option Refusal)) (after : Rows) (answer : Answer) (result : Result Acted Stop) → rule ≡ None → Acts s command rules after answer result → Acts s command (rule ∷ rules) after answer result

@@ -14,10 +14,10 @@ use Rattle.pol_tokens.specs.Text.{text_of_token}
 use Rattle.pol_tokens.specs.Tokens.{has_text, serial_of}
 use Rattle.pol_tokens.specs.declared.session.SessionRow.{SessionRow}
 use Rattle.pol_tokens.proofs.TextLemmas.{decode-serial}
+use Rattle.pol_state.specs.Rows.{Rows}
+use Rattle.pol_state.specs.Sound.{IsSessionOf, IsSound}
+use Rattle.pol_rules.specs.Rules.{kept_if, session_of}
 use Rattle.pol_machine.specs.Agree.{is_live, live_part, Agree}
-use Rattle.pol_machine.specs.Rows.{Rows}
-use Rattle.pol_machine.specs.Rules.{kept_if, session_of}
-use Rattle.pol_machine.specs.Sound.{IsSessionOf, IsSound}
 
 -- of what passes a test, a filter by a weaker one leaves out nothing
 pub filter-weaker : {X : Type 0} (test weaker : X → Bool) (xs : List X) → AllByRecursion (λ x. test x ≡ true → weaker x ≡ true) xs → filter test (filter weaker xs) ≡ filter test xs

@@ -4,9 +4,9 @@ use Rattle.pol_access.specs.Access.{principal_id}
 use Rattle.pol_tables.specs.Table.{knows}
 use Rattle.pol_tokens.specs.Tokens.{TokenRows}
 use Rattle.pol_tokens.specs.declared.session.SessionRow.{SessionRow}
-use Rattle.pol_machine.specs.Changes.{changes_between}
+use Rattle.pol_state.specs.Changes.{changes_between}
 use Rattle.pol_machine.specs.Machine.{next_state, reply_of}
-use Rattle.pol_machine.specs.Rows.{Rows}
+use Rattle.pol_state.specs.Rows.{Rows}
 use Rattle.pol_commands.specs.declared.command.Command.{Command}
 
 -- whether a session is live: the state's time hasn't reached its expiry, and its principal is there

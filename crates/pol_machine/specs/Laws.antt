@@ -1,14 +1,14 @@
 -- Laws of the machine.
 use Rattle.std.specs.Prelude.{◌≡◌, ◌↔◌, ◌≤◌, ◌^◌, true, None, is_some}
 use Rattle.pol_machine.specs.Agree.{live_part, Agree, DoesAlike}
-use Rattle.pol_machine.specs.Applied.{applied}
-use Rattle.pol_machine.specs.Changes.{changes_between}
+use Rattle.pol_state.specs.Applied.{applied}
+use Rattle.pol_state.specs.Changes.{changes_between}
 use Rattle.pol_machine.specs.Machine.{acting, next_state, reply_of, rules_of}
 use Rattle.pol_commands.specs.Proper.{IsProper}
 use Rattle.pol_commands.specs.Reply.{is_run_full}
-use Rattle.pol_machine.specs.Rows.{Rows}
-use Rattle.pol_machine.specs.Rules.{EachPasses, run_full, time_of}
-use Rattle.pol_machine.specs.Sound.{IsSound}
+use Rattle.pol_state.specs.Rows.{Rows}
+use Rattle.pol_rules.specs.Rules.{EachPasses, run_full, time_of}
+use Rattle.pol_state.specs.Sound.{IsSound}
 use Rattle.pol_commands.specs.declared.command.Command.{Command}
 use Rattle.pol_commands.specs.declared.reply.Reply.TheVariants.{Answered}
 

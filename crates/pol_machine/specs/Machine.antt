@@ -1,17 +1,17 @@
 -- The machine: the reply to a command in a state, and the state after it.
-use Rattle.std.specs.Prelude.{◌+◌, List, ◌∷◌, Option, Some, None}
-use Rattle.pol_machine.specs.Rows.{Rows}
-use Rattle.pol_machine.specs.Rules.{run_full, first_refusal, time_of}
-use Rattle.pol_machine.specs.Acting.{Acting}
-use Rattle.pol_machine.specs.CatalogRoles.{create_catalog_role, drop_catalog_role, get_catalog_role, list_catalog_roles}
-use Rattle.pol_machine.specs.Catalogs.{create_catalog, drop_catalog, get_catalog, get_config, list_catalogs}
-use Rattle.pol_machine.specs.Grants.{add_grant, list_grants, revoke}
-use Rattle.pol_machine.specs.Joins.{add_join, end_join, list_joins}
-use Rattle.pol_machine.specs.Members.{add_member, end_member, list_members}
-use Rattle.pol_machine.specs.Namespaces.{create_namespace, drop_namespace, head_namespace, list_namespaces, load_namespace, update_properties}
-use Rattle.pol_machine.specs.PrincipalRoles.{create_principal_role, drop_principal_role, get_principal_role, list_principal_roles}
-use Rattle.pol_machine.specs.Principals.{create_principal, drop_principal, get_principal, list_principals, rotate}
-use Rattle.pol_machine.specs.Sessions.{open_session}
+use Rattle.std.specs.Prelude.{List, ◌∷◌, Option, Some, None}
+use Rattle.pol_state.specs.Rows.{Rows}
+use Rattle.pol_rules.specs.Rules.{run_full, first_refusal}
+use Rattle.pol_rules.specs.Acting.{rows_by, stamped, Acting}
+use Rattle.pol_grant_actions.specs.CatalogRoles.{create_catalog_role, drop_catalog_role, get_catalog_role, list_catalog_roles}
+use Rattle.pol_content_actions.specs.Catalogs.{create_catalog, drop_catalog, get_catalog, get_config, list_catalogs}
+use Rattle.pol_grant_actions.specs.Grants.{add_grant, list_grants, revoke}
+use Rattle.pol_grant_actions.specs.Joins.{add_join, end_join, list_joins}
+use Rattle.pol_principal_actions.specs.Members.{add_member, end_member, list_members}
+use Rattle.pol_content_actions.specs.Namespaces.{create_namespace, drop_namespace, head_namespace, list_namespaces, load_namespace, update_properties}
+use Rattle.pol_principal_actions.specs.PrincipalRoles.{create_principal_role, drop_principal_role, get_principal_role, list_principal_roles}
+use Rattle.pol_principal_actions.specs.Principals.{create_principal, drop_principal, get_principal, list_principals, rotate}
+use Rattle.pol_content_actions.specs.Sessions.{open_session}
 use Rattle.pol_commands.specs.declared.command.Action.{Action}
 use Rattle.pol_commands.specs.declared.command.Action.TheVariants.{OpenSession, GetConfig, ListCatalogs, CreateCatalog, GetCatalog, DropCatalog, ListNamespaces, CreateNamespace, LoadNamespace, HeadNamespace, DropNamespace, UpdateProperties, ListPrincipals, CreatePrincipal, GetPrincipal, DropPrincipal, Rotate, ListMembers, AddMember, EndMember, ListPrincipalRoles, CreatePrincipalRole, GetPrincipalRole, DropPrincipalRole, ListJoins, AddJoin, EndJoin, ListCatalogRoles, CreateCatalogRole, GetCatalogRole, DropCatalogRole, ListGrants, AddGrant, Revoke}
 use Rattle.pol_commands.specs.declared.command.Command.{Command}
@@ -69,15 +69,6 @@ reply_by None answer = Answered answer
 -- the reply to a command
 unfoldable pub reply_of : Rows → Command → Reply
 reply_of s command = reply_by (first_refusal (rules_of s command)) (acting s command command.action).answer
-
--- these rows, with the command's time, and its charge added
-abbrev pub stamped : Rows → Command → Rows → Rows
-stamped s command rows = record rows { time = time_of s command; charged = s.charged + command.charge }
-
--- the rows as they are where a rule fails, else those after the action
-abbrev pub rows_by : Option Refusal → Rows → Rows → Rows
-rows_by (Some why) s after = s
-rows_by None s after = after
 
 -- nothing changes where the run is full; else the time and the charge are taken, whatever the reply
 abbrev pub next_by : Option Refusal → Rows → Rows → Rows

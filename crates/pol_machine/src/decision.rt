@@ -1,27 +1,33 @@
 ghost use Rattle.std.specs.Prelude.{◌≡◌, ◌≤◌, ◌^◌, IfOk};
-ghost use Rattle.pol_machine.specs.Changes.{changes_between};
-ghost use Rattle.pol_machine.specs.Judged.{Acts};
+ghost use Rattle.pol_state.specs.Changes.{changes_between};
+ghost use Rattle.pol_rules.specs.Judged.{Acts};
 ghost use Rattle.pol_machine.specs.Machine.{acting, next_state, reply_of, rules_of};
-ghost use Rattle.pol_machine.specs.Sound.{IsSound};
+ghost use Rattle.pol_state.specs.Sound.{IsSound};
 
-use crate::catalog_roles::{
-    create_catalog_role, drop_catalog_role, get_catalog_role, list_catalog_roles,
+use pol_commands::{Action, Command, Reply};
+use pol_content::Change;
+use pol_content_actions::catalogs::{
+    create_catalog, drop_catalog, get_catalog, get_config, list_catalogs,
 };
-use crate::catalogs::{create_catalog, drop_catalog, get_catalog, get_config, list_catalogs};
-use crate::grants::{add_grant, list_grants, revoke};
-use crate::joins::{add_join, end_join, list_joins};
-use crate::members::{add_member, end_member, list_members};
-use crate::namespaces::{
+use pol_content_actions::namespaces::{
     create_namespace, drop_namespace, head_namespace, list_namespaces, load_namespace,
     update_properties,
 };
-use crate::principal_roles::{
+use pol_content_actions::sessions::open_session;
+use pol_grant_actions::catalog_roles::{
+    create_catalog_role, drop_catalog_role, get_catalog_role, list_catalog_roles,
+};
+use pol_grant_actions::grants::{add_grant, list_grants, revoke};
+use pol_grant_actions::joins::{add_join, end_join, list_joins};
+use pol_principal_actions::members::{add_member, end_member, list_members};
+use pol_principal_actions::principal_roles::{
     create_principal_role, drop_principal_role, get_principal_role, list_principal_roles,
 };
-use crate::principals::{create_principal, drop_principal, get_principal, list_principals, rotate};
-use crate::rules::{Acted, Stop, run_open};
-use crate::sessions::open_session;
-use crate::{Action, Change, Command, Reply, State};
+use pol_principal_actions::principals::{
+    create_principal, drop_principal, get_principal, list_principals, rotate,
+};
+use pol_rules::rules::{Acted, Stop, run_open};
+use pol_state::State;
 use pol_types::{Listed, OutOfMemory};
 use std::alloc::Global;
 

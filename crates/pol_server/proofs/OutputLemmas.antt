@@ -14,7 +14,7 @@ use Rattle.pol_http.specs.Message.{HasAskingHead, IsMessage, IsNotRefused, IsRef
 use Rattle.pol_http.proofs.HeadLemmas.{length-print_request}
 use Rattle.pol_http.proofs.MessageLemmas.{length-message, message_not_refused, message_unique, refused_stays, refused_unique}
 use Rattle.pol_machine.specs.Machine.{reply_of}
-use Rattle.pol_machine.specs.Rows.{Rows}
+use Rattle.pol_state.specs.Rows.{Rows}
 use Rattle.pol_answers.specs.Texts.{answer_of, refusal_answer}
 use Rattle.pol_routes.specs.Plan.{command_of, plan_of}
 use Rattle.pol_routes.specs.declared.plans.Planned.{Planned}

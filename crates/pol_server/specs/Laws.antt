@@ -1,7 +1,7 @@
 -- Laws of served links.
 use Rattle.std.specs.Prelude.{◌≡◌, ◌≢◌, ◌<◌, ◌≤◌, ◌-◌, ◌^◌, ⊤, ℕ, List, [], length, Some}
 use Rattle.std.specs.List.{AllByRecursion}
-use Rattle.pol_machine.specs.Rows.{Rows}
+use Rattle.pol_state.specs.Rows.{Rows}
 use Rattle.pol_shared.specs.declared.entry.Entry.{Entry}
 use Rattle.pol_server.specs.Ends.{Ends}
 use Rattle.pol_server.specs.Link.{ServesLink, taken_bound}

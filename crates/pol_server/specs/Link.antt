@@ -6,7 +6,7 @@ use Rattle.pol_http.specs.Answer.{answer_text}
 use Rattle.pol_http.specs.Message.{HasAskingHead, HasNoMessage, IsMessage, IsNotRefused, IsRefusedAs, print_message}
 use Rattle.pol_http.specs.declared.answer.TheConstants.{CONTINUE, INSUFFICIENT_STORAGE}
 use Rattle.pol_http.specs.declared.head.HeadRefused.{HeadRefused}
-use Rattle.pol_machine.specs.Rows.{Rows}
+use Rattle.pol_state.specs.Rows.{Rows}
 use Rattle.pol_answers.specs.Texts.{head_refused_answer}
 use Rattle.pol_shared.specs.declared.entry.Entry.{Entry}
 use Rattle.pol_wire.specs.Faults.{Rises}

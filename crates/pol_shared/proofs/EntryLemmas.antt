@@ -1,12 +1,12 @@
 -- What an entry more leads to.
 use Rattle.std.proofs.Common.{◌≡◌, ℕ, ◌+◌, ◌≤◌, ◌^◌, List, [], ◌∷◌, ◌++◌, sym, ap, ◌∙◌}
 use Rattle.std.proofs.lemmas.List.Sums.{fold_push}
-use Rattle.pol_machine.specs.Applied.{applied}
-use Rattle.pol_machine.specs.Changes.{changes_between}
+use Rattle.pol_state.specs.Applied.{applied}
+use Rattle.pol_state.specs.Changes.{changes_between}
 use Rattle.pol_machine.specs.Machine.{next_state}
-use Rattle.pol_machine.specs.Rows.{Rows}
-use Rattle.pol_machine.specs.Rules.{time_of}
-use Rattle.pol_machine.specs.Sound.{IsSound}
+use Rattle.pol_state.specs.Rows.{Rows}
+use Rattle.pol_rules.specs.Rules.{time_of}
+use Rattle.pol_state.specs.Sound.{IsSound}
 use Rattle.pol_content.specs.declared.change.Change.{Change}
 use Rattle.pol_commands.specs.declared.command.Command.{Command}
 use Rattle.pol_machine.proofs.DecisionLemmas.{changes-lead}

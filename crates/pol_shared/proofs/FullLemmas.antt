@@ -3,8 +3,8 @@ use Rattle.std.proofs.Common.{◌≡◌, ◌≢◌, ℕ, ◌+◌, ◌<◌, ◌�
 use Rattle.std.proofs.lemmas.Bool.{cases_lt, le-ltb, lt-ltb}
 use Rattle.pol_machine.specs.Machine.{acting, reply_by, reply_of}
 use Rattle.pol_commands.specs.Reply.{is_run_full}
-use Rattle.pol_machine.specs.Rows.{Rows}
-use Rattle.pol_machine.specs.Rules.{first_refusal, refuse_if, run_full}
+use Rattle.pol_state.specs.Rows.{Rows}
+use Rattle.pol_rules.specs.Rules.{first_refusal, refuse_if, run_full}
 use Rattle.pol_commands.specs.declared.command.Command.{Command}
 use Rattle.pol_commands.specs.declared.reply.Refusal.{Refusal}
 use Rattle.pol_commands.specs.declared.reply.Refusal.TheVariants.{RunFull}

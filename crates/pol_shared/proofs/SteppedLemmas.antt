@@ -1,7 +1,7 @@
 -- What a step tells, by the reply.
 use Rattle.std.proofs.Common.{◌≡◌, ◌≢◌, ℕ, ◌+◌, ◌≤◌, ◌^◌, length, refl, sym, ap, subst, ◌∙◌, arith}
 use Rattle.pol_machine.specs.Machine.{reply_of}
-use Rattle.pol_machine.specs.Rows.{Rows}
+use Rattle.pol_state.specs.Rows.{Rows}
 use Rattle.pol_commands.specs.declared.command.Command.{Command}
 use Rattle.pol_commands.specs.declared.reply.Refusal.TheVariants.{RunFull}
 use Rattle.pol_commands.specs.declared.reply.Reply.{Reply}

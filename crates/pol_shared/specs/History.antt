@@ -3,7 +3,7 @@ use Rattle.std.specs.Prelude.{List, []}
 use Rattle.std.specs.Prelude.{◌∷◌, ◌++◌}
 use Rattle.std.specs.List.{fold}
 use Rattle.pol_machine.specs.Machine.{next_state}
-use Rattle.pol_machine.specs.Rows.{Rows}
+use Rattle.pol_state.specs.Rows.{Rows}
 use Rattle.pol_shared.specs.declared.entry.Entry.{Entry}
 
 -- the state at the opening, and the history since

@@ -1,10 +1,10 @@
 //! The parts of a step, over the state and the history themselves.
 ghost use Rattle.std.specs.Prelude.{ℕ, ◌≡◌, ◌≢◌, ◌<◌, ◌≤◌, ◌+◌, ◌^◌, [], ◌∷◌, ◌++◌, length, vec_len, vec_capacity, IfOk, MatchOption, OnOk};
 ghost use Rattle.pol_commands.specs.Proper.{IsProper};
-ghost use Rattle.pol_machine.specs.Applied.{HasRoom};
-ghost use Rattle.pol_machine.specs.Changes.{changes_between};
+ghost use Rattle.pol_state.specs.Applied.{HasRoom};
+ghost use Rattle.pol_state.specs.Changes.{changes_between};
 ghost use Rattle.pol_machine.specs.Machine.{next_state, reply_of};
-ghost use Rattle.pol_machine.specs.Sound.{IsSound};
+ghost use Rattle.pol_state.specs.Sound.{IsSound};
 
 use crate::{Entry, Render};
 use pol_machine::{Change, Command, Decision, Refusal, Reply, State, decide};

@@ -1,7 +1,7 @@
 ghost use Rattle.std.specs.Prelude.{◌≡◌, ◌≤◌, ◌^◌, [], IfOk};
 ghost use Rattle.pol_commands.specs.Proper.{IsProper};
-ghost use Rattle.pol_machine.specs.Rows.{fresh_state};
-ghost use Rattle.pol_machine.specs.Sound.{IsSound};
+ghost use Rattle.pol_state.specs.Rows.{fresh_state};
+ghost use Rattle.pol_state.specs.Sound.{IsSound};
 ghost use Rattle.pol_shared.specs.History.{state_of};
 ghost use Rattle.pol_shared.specs.Stepped.{Steps};
 
@@ -23,7 +23,7 @@ pub struct Kept {
 
 impl Model for Kept {
     ghost use Rattle.std.specs.Prelude.{◌≡◌};
-    ghost use Rattle.pol_machine.specs.Sound.{IsSound};
+    ghost use Rattle.pol_state.specs.Sound.{IsSound};
     ghost use Rattle.pol_shared.specs.History.{Log, state_at};
 
     ghost Value = { Log };

@@ -1,7 +1,7 @@
 //! A run whose charges are at their bound, and a state without a serial left.
 ghost use Rattle.std.specs.Prelude.{◌≡◌, ◌≤◌, ◌^◌, IfOk, ⊤};
 ghost use Rattle.pol_commands.specs.Proper.{IsProper};
-ghost use Rattle.pol_machine.specs.Sound.{IsSound};
+ghost use Rattle.pol_state.specs.Sound.{IsSound};
 
 use pol_machine::{
     Action, Answer, Caller, Change, Command, Quantity, Refusal, Reply, State, Words4, decide,

@@ -1,10 +1,10 @@
 use Rattle.std.proofs.Common.{◌∷◌, sym, subst}
-use Rattle.pol_machine.specs.Acting.{Acting}
-use Rattle.pol_machine.specs.Catalogs.{create_catalog}
-use Rattle.pol_machine.specs.Joins.{list_joins}
-use Rattle.pol_machine.specs.Judged.{Acts}
+use Rattle.pol_rules.specs.Acting.{Acting}
+use Rattle.pol_content_actions.specs.Catalogs.{create_catalog}
+use Rattle.pol_grant_actions.specs.Joins.{list_joins}
+use Rattle.pol_rules.specs.Judged.{Acts}
 use Rattle.pol_machine.specs.Machine.{acting}
-use Rattle.pol_machine.specs.Rules.{run_full}
+use Rattle.pol_rules.specs.Rules.{run_full}
 use Rattle.pol_commands.specs.declared.command.Action.{Action}
 use Rattle.pol_machine.proofs.DecisionLemmas.{acts-past}
 use Rattle.pol_machine.proofs.decision.act.Goals as goal

@@ -1,5 +1,5 @@
 use Rattle.std.proofs.Common.{ap, sym, ◌∙◌}
-use Rattle.pol_machine.specs.Changes.{changes_between}
+use Rattle.pol_state.specs.Changes.{changes_between}
 use Rattle.pol_commands.specs.declared.reply.Reply.TheVariants.{Answered}
 use Rattle.pol_machine.proofs.DecisionLemmas.{changes-refused, next-answered, reply-answered, reply-refused}
 use Rattle.pol_machine.proofs.decision.decide.Goals as goal

@@ -1,6 +1,6 @@
 use Rattle.std.proofs.Common.{◌≡◌, arith, subst, sym, ◌∙◌}
-use Rattle.pol_machine.specs.Rules.{time_of}
-use Rattle.pol_machine.specs.Sound.{IsSound}
+use Rattle.pol_rules.specs.Rules.{time_of}
+use Rattle.pol_state.specs.Sound.{IsSound}
 use Rattle.pol_machine.proofs.DecisionLemmas.{next-sound}
 use Rattle.pol_shared.proofs.EntryLemmas.{changes-enter}
 use Rattle.pol_shared.proofs.doing.enter.Goals as goal

@@ -1,10 +1,10 @@
 use Rattle.std.proofs.Common.{◌≡◌, ◌≤◌, ◌^◌, ℕ, List, [], ◌∷◌, arith, ap, subst, sym, lit≤, ◌∙◌}
-use Rattle.pol_machine.specs.Applied.{applied, HasRoom}
-use Rattle.pol_machine.specs.Rows.{fresh_state, Room}
-use Rattle.pol_machine.specs.Sound.{IsSound}
+use Rattle.pol_state.specs.Applied.{applied, HasRoom}
+use Rattle.pol_state.specs.Rows.{fresh_state, Room}
+use Rattle.pol_state.specs.Sound.{IsSound}
 use Rattle.pol_content.specs.declared.change.Change.{Change}
 use Rattle.pol_content.specs.declared.change.Change.TheVariants.{NextSerial}
-use Rattle.pol_machine.proofs.FreshLemmas.{fresh-sound}
+use Rattle.pol_state.proofs.FreshLemmas.{fresh-sound}
 use Rattle.pol_server_tests.proofs.tests.bounds.raised.Goals as goal
 
 raised-sound : (secret : List ℕ) (serial charged : ℕ) → serial ≤ 2 ^ 62 → charged ≤ 2 ^ 30 → IsSound (applied (NextSerial serial ∷ []) 0 charged (fresh_state secret))

@@ -1,5 +1,5 @@
 use Rattle.std.proofs.Common.{sym, subst}
-use Rattle.pol_machine.specs.Sound.{IsSound}
+use Rattle.pol_state.specs.Sound.{IsSound}
 use Rattle.pol_shared.specs.History.{state_at}
 use Rattle.pol_shared.proofs.kept.Kept.fresh.Goals as goal
 

@@ -1,6 +1,6 @@
 use Rattle.std.proofs.Common.{◌≡◌, ◌+◌, ◌≤◌, ◌^◌, List, [], ◌∷◌, ◌++◌, length, subst, sym, ap, ◌∙◌}
 use Rattle.pol_machine.specs.Machine.{next_state}
-use Rattle.pol_machine.specs.Rows.{Rows}
+use Rattle.pol_state.specs.Rows.{Rows}
 use Rattle.pol_shared.specs.History.{Log, entered, state_at, state_of}
 use Rattle.pol_shared.specs.declared.entry.Entry.{Entry}
 use Rattle.pol_shared.proofs.EntryLemmas.{state_at-push}

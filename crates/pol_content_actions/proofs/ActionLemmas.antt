@@ -1,0 +1,313 @@
+-- The actions on catalogues and namespaces: where their changes lead, and that they keep a state sound.
+use Rattle.std.proofs.Common.{◌≡◌, ℕ, ◌+◌, ◌<◌, ◌≤◌, ◌^◌, Bool, true, false, not, ◌&&◌, ◌||◌, ◌==◌, codes, List, [], ◌∷◌, ◌++◌, filter, map, length, Option, None, Some, is_some, refl, sym, ap, subst, ◌∙◌, inl, inr, arith, true≢false}
+use Rattle.std.specs.List.{fold}
+use Rattle.std.specs.Option.{option_map}
+use Rattle.std.specs.Str.{bytes_eq}
+use Rattle.std.proofs.lemmas.Bool.{cases_Bool, eq-eqb, ne_eqb}
+use Rattle.pol_access.specs.Access.{AccessRows, catalog_role_id, has_other_role, principal_role_id}
+use Rattle.pol_access.specs.Names.{catalog_role_named, has_catalog_role_name, has_role_name, principal_role_named}
+use Rattle.pol_access.specs.Order.{grants_in_order, joins_in_order}
+use Rattle.pol_access.specs.Privilege.{grantable}
+use Rattle.pol_access.specs.Referent.{grant_names, join_names}
+use Rattle.pol_access.specs.contracts.rows.GrantRow as grant
+use Rattle.pol_access.specs.contracts.rows.JoinRow as join
+use Rattle.pol_access.specs.declared.privilege.Privilege.TheVariants.{CatalogManageAccess, CatalogManageContent}
+use Rattle.pol_access.specs.declared.referent.Referent.TheVariants as referent
+use Rattle.pol_access.specs.declared.rows.CatalogRoleRow.{CatalogRoleRow}
+use Rattle.pol_access.specs.declared.rows.PrincipalRoleRow.{PrincipalRoleRow}
+use Rattle.pol_access.specs.declared.securable.Securable.TheVariants as securable
+use Rattle.pol_access.specs.declared.securable.SecurableKind.TheVariants as kind
+use Rattle.pol_access.proofs.SoundLemmas.{dropped_catalog_roles, dropped_grants, pushed_catalog_role, put_grant, put_join, more_ids as access_more_ids}
+use Rattle.pol_tables.specs.Facts.{facts_with}
+use Rattle.pol_tables.specs.Same.{same}
+use Rattle.pol_tables.specs.Table.{has_id, knows, row_of, rows_with, rows_without, IdsDiffer}
+use Rattle.pol_tables.proofs.ListLemmas.{each-weaken, or_true}
+use Rattle.pol_tables.proofs.NamedLemmas.{each-own, find-none}
+use Rattle.pol_tables.proofs.NumberedLemmas.{below-next}
+use Rattle.pol_tables.proofs.RisingLemmas.{IdsDiffer-rising, knows-below}
+use Rattle.pol_tables.proofs.SameLemmas.{same-true}
+use Rattle.pol_tables.proofs.TableLemmas.{is_some-row_of, rows_with-known, rows_with-new, rows_with-same, some_is}
+use Rattle.pol_content.specs.Content.{ContentRows, catalog_id, catalog_is_empty, catalog_named, first_missing, is_empty, is_namespace_named, namespace_id, namespace_named}
+use Rattle.pol_content.specs.Sound.{IsSoundContent}
+use Rattle.pol_content.specs.Ties.{admin_grant, admin_join, admin_of, is_access_id, with_admin}
+use Rattle.pol_content.specs.contracts.rows.NamespaceRow.{the_row}
+use Rattle.pol_content.specs.declared.change.Change.TheVariants.{Time, NextId, DropCatalogRole, DropGrant, DropJoin, PutNamespace}
+use Rattle.pol_content.specs.declared.rows.CatalogRow.{CatalogRow}
+use Rattle.pol_content.specs.declared.rows.NamespaceRow.{NamespaceRow}
+use Rattle.pol_content.proofs.SoundLemmas.{dropped_catalog, dropped_namespace, more_ids, new_rows_last, pushed_catalog, pushed_namespace, replaced_namespace, whole_path}
+use Rattle.pol_content.proofs.TiedContentLemmas as ties
+use Rattle.pol_content.proofs.TiedContentLemmas.{created_catalog, put_namespace}
+use Rattle.pol_content.proofs.TiesLemmas.{new_ids, or-parts}
+use Rattle.pol_names.specs.Namespace.{parent_of}
+use Rattle.pol_properties.specs.Properties.{pairs_updated}
+use Rattle.pol_properties.specs.declared.property.Property.{Property}
+use Rattle.pol_commands.specs.declared.command.Command.{Command}
+use Rattle.pol_commands.specs.declared.reply.Quantity.TheVariants as quantity
+use Rattle.pol_commands.specs.declared.reply.Refusal.{Refusal}
+use Rattle.pol_commands.specs.declared.reply.Refusal.TheVariants.{NoNamespace}
+use Rattle.pol_state.specs.Applied.{changed}
+use Rattle.pol_state.specs.Rows.{Rows}
+use Rattle.pol_state.specs.Sound.{IsCatalogRoleOf, IsGiven, IsSound, IsSoundAccess}
+use Rattle.pol_state.proofs.AppliedLemmas.{grants-dropped, joins-dropped, roles-dropped, three-dropped, with_joins, with_roles}
+use Rattle.pol_state.proofs.ChangesLemmas.{filter-twice}
+use Rattle.pol_rules.specs.Acting.{done, rows_by, stamped}
+use Rattle.pol_rules.specs.Rules.{above, catalog_holds, catalog_taken, first_refusal, given, namespace_holds, namespace_taken, no_namespace, no_parent, over_limit, time_of}
+use Rattle.pol_rules.proofs.LimitsLemmas.{above-within, length-facts_with}
+use Rattle.pol_rules.proofs.RulesLemmas.{EachPasses-none, refused-not, nothing}
+use Rattle.pol_rules.proofs.FoundLemmas.{found-holds, catalog-own}
+use Rattle.pol_rules.proofs.SoundLemmas.{next_id-some, stamped-sound, tables-sound, IsWithin}
+use Rattle.pol_rules.proofs.LeadsLemmas.{Leads, leads-same, leads-by}
+use Rattle.pol_content_actions.specs.Catalogs.{create_catalog, drop_catalog, new_catalog, with_catalog, without_catalog}
+use Rattle.pol_content_actions.specs.Namespaces.{create_namespace, drop_namespace, in_catalog, namespace_at, update_properties, with_altered, with_namespace, with_properties, without_namespace}
+use Rattle.pol_content_actions.proofs.ChangesLemmas.{changes-altered, changes-unaltered, changes-with_catalog, changes-with_namespace, changes-without_catalog, changes-without_namespace}
+use Rattle.pol_content_actions.proofs.LimitsLemmas.{admin-last, altered_limits, catalog_limits, namespace_limits, unknown-later}
+
+-- both grants of a `catalog_admin` are of privileges that may be granted on a catalogue
+may_have_access : grantable CatalogManageAccess kind.Catalog ≡ true
+unfolding grantable
+may_have_access = refl
+
+may_have_content : grantable CatalogManageContent kind.Catalog ≡ true
+unfolding grantable
+may_have_content = refl
+
+-- a row that goes last is there
+knows-last : {R : Type 0} (key : R → ℕ) (row : R) (rows : List R) → knows key (key row) (rows ++ row ∷ []) ≡ true
+knows-last key row [] = ap (λ b. b || false) (eq-eqb (key row) (key row) refl)
+knows-last key row (first ∷ rows) = ap (λ b. has_id key (key row) first || b) (knows-last key row rows) ∙ or_true (has_id key (key row) first)
+
+not_not : (b : Bool) → not b ≡ false → b ≡ true
+not_not true is = refl
+not_not false is = sym is
+
+module _ (s : Rows) where
+  catalog-free : (name : List ℕ) → catalog_taken s name ≡ None → catalog_named name s.content ≡ None
+  unfolding catalog_taken
+  catalog-free name passes = nothing (catalog_named name s.content) (refused-not (is_some (catalog_named name s.content)) _ passes)
+
+  levels-free : (levels : List (List ℕ)) (catalog : CatalogRow) → namespace_taken s levels catalog ≡ None → namespace_named catalog.id levels s.content ≡ None
+  unfolding namespace_taken
+  levels-free levels catalog passes =
+      nothing (namespace_named catalog.id levels s.content) (refused-not (is_some (namespace_named catalog.id levels s.content)) _ passes)
+
+  catalog-empty : (catalog : CatalogRow) → catalog_holds s catalog ≡ None → catalog_is_empty catalog.id s.content ≡ true
+  unfolding catalog_holds
+  catalog-empty catalog passes =
+      not_not _ (or-parts (not (catalog_is_empty catalog.id s.content)) (has_other_role catalog.id (codes "catalog_admin") s.access) (refused-not (not (catalog_is_empty catalog.id s.content) || has_other_role catalog.id (codes "catalog_admin") s.access) _ passes)).0
+
+  namespace-empty : (namespace : NamespaceRow) → namespace_holds s namespace ≡ None → is_empty namespace.id s.content ≡ true
+  unfolding namespace_holds
+  namespace-empty namespace passes = not_not _ (refused-not (not (is_empty namespace.id s.content)) _ passes)
+
+  mapped-none : (found : Option (List (List ℕ))) → option_map NoNamespace found ≡ None → found ≡ None
+  mapped-none None none = refl
+  mapped-none (Some path) some = let contrary : Some (NoNamespace path) ≡ None = some in cc
+
+  path-whole : (catalog : ℕ) (levels : List (List ℕ)) → no_namespace s catalog levels ≡ None → first_missing catalog levels s.content ≡ None
+  unfolding no_namespace
+  path-whole catalog levels passes = mapped-none (first_missing catalog levels s.content) passes
+
+  parents-whole : (catalog : ℕ) (levels : List (List ℕ)) → no_parent s catalog (parent_of levels) ≡ None → (parent : List (List ℕ)) → parent_of levels ≡ Some parent → first_missing catalog parent s.content ≡ None
+  parents-whole catalog levels passes parent is =
+      path-whole catalog parent (sym (ap (no_parent s catalog) is) ∙ passes)
+
+module _ (s : Rows) (command : Command) where
+  module _ (sound : IsSound s) where
+    namespaces-differ : IdsDiffer namespace_id s.content.namespaces
+    namespaces-differ = IdsDiffer-rising namespace_id s.content.namespaces sound.content.namespaces.rise
+
+    -- and the principal role of a name
+    service-own : (row : PrincipalRoleRow) → principal_role_named (codes "service_admin") s.access ≡ Some row → row_of principal_role_id row.id s.access.principal_roles ≡ Some row
+    service-own row found =
+        found-holds (λ one. row_of principal_role_id (principal_role_id one) s.access.principal_roles ≡ Some one) (has_role_name (codes "service_admin")) s.access.principal_roles row (each-own principal_role_id s.access.principal_roles (IdsDiffer-rising principal_role_id s.access.principal_roles sound.access.principal_roles.rise)) found
+
+    own-at : (levels : List (List ℕ)) (row : NamespaceRow) (found : Option CatalogRow) → in_catalog s levels found ≡ Some row → row_of namespace_id row.id s.content.namespaces ≡ Some row
+    own-at levels row None found = let contrary : None ≡ Some row = found in cc
+    own-at levels row (Some catalog) found =
+        found-holds (λ one. row_of namespace_id (namespace_id one) s.content.namespaces ≡ Some one) (is_namespace_named catalog.id levels) s.content.namespaces row (each-own namespace_id s.content.namespaces namespaces-differ) found
+
+    namespace-own : (name : List ℕ) (levels : List (List ℕ)) (row : NamespaceRow) → namespace_at s name levels ≡ Some row → row_of namespace_id row.id s.content.namespaces ≡ Some row
+    unfolding namespace_at
+    namespace-own name levels row found = own-at levels row (catalog_named name s.content) found
+
+    -- where each action leads
+    pub leads-catalog : (row : CatalogRow) (found : Option PrincipalRoleRow) → row.id ≡ s.next_id → Leads s command (done s found (with_catalog s row))
+    leads-catalog row None id = leads-same s command
+    leads-catalog row (Some service) id =
+        let admin = admin-last s sound row.id service.id id in
+        leads-by s command (with_catalog s row service) _ (changes-with_catalog s sound (time_of s command) (s.charged + command.charge) row service id admin.0 admin.1) refl
+
+    pub leads-catalog_dropped : (name : List ℕ) (found : Option CatalogRow) → catalog_named name s.content ≡ found → Leads s command (done s found (without_catalog s))
+    leads-catalog_dropped name None found = leads-same s command
+    leads-catalog_dropped name (Some row) found =
+        let t : Rows = record s { time = time_of s command; content = record s.content { catalogs = rows_without catalog_id row.id s.content.catalogs } } in
+        let keep : CatalogRoleRow → Bool = λ role. not (role.catalog == row.id) in
+        let roles = map DropCatalogRole (map catalog_role_id (filter (λ role. role.catalog == row.id) s.access.catalog_roles)) in
+        let joins = map DropJoin (joins_in_order (filter (join_names s.access.catalog_roles (referent.RoleOfCatalog row.id)) s.access.joins)) in
+        let grants = map DropGrant (grants_in_order (filter (grant_names s.access.catalog_roles (referent.RoleOfCatalog row.id)) s.access.grants)) in
+        let first = ap (λ gone. fold changed t (map DropCatalogRole (map catalog_role_id gone))) (sym (filter-twice (λ role. role.catalog == row.id) s.access.catalog_roles)) ∙ roles-dropped t keep sound.access.catalog_roles.rise in
+        leads-by s command (without_catalog s row) _ (changes-without_catalog s sound (time_of s command) (s.charged + command.charge) row (catalog-own s command sound name row found)) (
+        ap (λ (after : Rows). record after { time = time_of s command; charged = after.charged + command.charge }) (
+        three-dropped t roles joins grants
+        ∙ ap (λ (after : Rows). fold changed (fold changed after joins) grants) first
+        ∙ ap (λ (after : Rows). fold changed after grants) (joins-dropped (with_roles t (filter keep s.access.catalog_roles)) (join_names s.access.catalog_roles (referent.RoleOfCatalog row.id)))
+        ∙ grants-dropped (with_joins (with_roles t (filter keep s.access.catalog_roles)) (filter (λ kept. not (join_names s.access.catalog_roles (referent.RoleOfCatalog row.id) kept)) s.access.joins)) (grant_names s.access.catalog_roles (referent.RoleOfCatalog row.id))
+        )
+        )
+
+    pub leads-namespace : (levels : List (List ℕ)) (properties : List Property) (found : Option CatalogRow) → Leads s command (done s found (with_namespace s levels properties))
+    leads-namespace levels properties None = leads-same s command
+    leads-namespace levels properties (Some catalog) =
+        let row : NamespaceRow = record { id = s.next_id; catalog = catalog.id; levels = levels; properties = properties } in
+        leads-by s command (with_namespace s levels properties catalog) (Time (time_of s command) ∷ NextId (s.next_id + 1) ∷ PutNamespace row ∷ []) (changes-with_namespace s sound (time_of s command) (s.charged + command.charge) row refl) refl
+
+    pub leads-namespace_dropped : (name : List ℕ) (levels : List (List ℕ)) (found : Option NamespaceRow) → namespace_at s name levels ≡ found → Leads s command (done s found (without_namespace s))
+    leads-namespace_dropped name levels None found = leads-same s command
+    leads-namespace_dropped name levels (Some row) found =
+        let t : Rows = record s { time = time_of s command; content = record s.content { namespaces = rows_without namespace_id row.id s.content.namespaces } } in
+        leads-by s command (without_namespace s row) _ (changes-without_namespace s sound (time_of s command) (s.charged + command.charge) row (namespace-own name levels row found))
+        (ap (λ (after : Rows). record after { time = time_of s command; charged = after.charged + command.charge }) (grants-dropped t (grant_names s.access.catalog_roles (referent.Securable (securable.Namespace row.id)))))
+
+    unaltered : (row : NamespaceRow) → row_of namespace_id row.id s.content.namespaces ≡ Some row → with_altered s row ≡ s
+    unaltered row there =
+        let known = sym (is_some-row_of namespace_id row.id s.content.namespaces) ∙ ap is_some there in
+        ap (λ rows. record s { content = record s.content { namespaces = rows } }) (rows_with-known namespace_id row s.content.namespaces known ∙ rows_with-same namespace_id row s.content.namespaces namespaces-differ there)
+
+    leads-altered : (row old : NamespaceRow) → row_of namespace_id row.id s.content.namespaces ≡ Some old → Leads s command (with_altered s row)
+    leads-altered row old there = elim (cases_Bool (same the_row.coded row old)) [
+      | inl as_is ↦
+          let own : row_of namespace_id row.id s.content.namespaces ≡ Some row = there ∙ ap Some (sym (same-true the_row.coded row old as_is)) in
+          leads-by s command (with_altered s row) [] (changes-unaltered s sound (time_of s command) (s.charged + command.charge) row own) (ap (stamped s command) (sym (unaltered row own)))
+      | inr other ↦
+          leads-by s command (with_altered s row) (Time (time_of s command) ∷ PutNamespace row ∷ []) (changes-altered s sound (time_of s command) (s.charged + command.charge) row old there other) refl
+    ]
+
+    pub leads-properties : (name : List ℕ) (levels removals : List (List ℕ)) (updates : List Property) (found : Option NamespaceRow) → namespace_at s name levels ≡ found → Leads s command (done s found (with_properties s removals updates))
+    leads-properties name levels removals updates None found = leads-same s command
+    leads-properties name levels removals updates (Some row) found =
+        leads-altered (record row { properties = pairs_updated removals updates row.properties }) row (namespace-own name levels row found)
+
+    module _ (within : IsWithin s command) where
+      -- a catalogue that is put, with its `catalog_admin`
+      admin-named : (catalog : ℕ) → catalog ≡ s.next_id → catalog_role_named catalog (codes "catalog_admin") s.access ≡ None
+      admin-named catalog id =
+          find-none (has_catalog_role_name catalog (codes "catalog_admin")) s.access.catalog_roles (each-weaken (IsCatalogRoleOf s.next_id s.access) (λ row. has_catalog_role_name catalog (codes "catalog_admin") row ≡ false) s.access.catalog_roles (λ row known. ap (λ b. b && bytes_eq (codes "catalog_admin") row.name) (ne_eqb row.catalog catalog (λ is. let below = known.catalog.1 in omega (arith, below, is, id)))) sound.access.catalog_roles_known)
+
+      access-with_admin : (row : CatalogRow) (service : PrincipalRoleRow) → row.id ≡ s.next_id → principal_role_named (codes "service_admin") s.access ≡ Some service → length s.access.catalog_roles + 1 ≤ 10000 → length s.access.joins + 1 ≤ 100000 → length s.access.grants + 2 ≤ 100000
+          → IsSoundAccess (s.next_id + 2) (with_admin row.id service.id s.access)
+      access-with_admin row service id there roles joins grants =
+          let catalog = row.id in
+          let next = s.next_id + 1 in
+          let more = access_more_ids s.next_id next s.access (omega arith) sound.access in
+          let given : IsGiven next catalog = (omega (arith, id, next_id-some s sound), omega (arith, id)) in
+          let given_later : IsGiven (s.next_id + 2) catalog = (omega (arith, id, next_id-some s sound), omega (arith, id)) in
+          let new = admin-last s sound catalog service.id id in
+          let two_more : next + 1 ≡ s.next_id + 2 = omega arith in
+          let pushed = subst (λ high. IsSoundAccess high (record s.access { catalog_roles = s.access.catalog_roles ++ admin_of catalog ∷ [] })) two_more (pushed_catalog_role next s.access (admin_of catalog) more (omega arith) (let same : catalog + 1 ≡ next = omega (arith, id) in same) given (admin-named catalog id) (omega (arith, roles))) in
+          let first : AccessRows = record s.access { catalog_roles = s.access.catalog_roles ++ admin_of catalog ∷ [] } in
+          let role_there = knows-last catalog_role_id (admin_of catalog) s.access.catalog_roles in
+          let service_there = sym (is_some-row_of principal_role_id service.id s.access.principal_roles) ∙ ap is_some (service-own service there) in
+          let joined = put_join (s.next_id + 2) first (admin_join service.id catalog) pushed service_there role_there (length-facts_with join.the_row.coded (admin_join service.id catalog) s.access.joins 100000 joins) in
+          let second : AccessRows = record first { joins = facts_with join.the_row.coded (admin_join service.id catalog) s.access.joins } in
+          let one = admin_grant CatalogManageAccess catalog in
+          let two = admin_grant CatalogManageContent catalog in
+          let managed = put_grant (s.next_id + 2) second one joined (record { role = role_there; securable = given_later; allowed = may_have_access }) (length-facts_with grant.the_row.coded one s.access.grants 100000 (omega (arith, grants))) in
+          let once = length-facts_with grant.the_row.coded one s.access.grants 99999 (omega (arith, grants)) in
+          let third : AccessRows = record second { grants = facts_with grant.the_row.coded one s.access.grants } in
+          let filled = put_grant (s.next_id + 2) third two managed (record { role = role_there; securable = given_later; allowed = may_have_content }) (length-facts_with grant.the_row.coded two (facts_with grant.the_row.coded one s.access.grants) 100000 (omega (arith, once))) in
+          subst (λ catalog_roles. IsSoundAccess (s.next_id + 2) (record (with_admin catalog service.id s.access) { catalog_roles = catalog_roles })) (sym (rows_with-new catalog_role_id (admin_of catalog) s.access.catalog_roles new.0.role)) filled
+
+      sound-with_catalog : (row : CatalogRow) (service : PrincipalRoleRow) → row.id ≡ s.next_id → principal_role_named (codes "service_admin") s.access ≡ Some service → catalog_named row.name s.content ≡ None → over_limit (with_catalog s row service) ≡ None → IsSound (stamped s command (with_catalog s row service))
+      sound-with_catalog row service id there free few =
+          let bounds = EachPasses-none (above quantity.Catalogs 1000 (length s.content.catalogs + 1) ∷ above quantity.CatalogRoles 10000 (length s.access.catalog_roles + 1) ∷ above quantity.Joins 100000 (length s.access.joins + 1) ∷ above quantity.Grants 100000 (length s.access.grants + 2) ∷ above quantity.AllowedLocations 100 (length row.allowed) ∷ above quantity.Properties 1000 (length row.properties) ∷ above quantity.NextId (2 ^ 62) (s.next_id + 2) ∷ []) (sym (catalog_limits s sound row service id) ∙ few) in
+          let count = above-within quantity.Catalogs 1000 (length s.content.catalogs + 1) bounds.0 in
+          let roles = above-within quantity.CatalogRoles 10000 (length s.access.catalog_roles + 1) bounds.1.0 in
+          let joins = above-within quantity.Joins 100000 (length s.access.joins + 1) bounds.1.1.0 in
+          let grants = above-within quantity.Grants 100000 (length s.access.grants + 2) bounds.1.1.1.0 in
+          let allowed = above-within quantity.AllowedLocations 100 (length row.allowed) bounds.1.1.1.1.0 in
+          let properties = above-within quantity.Properties 1000 (length row.properties) bounds.1.1.1.1.1.0 in
+          let next = above-within quantity.NextId (2 ^ 62) (s.next_id + 2) bounds.1.1.1.1.1.1.0 in
+          let room : length s.content.catalogs < 1000 = omega (arith, count) in
+          let pushed = pushed_catalog s.next_id s.content row sound.content (next_id-some s sound) id free room (record { allowed = allowed; properties = properties }) in
+          let last = (new_rows_last s.next_id s.content sound.content).0 row id in
+          let put = subst (λ rows. IsSoundContent (s.next_id + 1) (record s.content { catalogs = rows })) (sym last) pushed in
+          let after : ContentRows = record s.content { catalogs = rows_with catalog_id row s.content.catalogs } in
+          let tied = created_catalog s.access s.content sound.ties row service there (new_ids s.next_id row.id s.content sound.content (omega (arith, id))) (new_ids s.next_id (row.id + 1) s.content sound.content (omega (arith, id))) (unknown-later s sound row.id (omega (arith, id))) (unknown-later s sound (row.id + 1) (omega (arith, id))) in
+          tables-sound s command (with_admin row.id service.id s.access) after (s.next_id + 2) sound within (omega arith) next (access-with_admin row service id there roles joins grants) (more_ids (s.next_id + 1) (s.next_id + 2) after (omega arith) put) tied
+
+      pub sound-create_catalog : (name base : List ℕ) (allowed : List (List ℕ)) (properties : List Property) (external : Bool) (first : Option Refusal) → first_refusal (create_catalog s command name base allowed properties external).rules ≡ first
+          → IsSound (stamped s command (rows_by first s (create_catalog s command name base allowed properties external).after))
+      sound-create_catalog name base allowed properties external (Some why) fails = stamped-sound s command sound within
+      sound-create_catalog name base allowed properties external None none =
+          let passes = EachPasses-none (create_catalog s command name base allowed properties external).rules none in
+          by (principal_role_named (codes "service_admin") s.access) refl passes.1.1.1.1.1.1.0
+        where
+          by : (found : Option PrincipalRoleRow) → principal_role_named (codes "service_admin") s.access ≡ found → over_limit (done s found (with_catalog s (new_catalog s name base allowed properties))) ≡ None → IsSound (stamped s command (done s found (with_catalog s (new_catalog s name base allowed properties))))
+          by None there few = stamped-sound s command sound within
+          by (Some service) there few =
+              let passes = EachPasses-none (create_catalog s command name base allowed properties external).rules none in
+              sound-with_catalog (new_catalog s name base allowed properties) service refl there (catalog-free s name passes.1.1.0) few
+
+      -- a catalogue that is dropped
+      pub sound-drop_catalog : (name : List ℕ) (first : Option Refusal) (found : Option CatalogRow) → first_refusal (drop_catalog s command name).rules ≡ first → catalog_named name s.content ≡ found
+          → IsSound (stamped s command (rows_by first s (done s found (without_catalog s))))
+      sound-drop_catalog name (Some why) found fails is = stamped-sound s command sound within
+      sound-drop_catalog name None None none is = stamped-sound s command sound within
+      sound-drop_catalog name None (Some row) none is =
+          let passes = EachPasses-none (drop_catalog s command name).rules none in
+          let empty = catalog-empty s row (sym (ap (λ one. given one (catalog_holds s)) is) ∙ passes.1.1.1.0) in
+          tables-sound s command (without_catalog s row).access (without_catalog s row).content s.next_id sound within (omega arith) sound.next_id_bound (dropped_catalog_roles s.next_id row.id s.access sound.access).1 (dropped_catalog s.next_id row.id s.content sound.content empty)
+          (ties.dropped_catalog s.access s.content sound.ties row.id (IdsDiffer-rising catalog_role_id s.access.catalog_roles sound.access.catalog_roles.rise))
+
+      -- a namespace that is put
+      pub sound-create_namespace : (name : List ℕ) (levels : List (List ℕ)) (properties : List Property) (first : Option Refusal) (found : Option CatalogRow) → first_refusal (create_namespace s command name levels properties).rules ≡ first → catalog_named name s.content ≡ found
+          → IsSound (stamped s command (rows_by first s (done s found (with_namespace s levels properties))))
+      sound-create_namespace name levels properties (Some why) found fails is = stamped-sound s command sound within
+      sound-create_namespace name levels properties None None none is = stamped-sound s command sound within
+      sound-create_namespace name levels properties None (Some catalog) none is =
+          let row : NamespaceRow = record { id = s.next_id; catalog = catalog.id; levels = levels; properties = properties } in
+          let passes = EachPasses-none (create_namespace s command name levels properties).rules none in
+          let parent = sym (ap (λ one. given one (λ (catalog : CatalogRow). no_parent s catalog.id (parent_of levels))) is) ∙ passes.1.1.1.0 in
+          let taken = sym (ap (λ one. given one (namespace_taken s levels)) is) ∙ passes.1.1.1.1.0 in
+          let few = sym (ap (λ one. over_limit (done s one (with_namespace s levels properties))) is) ∙ passes.1.1.1.1.1.0 in
+          let bounds = EachPasses-none (above quantity.Namespaces 100000 (length s.content.namespaces + 1) ∷ above quantity.Properties 1000 (length properties) ∷ above quantity.NextId (2 ^ 62) (s.next_id + 1) ∷ []) (sym (namespace_limits s sound levels properties catalog) ∙ few) in
+          let count = above-within quantity.Namespaces 100000 (length s.content.namespaces + 1) bounds.0 in
+          let small = above-within quantity.Properties 1000 (length properties) bounds.1.0 in
+          let next = above-within quantity.NextId (2 ^ 62) (s.next_id + 1) bounds.1.1.0 in
+          let room : length s.content.namespaces < 100000 = omega (arith, count) in
+          let there = sym (is_some-row_of catalog_id catalog.id s.content.catalogs) ∙ ap is_some (catalog-own s command sound name catalog is) in
+          let pushed = pushed_namespace s.next_id s.content row sound.content (next_id-some s sound) refl there (whole_path s.content row (parents-whole s catalog.id levels parent)) (levels-free s levels catalog taken) room small in
+          let last = (new_rows_last s.next_id s.content sound.content).1 row refl in
+          tables-sound s command s.access (with_namespace s levels properties catalog).content (s.next_id + 1) sound within (omega arith) next (access_more_ids s.next_id (s.next_id + 1) s.access (omega arith) sound.access)
+          (subst (λ rows. IsSoundContent (s.next_id + 1) (record s.content { namespaces = rows })) (sym last) pushed)
+          (put_namespace s.access s.content sound.ties row (λ old known. unknown-row old known (knows-below namespace_id s.next_id s.content.namespaces (below-next namespace_id s.next_id s.content.namespaces sound.content.namespaces))) (unknown-later s sound s.next_id (omega arith)))
+        where
+          unknown-row : (old : NamespaceRow) → row_of namespace_id s.next_id s.content.namespaces ≡ Some old → knows namespace_id s.next_id s.content.namespaces ≡ false → catalog.id ≡ old.catalog
+          unknown-row old there unknown = absurd (true≢false (sym (sym (is_some-row_of namespace_id s.next_id s.content.namespaces) ∙ ap is_some there) ∙ unknown))
+
+      -- a namespace that is dropped
+      pub sound-drop_namespace : (name : List ℕ) (levels : List (List ℕ)) (first : Option Refusal) (found : Option NamespaceRow) → first_refusal (drop_namespace s command name levels).rules ≡ first → namespace_at s name levels ≡ found
+          → IsSound (stamped s command (rows_by first s (done s found (without_namespace s))))
+      sound-drop_namespace name levels (Some why) found fails is = stamped-sound s command sound within
+      sound-drop_namespace name levels None None none is = stamped-sound s command sound within
+      sound-drop_namespace name levels None (Some row) none is =
+          let passes = EachPasses-none (drop_namespace s command name levels).rules none in
+          let empty = namespace-empty s row (sym (ap (λ one. given one (namespace_holds s)) is) ∙ passes.1.1.1.1.0) in
+          tables-sound s command (without_namespace s row).access (without_namespace s row).content s.next_id sound within (omega arith) sound.next_id_bound ((dropped_grants s.next_id s.access sound.access).1 (securable.Namespace row.id)) (dropped_namespace s.next_id row.id s.content sound.content empty)
+          (ties.dropped_namespace s.access s.content sound.ties row.id)
+
+      -- a namespace whose properties are removed and set
+      pub sound-update_properties : (name : List ℕ) (levels removals : List (List ℕ)) (updates : List Property) (first : Option Refusal) (found : Option NamespaceRow) → first_refusal (update_properties s command name levels removals updates).rules ≡ first → namespace_at s name levels ≡ found
+          → IsSound (stamped s command (rows_by first s (done s found (with_properties s removals updates))))
+      sound-update_properties name levels removals updates (Some why) found fails is = stamped-sound s command sound within
+      sound-update_properties name levels removals updates None None none is = stamped-sound s command sound within
+      sound-update_properties name levels removals updates None (Some old) none is =
+          let row : NamespaceRow = record old { properties = pairs_updated removals updates old.properties } in
+          let passes = EachPasses-none (update_properties s command name levels removals updates).rules none in
+          let few = sym (ap (λ one. over_limit (done s one (with_properties s removals updates))) is) ∙ passes.1.1.1.1.1.0 in
+          let own = namespace-own name levels old is in
+          let bounds = EachPasses-none (above quantity.Properties 1000 (length row.properties) ∷ []) (sym (altered_limits s sound row old own) ∙ few) in
+          let small = above-within quantity.Properties 1000 (length row.properties) bounds.0 in
+          let apart = found-holds (λ kept. is_access_id kept.id s.access ≡ false) (has_id namespace_id old.id) s.content.namespaces old sound.ties.ids_apart.namespaces own in
+          tables-sound s command s.access (with_altered s row).content s.next_id sound within (omega arith) sound.next_id_bound sound.access (replaced_namespace s.next_id s.content old row sound.content own refl refl small)
+          (put_namespace s.access s.content sound.ties row (λ kept there. ap (λ (one : NamespaceRow). one.catalog) (some_is old kept (sym own ∙ there))) apart)

@@ -1,0 +1,91 @@
+-- Opening a session: what refuses it, what it changes, and where the changes lead.
+use Rattle.std.proofs.Common.{◌≡◌, ℕ, ◌+◌, List, [], ◌∷◌, Option, None, Some, refl, sym, ap, subst, ◌∙◌}
+use Rattle.pol_access.specs.declared.rows.PrincipalRow.{PrincipalRow}
+use Rattle.pol_tables.specs.Rising.{KeysBelow}
+use Rattle.pol_content.specs.declared.change.Change.TheVariants.{Time, NextSerial, PutSession}
+use Rattle.pol_tokens.specs.Tokens.{serial_of}
+use Rattle.pol_names.specs.declared.scope.Scope.{Scope}
+use Rattle.pol_commands.specs.declared.command.Command.{Command}
+use Rattle.pol_commands.specs.declared.reply.Refusal.{Refusal}
+use Rattle.pol_state.specs.Applied.{applied}
+use Rattle.pol_state.specs.Changes.{changes_between}
+use Rattle.pol_state.specs.Rows.{Rows}
+use Rattle.pol_state.specs.Sound.{IsSound}
+use Rattle.pol_state.proofs.ChangesLemmas.{changes-timed, serials-below}
+use Rattle.pol_rules.specs.Acting.{rows_by, stamped}
+use Rattle.pol_rules.specs.Rules.{client_of, first_refusal, given, invalid_client, invalid_scope, over_limit, with_serial, time_of}
+use Rattle.pol_rules.proofs.RulesLemmas.{refusal-past, refusal-stops}
+use Rattle.pol_content_actions.specs.Sessions.{open_session, opened, scope_of, session_opened, with_session}
+use Rattle.pol_content_actions.proofs.ChangesLemmas.{applied-opened, changes-opened}
+
+module _ (s : Rows) (command : Command) (scopes : List (List ℕ)) where
+  opened-serial : (principal : PrincipalRow) → (opened s command scopes principal).serial ≡ s.next_serial
+  unfolding opened
+  opened-serial principal = refl
+
+  -- the row that the code makes
+  pub opened-is : (principal : PrincipalRow) (serial : ℕ) (scope : Scope) (time : ℕ) → serial ≡ s.next_serial → scope ≡ scope_of s principal.id scopes → time ≡ time_of s command
+      → record { serial = serial; word_a = command.words.a; word_b = command.words.b; principal = principal.id; scope = scope; expires = time + 3600000 } ≡ opened s command scopes principal
+  unfolding opened
+  opened-is principal serial scope time serial_is scope_is time_is =
+      λ i. record { serial = serial_is i; word_a = command.words.a; word_b = command.words.b; principal = principal.id; scope = scope_is i; expires = time_is i + 3600000 }
+
+  -- the changes that the code makes
+  pub changes-made : (principal : PrincipalRow) (serial : ℕ) (scope : Scope) (time : ℕ) → serial ≡ s.next_serial → scope ≡ scope_of s principal.id scopes → time ≡ time_of s command
+      → Time time ∷ NextSerial (serial + 1) ∷ PutSession (record { serial = serial; word_a = command.words.a; word_b = command.words.b; principal = principal.id; scope = scope; expires = time + 3600000 }) ∷ [] ≡ Time (time_of s command) ∷ NextSerial (s.next_serial + 1) ∷ PutSession (opened s command scopes principal) ∷ []
+  changes-made principal serial scope time serial_is scope_is time_is =
+      λ i. Time (time_is i) ∷ NextSerial (serial_is i + 1) ∷ PutSession (opened-is principal serial scope time serial_is scope_is time_is i) ∷ []
+
+  pub opened-below : (principal : PrincipalRow) → IsSound s → KeysBelow serial_of (opened s command scopes principal).serial s.tokens.sessions
+  opened-below principal sound =
+      subst (λ serial. KeysBelow serial_of serial s.tokens.sessions) (sym (opened-serial principal)) (serials-below s sound)
+
+  -- the changes of a session that is opened
+  pub changes-session : (principal : PrincipalRow) → IsSound s
+      → changes_between s (stamped s command (with_session s (opened s command scopes principal))) ≡ Time (time_of s command) ∷ NextSerial (s.next_serial + 1) ∷ PutSession (opened s command scopes principal) ∷ []
+  changes-session principal sound =
+      changes-opened s (opened s command scopes principal) (opened-below principal sound) (time_of s command) (s.charged + command.charge)
+
+  -- the changes lead to the rows with the command's time and charge
+  pub leads-by : (first : Option Refusal) (client : Option PrincipalRow) → IsSound s
+      → applied (changes_between s (stamped s command (rows_by first s (session_opened s command scopes client)))) (time_of s command) command.charge s ≡ stamped s command (rows_by first s (session_opened s command scopes client))
+  leads-by (Some why) client sound =
+      ap (λ changes. applied changes (time_of s command) command.charge s) (changes-timed s (time_of s command) (s.charged + command.charge))
+  leads-by None None sound =
+      ap (λ changes. applied changes (time_of s command) command.charge s) (changes-timed s (time_of s command) (s.charged + command.charge))
+  leads-by None (Some principal) sound =
+      ap (λ changes. applied changes (time_of s command) command.charge s) (changes-session principal sound)
+      ∙ applied-opened s (opened s command scopes principal) (opened-below principal sound) (time_of s command) command.charge
+
+  -- bounds are judged on the next serial alone
+  limit_alike : (principal : PrincipalRow) → over_limit (with_session s (opened s command scopes principal)) ≡ over_limit (with_serial (s.next_serial + 1) s)
+  unfolding over_limit
+  limit_alike principal = refl
+
+  pub limit-opened : (client_id secret : List ℕ) (principal : PrincipalRow) → client_of s client_id secret ≡ Some principal → over_limit (session_opened s command scopes (client_of s client_id secret)) ≡ over_limit (with_serial (s.next_serial + 1) s)
+  limit-opened client_id secret principal found =
+      ap (λ client. over_limit (session_opened s command scopes client)) found ∙ limit_alike principal
+
+  module _ (client_id secret : List ℕ) where
+    abbrev rules : List (Option Refusal)
+    rules = (open_session s command client_id secret scopes).rules
+
+    module _ (principal : PrincipalRow) (known : invalid_client s client_id secret ≡ None) (found : client_of s client_id secret ≡ Some principal) where
+      scope_rule : (rule : Option Refusal) → invalid_scope s principal.id scopes ≡ rule → given (client_of s client_id secret) (λ principal. invalid_scope s principal.id scopes) ≡ rule
+      scope_rule rule is = ap (λ client. given client (λ principal. invalid_scope s principal.id scopes)) found ∙ is
+
+      pub scope-refused : (why : Refusal) → invalid_scope s principal.id scopes ≡ Some why → first_refusal rules ≡ Some why
+      scope-refused why fails = refusal-past _ _ _ known (refusal-stops _ why _ (scope_rule (Some why) fails))
+
+      pub limit-refused : (why : Refusal) → invalid_scope s principal.id scopes ≡ None → over_limit (with_serial (s.next_serial + 1) s) ≡ Some why → first_refusal rules ≡ Some why
+      limit-refused why passes fails =
+          refusal-past _ _ _ known (refusal-past _ _ _ (scope_rule None passes) (refusal-stops _ why _ (limit-opened client_id secret principal found ∙ fails)))
+
+      pub none-refused : invalid_scope s principal.id scopes ≡ None → over_limit (with_serial (s.next_serial + 1) s) ≡ None → first_refusal rules ≡ None
+      none-refused passes within =
+          refusal-past _ _ _ known (refusal-past _ _ _ (scope_rule None passes) (refusal-past _ [] None (limit-opened client_id secret principal found ∙ within) refl))
+
+      -- the changes of the action
+      pub changes-acting : IsSound s → changes_between s (stamped s command (open_session s command client_id secret scopes).after) ≡ Time (time_of s command) ∷ NextSerial (s.next_serial + 1) ∷ PutSession (opened s command scopes principal) ∷ []
+      changes-acting sound =
+          ap (λ client. changes_between s (stamped s command (session_opened s command scopes client))) found ∙ changes-session principal sound

@@ -1,0 +1,19 @@
+use Rattle.std.proofs.Common.{[], ◌∷◌, ◌++◌, ◌+◌, filter, map, ap, sym, ◌∙◌}
+use Rattle.pol_access.specs.Order.{grants_in_order}
+use Rattle.pol_access.specs.Referent.{grant_names}
+use Rattle.pol_access.specs.declared.referent.Referent.TheVariants as referent
+use Rattle.pol_access.specs.declared.securable.Securable.TheVariants as securable
+use Rattle.pol_content.specs.declared.change.Change.TheVariants.{Time, DropGrant, DropNamespace}
+use Rattle.pol_rules.specs.Rules.{time_of}
+use Rattle.pol_content_actions.proofs.ChangesLemmas.{changes-without_namespace}
+use Rattle.pol_content_actions.proofs.namespaces.dropped.Goals as goal
+
+pub returns-clause-changes : goal.returns-clause-changes
+returns-clause-changes c =
+    let s = c.args.state.now.rows in
+    let command = c.args.command.now in
+    let grants = map DropGrant (grants_in_order (filter (grant_names s.access.catalog_roles (referent.Securable (securable.Namespace c.args.row.now.id))) s.access.grants)) in
+    c.from.ensures
+    ∙ c.in_ok-push_grants.ensures
+    ∙ ap (λ items. items ++ grants) (c.in_ok-changes.ensures.items ∙ (λ i. Time (c.time_of.ensures i) ∷ DropNamespace c.args.row.now.id ∷ []))
+    ∙ sym (changes-without_namespace s c.requires.sound (time_of s command) (s.charged + command.charge) c.args.row.now c.requires.there)

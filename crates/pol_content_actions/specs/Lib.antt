@@ -1,0 +1,3 @@
+pub mod Catalogs
+pub mod Namespaces
+pub mod Sessions

@@ -1,0 +1,8 @@
+//! The actions on sessions, catalogues and namespaces.
+#![tactic(auto)]
+
+mod bounds;
+pub mod catalogs;
+pub mod namespaces;
+mod scopes;
+pub mod sessions;

@@ -1,0 +1,3 @@
+pub mod CatalogRoles
+pub mod Grants
+pub mod Joins

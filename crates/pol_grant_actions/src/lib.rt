@@ -1,0 +1,7 @@
+//! The actions on catalogue roles, joins and grants.
+#![tactic(auto)]
+
+mod bounds;
+pub mod catalog_roles;
+pub mod grants;
+pub mod joins;

@@ -1,6 +1,0 @@
-use Rattle.std.proofs.Common.{◌≡◌, ◌++◌, map, take}
-use Rattle.pol_content.specs.declared.change.Change.TheVariants.{DropJoin}
-use Rattle.pol_machine.proofs.drops.push_join_drops.Given as goal
-
-abbrev pub invariant-loop-row : goal.invariant-loop-row
-invariant-loop-row l = l.changes.items ≡ l.initial.changes.items ++ map DropJoin (take l.row-index l.rows)

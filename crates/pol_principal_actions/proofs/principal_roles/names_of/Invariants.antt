@@ -1,0 +1,5 @@
+use Rattle.std.proofs.Common.{◌≡◌, map, take}
+use Rattle.pol_principal_actions.proofs.principal_roles.names_of.Given as goal
+
+abbrev pub invariant-loop-row : goal.invariant-loop-row
+invariant-loop-row l = l.names.items ≡ map (λ row. row.now.name) (take l.row-index l.rows)

@@ -1,0 +1,9 @@
+pub mod AccessRulesLemmas
+pub mod ContentLemmas
+pub mod FoundLemmas
+pub mod JudgedLemmas
+pub mod LeadsLemmas
+pub mod LimitsLemmas
+pub mod NeedsLemmas
+pub mod RulesLemmas
+pub mod SoundLemmas

@@ -1,0 +1,25 @@
+-- What the functions that judge a command by its rules answer.
+use Rattle.std.specs.Prelude.{◌≡◌, List, Option, Some, None, Result, Ok, Err}
+use Rattle.std.specs.Bool.{⊤}
+use Rattle.pol_state.specs.Changes.{changes_between}
+use Rattle.pol_rules.specs.Acting.{stamped}
+use Rattle.pol_state.specs.Rows.{Rows}
+use Rattle.pol_rules.specs.Rules.{first_refusal}
+use Rattle.pol_commands.specs.declared.command.Command.{Command}
+use Rattle.pol_commands.specs.declared.reply.Answer.{Answer}
+use Rattle.pol_commands.specs.declared.reply.Refusal.{Refusal}
+use Rattle.pol_rules.specs.declared.rules.Stop.{Stop}
+use Rattle.pol_rules.specs.declared.rules.Stop.TheVariants.{Refused, OutOfMemory}
+use Rattle.pol_rules.specs.declared.rules.Acted.{Acted}
+
+-- where a rule passes, what it found is so; where it fails, its refusal is answered
+abbrev pub Judges : {T : Type 0} → Option Refusal → (T → Type 0) → Result T Stop → Type 0
+Judges rule P (Ok found) = (rule ≡ None) × P found
+Judges rule P (Err (Refused why)) = rule ≡ Some why
+Judges rule P (Err OutOfMemory) = ⊤
+
+-- where each rule passes, the action answers and changes as it says; else the first that fails is answered
+abbrev pub Acts : Rows → Command → List (Option Refusal) → Rows → Answer → Result Acted Stop → Type 0
+Acts s command rules after answer (Ok acted) = (first_refusal rules ≡ None) × (acted.answer ≡ answer) × (acted.changes ≡ changes_between s (stamped s command after))
+Acts s command rules after answer (Err (Refused why)) = first_refusal rules ≡ Some why
+Acts s command rules after answer (Err OutOfMemory) = ⊤

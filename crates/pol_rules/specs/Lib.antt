@@ -1,0 +1,5 @@
+pub mod AccessRules
+pub mod Acting
+pub mod Judged
+pub mod Needs
+pub mod Rules

@@ -1,0 +1,290 @@
+ghost use Rattle.std.specs.Prelude.{◌≡◌, ◌<◌, ◌+◌, ◌^◌, codes, Some, true};
+ghost use Rattle.std.specs.Bool.{⊤};
+ghost use Rattle.pol_access.specs.Access.{catalog_role_id, is_joined, is_member, principal_id, principal_role_id};
+ghost use Rattle.pol_access.specs.Names.{catalog_role_named, principal_named, principal_role_named};
+ghost use Rattle.pol_access.specs.contracts.rows.GrantRow as grant_row;
+ghost use Rattle.pol_tables.specs.Facts.{holds};
+ghost use Rattle.pol_tables.specs.Table.{row_of};
+ghost use Rattle.pol_rules.specs.AccessRules.{catalog_role_taken, client_taken, is_first, no_catalog_role, no_grant, no_join, no_member, no_principal, no_principal_role, no_securable, principal_role_taken, principal_taken, reserved, reserved_grant, reserved_join, reserved_member, securable_in};
+ghost use Rattle.pol_rules.specs.Judged.{Judges};
+ghost use Rattle.pol_state.specs.Sound.{IsSound};
+
+use crate::catalog_rules::CATALOG_ADMIN;
+use crate::namespace_rules::namespace_there;
+use crate::rules::Stop;
+use pol_access::{
+    CatalogRoleRow, GrantRow, JoinRow, MemberRow, PrincipalRoleRow, PrincipalRow, Privilege,
+    Securable,
+};
+use pol_commands::{Grant, GrantedOn, Refusal};
+use pol_content::CatalogRow;
+use pol_names::Plain;
+use pol_state::State;
+use pol_state::texts::text;
+use std::alloc::Global;
+
+/// The principal that always has access to everything.
+pub const ROOT: &str = "root";
+
+/// The principal role that manages the realm, of which `root` is always a member.
+pub const SERVICE_ADMIN: &str = "service_admin";
+
+/// The principal of the name.
+#[tactic(auto, unfolding(crate::specs::AccessRules::no_principal))]
+pub fn principal_there<'a>(
+    alloc: Global,
+    state: &'a State,
+    name: &Plain,
+) -> Result<&'a PrincipalRow, Stop>
+    requires { IsSound state.now.rows }
+    ensures { Judges (no_principal state.now.rows name.now) (λ row. (principal_named name.now state.now.rows.access ≡ Some row.now) × (row_of principal_id row.now.id state.now.rows.access.principals ≡ Some row.now)) result }
+{
+    let Some(row) = state.access().principal_named(name.as_str()) else {
+        return Err(Stop::Refused(Refusal::NoSuchRole {
+            name: text(alloc, name.as_str())?,
+        }));
+    };
+    Ok(row)
+}
+
+/// The principal role of the name.
+#[tactic(auto, unfolding(crate::specs::AccessRules::no_principal_role))]
+pub fn principal_role_there<'a>(
+    alloc: Global,
+    state: &'a State,
+    name: &Plain,
+) -> Result<&'a PrincipalRoleRow, Stop>
+    requires { IsSound state.now.rows }
+    ensures { Judges (no_principal_role state.now.rows name.now) (λ row. (principal_role_named name.now state.now.rows.access ≡ Some row.now) × (row_of principal_role_id row.now.id state.now.rows.access.principal_roles ≡ Some row.now)) result }
+{
+    let Some(row) = state.access().principal_role_named(name.as_str()) else {
+        return Err(Stop::Refused(Refusal::NoSuchRole {
+            name: text(alloc, name.as_str())?,
+        }));
+    };
+    Ok(row)
+}
+
+/// The role of the name in the catalogue.
+#[tactic(auto, unfolding(crate::specs::AccessRules::no_catalog_role))]
+pub fn catalog_role_there<'a>(
+    alloc: Global,
+    state: &'a State,
+    catalog: &CatalogRow,
+    name: &Plain,
+) -> Result<&'a CatalogRoleRow, Stop>
+    requires { IsSound state.now.rows }
+    ensures { Judges (no_catalog_role state.now.rows name.now catalog.now) (λ row. (catalog_role_named catalog.now.id name.now state.now.rows.access ≡ Some row.now) × (row_of catalog_role_id row.now.id state.now.rows.access.catalog_roles ≡ Some row.now)) result }
+{
+    let Some(row) = state.access().catalog_role_named(catalog.id, name.as_str()) else {
+        return Err(Stop::Refused(Refusal::NoSuchRole {
+            name: text(alloc, name.as_str())?,
+        }));
+    };
+    Ok(row)
+}
+
+/// No principal has the name.
+#[tactic(auto, unfolding(crate::specs::AccessRules::principal_taken))]
+pub fn principal_free(alloc: Global, state: &State, name: &Plain) -> Result<(), Stop>
+    requires { IsSound state.now.rows }
+    ensures { Judges (principal_taken state.now.rows name.now) (λ _. ⊤) result }
+{
+    if state.access().principal_named(name.as_str()).is_some() {
+        return Err(Stop::Refused(Refusal::NameTaken {
+            name: text(alloc, name.as_str())?,
+        }));
+    }
+    Ok(())
+}
+
+/// No principal has the client id.
+#[tactic(auto, unfolding(crate::specs::AccessRules::client_taken))]
+pub fn client_free(alloc: Global, state: &State, client_id: &str) -> Result<(), Stop>
+    requires { IsSound state.now.rows }
+    ensures { Judges (client_taken state.now.rows client_id.now) (λ _. ⊤) result }
+{
+    if state.access().principal_of_client(client_id).is_some() {
+        return Err(Stop::Refused(Refusal::NameTaken {
+            name: text(alloc, client_id)?,
+        }));
+    }
+    Ok(())
+}
+
+/// No principal role has the name.
+#[tactic(auto, unfolding(crate::specs::AccessRules::principal_role_taken))]
+pub fn principal_role_free(alloc: Global, state: &State, name: &Plain) -> Result<(), Stop>
+    requires { IsSound state.now.rows }
+    ensures { Judges (principal_role_taken state.now.rows name.now) (λ _. ⊤) result }
+{
+    if state.access().principal_role_named(name.as_str()).is_some() {
+        return Err(Stop::Refused(Refusal::NameTaken {
+            name: text(alloc, name.as_str())?,
+        }));
+    }
+    Ok(())
+}
+
+/// No role of the catalogue has the name.
+#[tactic(auto, unfolding(crate::specs::AccessRules::catalog_role_taken))]
+pub fn catalog_role_free(
+    alloc: Global,
+    state: &State,
+    catalog: &CatalogRow,
+    name: &Plain,
+) -> Result<(), Stop>
+    requires { IsSound state.now.rows }
+    ensures { Judges (catalog_role_taken state.now.rows name.now catalog.now) (λ _. ⊤) result }
+{
+    let found = state.access().catalog_role_named(catalog.id, name.as_str());
+    if found.is_some() {
+        return Err(Stop::Refused(Refusal::NameTaken {
+            name: text(alloc, name.as_str())?,
+        }));
+    }
+    Ok(())
+}
+
+/// What a grant names in the catalogue.
+pub fn securable_there(
+    alloc: Global,
+    state: &State,
+    catalog: &CatalogRow,
+    on: &GrantedOn,
+) -> Result<Securable, Stop>
+    requires { IsSound state.now.rows }
+    ensures { Judges (no_securable state.now.rows on.now catalog.now) (λ securable. securable_in state.now.rows on.now catalog.now ≡ Some securable) result }
+{
+    match on {
+        GrantedOn::Catalog => Ok(Securable::Catalog(catalog.id)),
+        GrantedOn::Namespace(levels) => {
+            let row = namespace_there(alloc, state, catalog.id, levels)?;
+            Ok(Securable::Namespace(row.id))
+        }
+        GrantedOn::Table(identifier) => {
+            namespace_there(alloc, state, catalog.id, &identifier.namespace)?;
+            Err(Stop::Refused(Refusal::NoTable {
+                identifier: identifier.clone()?,
+            }))
+        }
+        GrantedOn::View(identifier) => {
+            namespace_there(alloc, state, catalog.id, &identifier.namespace)?;
+            Err(Stop::Refused(Refusal::NoView {
+                identifier: identifier.clone()?,
+            }))
+        }
+    }
+}
+
+/// The membership is there. The role, to which it would lead, has this name.
+#[tactic(auto, unfolding(crate::specs::AccessRules::no_member))]
+pub fn member_there(alloc: Global, state: &State, role: &Plain, row: &MemberRow) -> Result<(), Stop>
+    ensures { Judges (no_member state.now.rows role.now row.now) (λ _. is_member row.now.principal row.now.role state.now.rows.access ≡ true) result }
+{
+    if !state.access().is_member(row.principal, row.role) {
+        return Err(Stop::Refused(Refusal::NoSuchRole {
+            name: text(alloc, role.as_str())?,
+        }));
+    }
+    Ok(())
+}
+
+/// The join is there. The catalogue role, to which it would lead, has this name.
+#[tactic(auto, unfolding(crate::specs::AccessRules::no_join))]
+pub fn join_there(
+    alloc: Global,
+    state: &State,
+    catalog_role: &Plain,
+    row: &JoinRow,
+) -> Result<(), Stop>
+    ensures { Judges (no_join state.now.rows catalog_role.now row.now) (λ _. is_joined row.now.principal_role row.now.catalog_role state.now.rows.access ≡ true) result }
+{
+    if !state
+        .access()
+        .is_joined(row.principal_role, row.catalog_role)
+    {
+        return Err(Stop::Refused(Refusal::NoSuchRole {
+            name: text(alloc, catalog_role.as_str())?,
+        }));
+    }
+    Ok(())
+}
+
+/// The grant is there.
+#[tactic(auto, unfolding(crate::specs::AccessRules::no_grant))]
+pub fn grant_there(alloc: Global, state: &State, row: &GrantRow) -> Result<(), Stop>
+    ensures { Judges (no_grant state.now.rows row.now) (λ _. holds grant_row.the_row.coded row.now state.now.rows.access.grants ≡ true) result }
+{
+    if !state.access().has_grant(row) {
+        return Err(Stop::Refused(Refusal::NoSuchRole {
+            name: text(alloc, row.privilege.as_str())?,
+        }));
+    }
+    Ok(())
+}
+
+/// The name isn't that of what is kept.
+#[tactic(auto, unfolding(crate::specs::AccessRules::reserved))]
+pub fn unreserved(alloc: Global, kept: &str, name: &Plain) -> Result<(), Stop>
+    ensures { Judges (reserved kept.now name.now) (λ _. ⊤) result }
+{
+    if name.as_str() == kept {
+        return Err(Stop::Refused(Refusal::Reserved {
+            name: text(alloc, kept)?,
+        }));
+    }
+    Ok(())
+}
+
+/// The membership, by the names of its principal and its role, may end.
+#[tactic(auto, unfolding(crate::specs::AccessRules::reserved_member))]
+pub fn member_may_end(alloc: Global, principal: &Plain, role: &Plain) -> Result<(), Stop>
+    ensures { Judges (reserved_member principal.now role.now) (λ _. ⊤) result }
+{
+    if principal.as_str() == ROOT && role.as_str() == SERVICE_ADMIN {
+        return Err(Stop::Refused(Refusal::Reserved {
+            name: text(alloc, ROOT)?,
+        }));
+    }
+    Ok(())
+}
+
+/// The join, by the names of its roles, may end.
+#[tactic(auto, unfolding(crate::specs::AccessRules::reserved_join))]
+pub fn join_may_end(alloc: Global, role: &Plain, catalog_role: &Plain) -> Result<(), Stop>
+    ensures { Judges (reserved_join role.now catalog_role.now) (λ _. ⊤) result }
+{
+    if role.as_str() == SERVICE_ADMIN && catalog_role.as_str() == CATALOG_ADMIN {
+        return Err(Stop::Refused(Refusal::Reserved {
+            name: text(alloc, CATALOG_ADMIN)?,
+        }));
+    }
+    Ok(())
+}
+
+/// The grant to the catalogue role of this name may be revoked.
+#[tactic(auto, unfolding(crate::specs::AccessRules::reserved_grant))]
+pub fn grant_may_end(alloc: Global, role: &Plain, grant: &Grant) -> Result<(), Stop>
+    ensures { Judges (reserved_grant role.now grant.now) (λ _. ⊤) result }
+{
+    if role.as_str() == CATALOG_ADMIN && is_first(grant) {
+        return Err(Stop::Refused(Refusal::Reserved {
+            name: text(alloc, CATALOG_ADMIN)?,
+        }));
+    }
+    Ok(())
+}
+
+/// Whether a `catalog_admin` has the grant from the start.
+fn is_first(grant: &Grant) -> bool
+    ensures { result ≡ is_first grant.now }
+{
+    match &grant.on {
+        GrantedOn::Catalog => {
+            grant.privilege == Privilege::CatalogManageAccess
+                || grant.privilege == Privilege::CatalogManageContent
+        }
+        GrantedOn::Namespace(_) | GrantedOn::Table(_) | GrantedOn::View(_) => false,
+    }
+}

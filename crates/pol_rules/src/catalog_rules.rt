@@ -1,0 +1,122 @@
+ghost use Rattle.std.specs.Prelude.{◌≡◌, ◌+◌, ◌<◌, ◌^◌, codes, map, Some};
+ghost use Rattle.std.specs.Bool.{⊤};
+ghost use Rattle.pol_access.specs.Names.{principal_role_named};
+ghost use Rattle.pol_content.specs.Content.{catalog_id, catalog_named};
+ghost use Rattle.pol_tables.specs.Table.{row_of};
+ghost use Rattle.pol_locations.specs.Location.{segments_of};
+ghost use Rattle.pol_rules.specs.Judged.{Judges};
+ghost use Rattle.pol_rules.specs.Rules.{bad_text, bad_texts, catalog_holds, catalog_taken, no_catalogue, unsupported_type};
+ghost use Rattle.pol_state.specs.Sound.{IsSound};
+
+use crate::rules::Stop;
+use pol_access::PrincipalRoleRow;
+use pol_commands::{OptionName, Refusal};
+use pol_content::CatalogRow;
+use pol_locations::{Location, LocationRefused};
+use pol_names::Plain;
+use pol_state::State;
+use pol_types::{Listed, Text};
+use std::alloc::Global;
+
+/// The role that each catalogue has from the start.
+pub const CATALOG_ADMIN: &str = "catalog_admin";
+
+/// The catalogue of the name.
+#[tactic(auto, unfolding(crate::specs::Rules::no_catalogue))]
+pub fn catalog_there<'a>(
+    alloc: Global,
+    state: &'a State,
+    name: &Plain,
+) -> Result<&'a CatalogRow, Stop>
+    requires { IsSound state.now.rows }
+    ensures { Judges (no_catalogue state.now.rows name.now) (λ row. (catalog_named name.now state.now.rows.content ≡ Some row.now) × (row_of catalog_id row.now.id state.now.rows.content.catalogs ≡ Some row.now)) result }
+{
+    let Some(row) = state.content().catalogue(name) else {
+        return Err(Stop::Refused(Refusal::NoCatalogue {
+            name: name.clone()?,
+        }));
+    };
+    Ok(row)
+}
+
+/// No catalogue has the name.
+#[tactic(auto, unfolding(crate::specs::Rules::catalog_taken))]
+pub fn catalog_free(alloc: Global, state: &State, name: &Plain) -> Result<(), Stop>
+    requires { IsSound state.now.rows }
+    ensures { Judges (catalog_taken state.now.rows name.now) (λ _. ⊤) result }
+{
+    if state.content().catalogue(name).is_some() {
+        return Err(Stop::Refused(Refusal::NameTaken {
+            name: Text::from(String::from_str(alloc, name.as_str())?),
+        }));
+    }
+    Ok(())
+}
+
+/// The catalogue has no namespace, and no role beside `catalog_admin`.
+#[tactic(auto, unfolding(crate::specs::Rules::catalog_holds))]
+pub fn catalog_empty(alloc: Global, state: &State, catalog: &CatalogRow) -> Result<(), Stop>
+    ensures { Judges (catalog_holds state.now.rows catalog.now) (λ _. ⊤) result }
+{
+    if !state.content().catalog_is_empty(catalog.id)
+        || state.access().has_other_role(catalog.id, CATALOG_ADMIN)
+    {
+        return Err(Stop::Refused(Refusal::NotEmpty {
+            name: Text::from(String::from_str(alloc, catalog.name.as_str())?),
+        }));
+    }
+    Ok(())
+}
+
+/// The location of a catalogue's text.
+#[tactic(auto, unfolding(crate::specs::Rules::bad_text))]
+pub fn located(alloc: Global, text: &Text) -> Result<Location, Stop>
+    ensures { Judges (bad_text text.now) (λ location. location ≡ segments_of text.now) result }
+{
+    match Location::parse(alloc, text.as_str()) {
+        Ok(location) => Ok(location),
+        Err(LocationRefused::OutOfMemory) => Err(Stop::OutOfMemory),
+        Err(
+            why @ (LocationRefused::BadScheme
+            | LocationRefused::EmptySegment
+            | LocationRefused::DotSegment
+            | LocationRefused::ControlByte
+            | LocationRefused::TooLong),
+        ) => Err(Stop::Refused(Refusal::BadLocation { table: 0, why })),
+    }
+}
+
+/// The locations of these texts.
+pub fn all_located(alloc: Global, texts: &[Text]) -> Result<Listed<Location>, Stop>
+    ensures { Judges (bad_texts texts.now) (λ locations. locations ≡ map segments_of texts.now) result }
+{
+    let mut locations = Vec::new(alloc);
+    for text in texts {
+        locations.push(located(alloc, text)?)?;
+    }
+    Ok(Listed::from(locations))
+}
+
+/// The catalogue is kept here.
+#[tactic(auto, unfolding(crate::specs::Rules::unsupported_type))]
+pub fn kept_here(external: bool) -> Result<(), Stop>
+    ensures { Judges (unsupported_type external) (λ _. ⊤) result }
+{
+    if external {
+        return Err(Stop::Refused(Refusal::Unsupported {
+            name: OptionName::Type,
+        }));
+    }
+    Ok(())
+}
+
+/// The principal role `service_admin`, which is always there.
+pub fn service_admin(state: &State) -> &PrincipalRoleRow
+    requires { IsSound state.now.rows }
+    ensures { principal_role_named (codes "service_admin") state.now.rows.access ≡ Some result.now }
+{
+    state
+        .access()
+        .principal_role_named("service_admin")
+        .unwrap()
+}

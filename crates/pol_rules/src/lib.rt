@@ -1,0 +1,11 @@
+//! Rules: each is what refuses a command, and a function that judges it.
+#![tactic(auto)]
+
+pub mod access_rules;
+pub mod callers;
+pub mod catalog_rules;
+pub mod drops;
+pub mod made;
+pub mod namespace_rules;
+pub mod needs;
+pub mod rules;

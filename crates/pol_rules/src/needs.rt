@@ -1,0 +1,196 @@
+ghost use Rattle.std.specs.Prelude.{◌≡◌, option_copied, IfOk, Some};
+ghost use Rattle.std.specs.Bool.{⊤};
+ghost use Rattle.pol_rules.specs.Judged.{Judges};
+ghost use Rattle.pol_rules.specs.Needs.{caller_may, first_unmet, forbidden, namespace_shown, on_catalog, on_parent, on_path, service, session_may, shown};
+ghost use Rattle.pol_state.specs.Sound.{IsSound};
+
+use crate::callers::session_of;
+use crate::rules::{Stop, time_of};
+use pol_access::{Privilege, Securable};
+use pol_commands::{Caller, Command, Refusal, SecurableName};
+use pol_content::{CatalogRow, NamespaceRow};
+use pol_names::Namespace;
+use pol_state::State;
+use pol_tokens::SessionRow;
+use pol_types::OutOfMemory;
+use std::alloc::Global;
+
+/// A privilege that an action needs, and what it needs it on.
+#[derive(Clone, Copy, Debug)]
+pub struct Need {
+    pub privilege: Privilege,
+    pub on: Securable,
+}
+
+/// The caller may manage the realm.
+pub fn allowed_service(alloc: Global, state: &State, command: &Command) -> Result<(), Stop>
+    requires { IsSound state.now.rows }
+    ensures { Judges (forbidden state.now.rows command.now service) (λ _. ⊤) result }
+{
+    let need = Need {
+        privilege: Privilege::ServiceManageAccess,
+        on: Securable::Realm,
+    };
+    allowed(alloc, state, command, &[need])
+}
+
+/// The caller may use the privilege on the catalogue.
+pub fn allowed_on_catalog(
+    alloc: Global,
+    state: &State,
+    command: &Command,
+    privilege: Privilege,
+    catalog: &CatalogRow,
+) -> Result<(), Stop>
+    requires { IsSound state.now.rows }
+    ensures { Judges (forbidden state.now.rows command.now (on_catalog privilege catalog.now)) (λ _. ⊤) result }
+{
+    let need = Need {
+        privilege,
+        on: Securable::Catalog(catalog.id),
+    };
+    allowed(alloc, state, command, &[need])
+}
+
+/// The caller may use the privilege on the deepest part of a path in the catalogue that is there.
+pub fn allowed_on_path(
+    alloc: Global,
+    state: &State,
+    command: &Command,
+    privilege: Privilege,
+    levels: &Namespace,
+    catalog: &CatalogRow,
+) -> Result<(), Stop>
+    requires { IsSound state.now.rows }
+    ensures { Judges (forbidden state.now.rows command.now (on_path state.now.rows privilege levels.now catalog.now)) (λ _. ⊤) result }
+{
+    let on = state.content().deepest(alloc, catalog.id, levels)?;
+    allowed(alloc, state, command, &[Need { privilege, on }])
+}
+
+/// The caller may use the privilege on the deepest part of a parent's path, where there is one, else on the catalogue.
+pub fn allowed_on_parent(
+    alloc: Global,
+    state: &State,
+    command: &Command,
+    privilege: Privilege,
+    parent: Option<&Namespace>,
+    catalog: &CatalogRow,
+) -> Result<(), Stop>
+    requires { IsSound state.now.rows }
+    ensures { Judges (forbidden state.now.rows command.now (on_parent state.now.rows privilege (option_copied parent.entry) catalog.now)) (λ _. ⊤) result }
+{
+    match parent {
+        Some(levels) => allowed_on_path(alloc, state, command, privilege, levels, catalog),
+        None => allowed_on_catalog(alloc, state, command, privilege, catalog),
+    }
+}
+
+/// The caller has what the action needs. The first need that isn't met is told.
+#[tactic(auto, unfolding(crate::specs::Needs::forbidden))]
+fn allowed(alloc: Global, state: &State, command: &Command, needs: &[Need]) -> Result<(), Stop>
+    requires { IsSound state.now.rows }
+    ensures { Judges (forbidden state.now.rows command.now needs.now) (λ _. ⊤) result }
+{
+    let Some(need) = first_unmet(alloc, state, command, needs)? else {
+        return Ok(());
+    };
+    Err(Stop::Refused(Refusal::Forbidden {
+        privilege: need.privilege,
+        securable: shown(alloc, state, need.on)?,
+    }))
+}
+
+/// The first need that isn't met.
+#[tactic(auto, unfolding(crate::specs::Needs::first_unmet))]
+fn first_unmet(
+    alloc: Global,
+    state: &State,
+    command: &Command,
+    needs: &[Need],
+) -> Result<Option<Need>, OutOfMemory>
+    requires { IsSound state.now.rows }
+    ensures { IfOk result (λ unmet. unmet ≡ first_unmet state.now.rows command.now needs.now) }
+{
+    let time = time_of(state, command);
+    for need in needs {
+        if !caller_may(alloc, state, time, &command.caller, need)? {
+            return Ok(Some(*need));
+        }
+    }
+    Ok(None)
+}
+
+/// Whether the caller has what it needs.
+fn caller_may(
+    alloc: Global,
+    state: &State,
+    time: u64,
+    caller: &Caller,
+    need: &Need,
+) -> Result<bool, OutOfMemory>
+    requires { IsSound state.now.rows }
+    ensures { IfOk result (λ may. may ≡ caller_may state.now.rows time caller.now need.now) }
+{
+    match caller {
+        Caller::Nobody => Ok(false),
+        Caller::Bearer(text) => match session_of(state, time, text.as_slice()) {
+            Some(session) => session_may(alloc, state, session, need),
+            None => Ok(false),
+        },
+        Caller::Setup => Ok(true),
+    }
+}
+
+/// Whether the session has what it needs, by its roles.
+fn session_may(
+    alloc: Global,
+    state: &State,
+    session: &SessionRow,
+    need: &Need,
+) -> Result<bool, OutOfMemory>
+    requires { IsSound state.now.rows }
+    ensures { IfOk result (λ may. may ≡ session_may state.now.rows (Some session.now) need.now) }
+{
+    let chain = state.content().chain(alloc, need.on)?;
+    Ok(
+        state.access().may(
+            session.principal,
+            &session.scope,
+            need.privilege,
+            chain.as_slice(),
+        ),
+    )
+}
+
+/// The securable as a refusal shows it.
+fn shown(alloc: Global, state: &State, securable: Securable) -> Result<SecurableName, OutOfMemory>
+    ensures { IfOk result (λ name. name ≡ shown state.now.rows securable) }
+{
+    match securable {
+        Securable::Catalog(id) => match state.content().catalog_of(id) {
+            Some(row) => Ok(SecurableName::Catalog {
+                catalog: row.name.clone()?,
+            }),
+            None => Ok(SecurableName::Realm),
+        },
+        Securable::Namespace(id) => match state.content().namespace_of(id) {
+            Some(row) => namespace_shown(state, row),
+            None => Ok(SecurableName::Realm),
+        },
+        Securable::Realm | Securable::Table(_) | Securable::View(_) => Ok(SecurableName::Realm),
+    }
+}
+
+/// The namespace as a refusal shows it.
+fn namespace_shown(state: &State, row: &NamespaceRow) -> Result<SecurableName, OutOfMemory>
+    ensures { IfOk result (λ name. name ≡ namespace_shown state.now.rows (Some row.now)) }
+{
+    match state.content().catalog_of(row.catalog) {
+        Some(catalog) => Ok(SecurableName::Namespace {
+            catalog: catalog.name.clone()?,
+            namespace: row.levels.clone()?,
+        }),
+        None => Ok(SecurableName::Realm),
+    }
+}

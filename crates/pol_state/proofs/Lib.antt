@@ -1,0 +1,3 @@
+pub mod AppliedLemmas
+pub mod ChangesLemmas
+pub mod FreshLemmas

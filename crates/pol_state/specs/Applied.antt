@@ -1,0 +1,69 @@
+-- Changes applied to a state, and the room that they need.
+use Rattle.std.specs.Prelude.{ℕ, ◌+◌, ◌≤◌, List, [], ◌∷◌, count_by}
+use Rattle.std.specs.List.{fold}
+use Rattle.pol_access.specs.Access.{catalog_role_id, principal_id, principal_role_id}
+use Rattle.pol_access.specs.contracts.rows.GrantRow as grant
+use Rattle.pol_access.specs.contracts.rows.JoinRow as join
+use Rattle.pol_access.specs.contracts.rows.MemberRow as member
+use Rattle.pol_tables.specs.Facts.{facts_with, facts_without}
+use Rattle.pol_tables.specs.Table.{rows_with, rows_without}
+use Rattle.pol_content.specs.Change.{puts}
+use Rattle.pol_content.specs.Content.{catalog_id, namespace_id}
+use Rattle.pol_content.specs.declared.change.Change.{Change}
+use Rattle.pol_content.specs.declared.change.Change.TheVariants.{Time, NextId, NextSerial, PutPrincipal, DropPrincipal, PutPrincipalRole, DropPrincipalRole, PutCatalog, DropCatalog, PutCatalogRole, DropCatalogRole, PutNamespace, DropNamespace, PutMember, DropMember, PutJoin, DropJoin, PutGrant, DropGrant, PutSession}
+use Rattle.pol_content.specs.declared.change.RowKind.TheVariants as kind
+use Rattle.pol_tokens.specs.Tokens.{serial_of}
+use Rattle.pol_state.specs.Rows.{Rows, Room}
+
+-- the rows once one change is made
+abbrev pub changed : Rows → Change → Rows
+changed s (Time time) = record s { time = time }
+changed s (NextId id) = record s { next_id = id }
+changed s (NextSerial serial) = record s { next_serial = serial }
+changed s (PutPrincipal row) = record s { access = record s.access { principals = rows_with principal_id row s.access.principals } }
+changed s (DropPrincipal id) = record s { access = record s.access { principals = rows_without principal_id id s.access.principals } }
+changed s (PutPrincipalRole row) = record s { access = record s.access { principal_roles = rows_with principal_role_id row s.access.principal_roles } }
+changed s (DropPrincipalRole id) = record s { access = record s.access { principal_roles = rows_without principal_role_id id s.access.principal_roles } }
+changed s (PutCatalog row) = record s { content = record s.content { catalogs = rows_with catalog_id row s.content.catalogs } }
+changed s (DropCatalog id) = record s { content = record s.content { catalogs = rows_without catalog_id id s.content.catalogs } }
+changed s (PutCatalogRole row) = record s { access = record s.access { catalog_roles = rows_with catalog_role_id row s.access.catalog_roles } }
+changed s (DropCatalogRole id) = record s { access = record s.access { catalog_roles = rows_without catalog_role_id id s.access.catalog_roles } }
+changed s (PutNamespace row) = record s { content = record s.content { namespaces = rows_with namespace_id row s.content.namespaces } }
+changed s (DropNamespace id) = record s { content = record s.content { namespaces = rows_without namespace_id id s.content.namespaces } }
+changed s (PutMember row) = record s { access = record s.access { members = facts_with member.the_row.coded row s.access.members } }
+changed s (DropMember row) = record s { access = record s.access { members = facts_without member.the_row.coded row s.access.members } }
+changed s (PutJoin row) = record s { access = record s.access { joins = facts_with join.the_row.coded row s.access.joins } }
+changed s (DropJoin row) = record s { access = record s.access { joins = facts_without join.the_row.coded row s.access.joins } }
+changed s (PutGrant row) = record s { access = record s.access { grants = facts_with grant.the_row.coded row s.access.grants } }
+changed s (DropGrant row) = record s { access = record s.access { grants = facts_without grant.the_row.coded row s.access.grants } }
+changed s (PutSession row) = record s { tokens = record { sessions = rows_with serial_of row s.tokens.sessions } }
+
+-- the rows once all changes are made in their order, with this time, and this charge added
+abbrev pub applied : List Change → ℕ → ℕ → Rows → Rows
+applied changes time charge s =
+    let after : Rows = fold changed s changes in
+    record after { time = time; charged = after.charged + charge }
+
+-- there is room for each row that the changes put
+pub record HasRoom (changes : List Change) (room : Room) : Type 0 where
+  pub principals : count_by (puts kind.Principal) changes ≤ room.access.principals
+  pub principal_roles : count_by (puts kind.PrincipalRole) changes ≤ room.access.principal_roles
+  pub catalogs : count_by (puts kind.Catalog) changes ≤ room.content.catalogs
+  pub catalog_roles : count_by (puts kind.CatalogRole) changes ≤ room.access.catalog_roles
+  pub namespaces : count_by (puts kind.Namespace) changes ≤ room.content.namespaces
+  pub members : count_by (puts kind.Member) changes ≤ room.access.members
+  pub joins : count_by (puts kind.Join) changes ≤ room.access.joins
+  pub grants : count_by (puts kind.Grant) changes ≤ room.access.grants
+  pub sessions : count_by (puts kind.Session) changes ≤ room.tokens.sessions
+
+-- a change takes room for the row that it puts, and no more
+pub record TakesRoom (change : Change) (old new : Room) : Type 0 where
+  pub principals : old.access.principals ≤ new.access.principals + count_by (puts kind.Principal) (change ∷ [])
+  pub principal_roles : old.access.principal_roles ≤ new.access.principal_roles + count_by (puts kind.PrincipalRole) (change ∷ [])
+  pub catalogs : old.content.catalogs ≤ new.content.catalogs + count_by (puts kind.Catalog) (change ∷ [])
+  pub catalog_roles : old.access.catalog_roles ≤ new.access.catalog_roles + count_by (puts kind.CatalogRole) (change ∷ [])
+  pub namespaces : old.content.namespaces ≤ new.content.namespaces + count_by (puts kind.Namespace) (change ∷ [])
+  pub members : old.access.members ≤ new.access.members + count_by (puts kind.Member) (change ∷ [])
+  pub joins : old.access.joins ≤ new.access.joins + count_by (puts kind.Join) (change ∷ [])
+  pub grants : old.access.grants ≤ new.access.grants + count_by (puts kind.Grant) (change ∷ [])
+  pub sessions : old.tokens.sessions ≤ new.tokens.sessions + count_by (puts kind.Session) (change ∷ [])

@@ -1,0 +1,4 @@
+pub mod Applied
+pub mod Changes
+pub mod Rows
+pub mod Sound
