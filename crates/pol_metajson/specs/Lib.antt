@@ -1,5 +1,7 @@
+pub mod Brackets
 pub mod Chain
 pub mod Ids
+pub mod Kind
 pub mod Numeral
 pub mod Order
 pub mod Partition

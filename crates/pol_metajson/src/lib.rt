@@ -3,8 +3,10 @@
 #![tactic(auto)]
 
 mod body;
+mod brackets;
 mod ids;
 mod keys;
+mod kind;
 mod numeral;
 mod order;
 mod partition;

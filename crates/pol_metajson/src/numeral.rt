@@ -1,4 +1,4 @@
-ghost use Rattle.std.specs.Prelude.{◌≡◌, ◌+◌, true, min};
+ghost use Rattle.std.specs.Prelude.{◌≡◌, ◌≤◌, ◌+◌, true, min, IfSome};
 ghost use Rattle.std.specs.Char.{is_ascii_digit};
 ghost use Rattle.std.specs.List.{list_all};
 ghost use Rattle.std.specs.Str.Parse.{digits_value};
@@ -7,27 +7,30 @@ ghost use Rattle.pol_metajson.specs.Numeral as spec;
 /// The highest number that stands in a word.
 pub(crate) const HIGHEST: u64 = 2_147_483_647;
 
-/// The number from 1 to 2,147,483,647 that these digits are, without a sign and leading zeros.
+/// The number within these bounds, both included, that digits are, without a sign and leading zeros.
 #[tactic(auto, unfolding(crate::specs::Numeral::numeral))]
-pub(crate) fn numeral(digits: &[u8]) -> Option<u32>
-    ensures { result ≡ spec.numeral digits.now }
+pub(crate) fn numeral(digits: &[u8], low: u32, high: u32) -> Option<u32>
+    requires { high ≤ HIGHEST }
+    ensures value { result ≡ spec.numeral low high digits.now }
+    ensures within { IfSome result (λ number. number ≤ high) }
 {
-    if starts_with_zero(digits) || !are_digits(digits) {
+    if has_leading_zero(digits) || !are_digits(digits) {
         return None;
     }
     let value = value_of(digits);
-    if value == 0 || value > HIGHEST {
+    if value < u64::from(low) || value > u64::from(high) {
         return None;
     }
     Some(value as u32)
 }
 
-fn starts_with_zero(digits: &[u8]) -> bool
-    ensures { result ≡ spec.starts_with_zero digits.now }
+/// Whether there are no digits, or a zero before others.
+fn has_leading_zero(digits: &[u8]) -> bool
+    ensures { result ≡ spec.has_leading_zero digits.now }
 {
     match digits.first() {
-        Some(digit) => *digit == b'0',
-        None => false,
+        Some(digit) => *digit == b'0' && digits.len() > 1,
+        None => true,
     }
 }
 

@@ -2,7 +2,7 @@ ghost use Rattle.std.specs.Prelude.{◌≡◌};
 ghost use Rattle.pol_metajson.specs.Transform as spec;
 
 use crate::Body;
-use crate::numeral::numeral;
+use crate::brackets::sized;
 use pol_meta::Transform;
 use pol_readers::{Form, ReadError};
 use serde_json::Value;
@@ -50,18 +50,9 @@ fn plain_transform(word: &str) -> Option<Transform>
 fn sized_transform(word: &str) -> Option<Transform>
     ensures { result ≡ spec.sized_transform word.now }
 {
-    if let Some(buckets) = bracketed(word, "bucket[") {
+    if let Some(buckets) = sized(word, "bucket[") {
         return Some(Transform::Bucket(buckets));
     }
-    let width = bracketed(word, "truncate[")?;
+    let width = sized(word, "truncate[")?;
     Some(Transform::Truncate(width))
-}
-
-/// The number between this beginning and a bracket at the end.
-fn bracketed(word: &str, start: &str) -> Option<u32>
-    ensures { result ≡ spec.bracketed start.now word.now }
-{
-    let rest = word.as_bytes().strip_prefix(start.as_bytes())?;
-    let digits = rest.strip_suffix(b"]")?;
-    numeral(digits)
 }
