@@ -2,7 +2,7 @@ ghost use Rattle.std.specs.Prelude.{◌≡◌, ◌≤◌, ◌+◌, ◌-◌, ◌^
 ghost use Rattle.pol_disk.specs.Disk.{IsDurable, Told, written};
 ghost use Rattle.pol_disk.specs.MemoryDisk.{first_disk};
 
-use pol_disk::{Disk, FileDisk, HollowDisk, MemoryDisk};
+use pol_disk::{Disk, DiskOver, FileDisk, HollowDisk, MemoryDisk};
 use pol_wire::Failed;
 use std::alloc::Global;
 use std::fs;
@@ -255,4 +255,18 @@ fn disks_may_cross_threads(rt: HostRuntime) {
     }
     moved(HollowDisk::new(0));
     moved(FileDisk::new(&rt, String::new(alloc)));
+}
+
+// Whether a disk over a disk in memory writes, reads and cuts, and counts the call that fails.
+fn serves_as_a_file(alloc: Global) -> Option<bool> {
+    let mut disk = DiskOver::over(disk_of(alloc, b"abcd", &[7])?);
+    let written = write_through(&mut disk, 3, b"xy").is_ok();
+    let is_read = reads(&mut disk, 1, 9, b"bcxy");
+    let cut = disk.cut(9).is_ok() && disk.cut(2).is_err() && has_length(&mut disk, 5);
+    Some(written && is_read && cut && disk.faults() == 1 && disk.moment() == 3)
+}
+
+#[test]
+fn disk_in_memory_serves_as_a_file(rt: HostRuntime) {
+    assert!(rt; serves_as_a_file(rt.alloc()) == Some(true));
 }
