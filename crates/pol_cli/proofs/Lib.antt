@@ -1,2 +1,4 @@
+pub mod GivenLemmas
 pub mod RunLemmas
+pub mod TextLemmas
 pub mod WordsLemmas

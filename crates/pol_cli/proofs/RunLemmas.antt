@@ -1,23 +1,20 @@
 -- What the reason of a run tells of its link.
-use Rattle.std.proofs.Common.{◌≡◌, ◌≢◌, ◌<◌, ◌≤◌, ◌+◌, ◌⊎◌, ℕ, List, [], ◌++◌, length, Option, Some, None, refl, sym, ap, subst, ◌∙◌, inl, inr, arith, length-append}
-use Rattle.std.specs.Prelude.{IfSome, IsSome, ⊤}
+use Rattle.std.proofs.Common.{◌≡◌, ◌≢◌, ◌<◌, ◌⊎◌, ℕ, List, [], ◌∷◌, length, Option, Some, None, refl, sym, ap, subst, ◌∙◌, inl, inr, arith, length-append}
+use Rattle.std.specs.Prelude.{IfSome, IsSome}
 use Rattle.std.specs.Io.KnownBytes.{Consumes}
 use Rattle.pol_state.specs.Rows.{Rows, fresh_state}
 use Rattle.pol_shared.specs.History.{Log}
 use Rattle.pol_shared.specs.declared.entry.Entry.{Entry}
-use Rattle.pol_wire.specs.Faults.{Rises}
-use Rattle.pol_cli.specs.declared.words.Plan.{Plan}
-use Rattle.pol_cli.specs.declared.words.Plan.TheVariants.{ExecFresh}
 use Rattle.pol_server.specs.Ends.{Ends}
 use Rattle.pol_server.specs.Link.{EndsBy, taken_bound}
 use Rattle.pol_server.specs.Turn.{Turn}
 use Rattle.pol_server.specs.declared.served.Ending.{Ending}
 use Rattle.pol_server.specs.declared.served.Ending.TheVariants as ending
-use Rattle.pol_cli.specs.Words.{root_secret}
 use Rattle.pol_cli.specs.Run.{HasCause, IsDecided, IsUnfailing, RunsLink, Serves, reason_of, report_of, status_of}
 use Rattle.pol_cli.specs.declared.report.Reason.{Reason}
 use Rattle.pol_cli.specs.declared.report.Reason.TheVariants.{Done, ReadFault, WriteFault, Usage, NoMemory, InputCut, Spent}
 use Rattle.pol_cli.specs.declared.report.Report.{Report}
+use Rattle.pol_cli.specs.declared.report.ServedLink.{ServedLink}
 
 module _ (before after : Ends) (turns : List Turn) (taken rest text : List ℕ) (takes : Consumes before.left after.left taken) where
   cause-by : (how : Ending) → EndsBy how before after turns (length taken) rest text → HasCause before after (reason_of how)
@@ -94,14 +91,18 @@ pub runs-fresh : (secret : List ℕ) (log : Log) (new : List Entry) (before afte
     → Serves log.base log.history before after new report → RunsLink secret before after report
 runs-fresh secret log new before after report is serves = (new, subst (λ log. Serves log.base log.history before after new report) is serves)
 
--- a plan is that of its words
-pub planned-secret : (found : Option Plan) (plan : Plan) (secret : List ℕ) → Some plan ≡ found → found ≡ Some (ExecFresh secret) → root_secret plan ≡ secret
-planned-secret found plan secret one other = let is : plan ≡ ExecFresh secret = cc in ap root_secret is
+-- a report with a link that was served has one
+pub served-something : (reason : Reason) (report : Report) (link : ServedLink) → report ≡ report_of reason (link ∷ []) → report.served ≢ []
+served-something reason report link is none = let contrary : link ∷ [] ≡ [] = sym (ap (λ report. report.served) is) ∙ none in cc
 
 -- a link that was not called
 pub cause-quiet : (ends : Ends) (report : Report) → (report ≡ report_of Usage []) ⊎ (report ≡ report_of NoMemory []) → HasCause ends ends report.reason
 cause-quiet ends report (inl is) = subst (HasCause ends ends) (sym (ap (λ report. report.reason) is)) (record { read_fault = λ is. cc; write_fault = λ is. cc; spent = λ is. cc })
 cause-quiet ends report (inr is) = subst (HasCause ends ends) (sym (ap (λ report. report.reason) is)) (no-cause ends ends)
+
+pub report-quiet : (reason : Reason) (report : Report) → report ≡ report_of reason [] → (reason ≡ Usage) ⊎ (reason ≡ NoMemory) → (report ≡ report_of Usage []) ⊎ (report ≡ report_of NoMemory [])
+report-quiet reason report is (inl usage) = inl (is ∙ ap (λ reason. report_of reason []) usage)
+report-quiet reason report is (inr memory) = inr (is ∙ ap (λ reason. report_of reason []) memory)
 
 pub status-told : (reason : Reason) (report : Report) → report ≡ report_of reason [] → report.status ≡ status_of report.reason
 status-told reason report is = ap (λ report. report.status) is ∙ ap (λ report. status_of report.reason) (sym is)

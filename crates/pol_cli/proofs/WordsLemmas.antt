@@ -1,28 +1,40 @@
--- What follows a front in a word.
-use Rattle.std.proofs.Common.{◌≡◌, ◌≢◌, ℕ, Bool, true, false, List, [], ◌∷◌, ◌++◌, Option, Some, None, cond, refl, sym, ap, ◌∙◌, inl, inr}
-use Rattle.std.specs.Prelude.{option_and_then}
-use Rattle.std.proofs.lemmas.Bool.{eq-eqb}
-use Rattle.std.proofs.lemmas.Bool.Decides.{eqb_tells}
-use Rattle.pol_cli.specs.Words.{after, filled, option_text, value_of}
+-- What the lines of words mean, and what they don't.
+use Rattle.std.proofs.Common.{◌≡◌, ◌≢◌, ℕ, List, [], ◌∷◌, ◌++◌, Option, Some, None, sym, ap, ◌∙◌, inl, inr}
+use Rattle.std.specs.Prelude.{codes}
+use Rattle.pol_cli.specs.Words.{GivesSecret, HasValue, Means, root_secret}
+use Rattle.pol_cli.specs.declared.words.Plan.{Plan}
+use Rattle.pol_cli.specs.declared.words.Plan.TheVariants.{ExecFresh}
 
--- a word that doesn't have the front
-pub after-none : (front word : List ℕ) → ((rest : List ℕ) → word ≢ front ++ rest) → after front word ≡ None
-after-none [] word apart = absurd (apart word refl)
-after-none (first ∷ front) [] apart = refl
-after-none (first ∷ front) (byte ∷ word) apart = elim (eqb_tells first byte) [
-  | inl same ↦ ap (λ test. cond test (after front word) None) same.0 ∙ after-none front word (λ rest is. apart rest (ap (λ rest. byte ∷ rest) is ∙ ap (λ head. head ∷ (front ++ rest)) (sym same.1)))
-  | inr other ↦ ap (λ test. cond test (after front word) None) other.0
-]
+-- a word that doesn't have the option has no value
+pub value-none : (word : List ℕ) → ((rest : List ℕ) → word ≢ codes "--root-secret=" ++ rest) → HasValue word None
+value-none word other = λ value filled is. other value is
 
--- a word that has it
-pub after-some : (front rest : List ℕ) → after front (front ++ rest) ≡ Some rest
-after-some [] rest = refl
-after-some (first ∷ front) rest = ap (λ test. cond test (after front (front ++ rest)) None) (eq-eqb first first refl) ∙ after-some front rest
+second : List (List ℕ) → List ℕ
+second [] = []
+second (one ∷ []) = []
+second (one ∷ two ∷ rest) = two
 
-pub value-none : (word : List ℕ) → ((rest : List ℕ) → word ≢ option_text ++ rest) → value_of word ≡ None
-unfolding value_of
-value-none word apart = ap (option_and_then filled) (after-none option_text word apart)
+-- two words without a value mean nothing
+attached-nothing : (word : List ℕ) → HasValue word None → (plan : Plan) → ¬ (Means (codes "exec" ∷ word ∷ []) plan)
+unfolding second
+attached-nothing word none (ExecFresh secret) (inl means) = let is = means.0 in cc
+attached-nothing word none (ExecFresh secret) (inr means) = none secret means.1 (ap second means.0)
 
-pub value-some : (word value : List ℕ) → word ≡ option_text ++ value → value_of word ≡ filled value
-unfolding value_of
-value-some word value is = ap (λ word. option_and_then filled (after option_text word)) is ∙ ap (option_and_then filled) (after-some option_text value)
+-- two words mean what the second has
+pub attached-means : (word : List ℕ) (value : Option (List ℕ)) → HasValue word value → GivesSecret (codes "exec" ∷ word ∷ []) value
+attached-means word (Some value) has = inr (ap (λ word. codes "exec" ∷ word ∷ []) has.0, has.1)
+attached-means word None has = attached-nothing word has
+
+third : List (List ℕ) → List ℕ
+third [] = []
+third (one ∷ []) = []
+third (one ∷ two ∷ []) = []
+third (one ∷ two ∷ three ∷ rest) = three
+
+-- a line that means a plan and this secret means the plan's secret
+pub meant-secret : (words : List (List ℕ)) (plan : Plan) (secret : List ℕ) → Means words plan → Means words (ExecFresh secret) → root_secret plan ≡ secret
+unfolding third
+meant-secret words (ExecFresh one) two (inl first) (inl other) = ap third (sym first.0 ∙ other.0)
+meant-secret words (ExecFresh one) two (inl first) (inr other) = let is = sym first.0 ∙ other.0 in cc
+meant-secret words (ExecFresh one) two (inr first) (inl other) = let is = sym first.0 ∙ other.0 in cc
+meant-secret words (ExecFresh one) two (inr first) (inr other) = let is = sym first.0 ∙ other.0 in cc

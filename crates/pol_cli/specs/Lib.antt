@@ -1,3 +1,5 @@
-pub mod Reason
+pub mod Given
+pub mod Laws
 pub mod Run
+pub mod Told
 pub mod Words

@@ -1,51 +1,42 @@
--- The lines of words that are commands.
-use Rattle.std.specs.Prelude.{ℕ, Bool, true, false, ◌&&◌, ◌==◌, not, List, [], ◌∷◌, Option, Some, None, if◌then◌else◌, codes, option_and_then}
-use Rattle.std.specs.Option.{option_map}
-use Rattle.std.specs.Str.{bytes_eq}
+-- What the lines of words mean.
+use Rattle.std.specs.Prelude.{◌≡◌, ◌≢◌, ◌⊎◌, ℕ, List, [], ◌∷◌, ◌++◌, Option, Some, None, codes}
 use Rattle.pol_cli.specs.declared.words.Plan.{Plan}
 use Rattle.pol_cli.specs.declared.words.Plan.TheVariants.{ExecFresh}
 
 -- a value that stands as a word of its own has a byte, and doesn't begin with `-` as an option does
-abbrev pub is_apart : List ℕ → Bool
-is_apart [] = false
-is_apart (byte ∷ bytes) = not (byte == 45)
+abbrev pub StandsApart : List ℕ → Type 0
+StandsApart value = (value ≢ []) × ((rest : List ℕ) → value ≢ codes "-" ++ rest)
 
--- `exec --root-secret TEXT`
-abbrev pub apart : List ℕ → List ℕ → List ℕ → Option (List ℕ)
-apart command option value =
-    if bytes_eq command (codes "exec") && bytes_eq option (codes "--root-secret") && is_apart value then Some value else None
+-- `exec --root-secret SECRET`
+abbrev pub IsExecApart : List (List ℕ) → List ℕ → Type 0
+IsExecApart words secret = (words ≡ codes "exec" ∷ codes "--root-secret" ∷ secret ∷ []) × StandsApart secret
 
--- a value in one word with its option has a byte
-abbrev pub filled : List ℕ → Option (List ℕ)
-filled [] = None
-filled (byte ∷ bytes) = Some (byte ∷ bytes)
+-- `exec --root-secret=SECRET`
+abbrev pub IsExecAttached : List (List ℕ) → List ℕ → Type 0
+IsExecAttached words secret = (words ≡ codes "exec" ∷ (codes "--root-secret=" ++ secret) ∷ []) × (secret ≢ [])
 
-abbrev pub option_text : List ℕ
-option_text = codes "--root-secret="
+-- a line of words asks for this
+abbrev pub Means : List (List ℕ) → Plan → Type 0
+Means words (ExecFresh secret) = IsExecApart words secret ⊎ IsExecAttached words secret
 
--- what follows a front in a word, if it has it
-abbrev pub after : List ℕ → List ℕ → Option (List ℕ)
-after [] word = Some word
-after (first ∷ front) [] = None
-after (first ∷ front) (byte ∷ word) = if first == byte then after front word else None
+-- a line of words asks for nothing, so that it is no command line
+abbrev pub MeansNothing : List (List ℕ) → Type 0
+MeansNothing words = (plan : Plan) → ¬ (Means words plan)
 
--- the value in one word with its option
-unfoldable pub value_of : List ℕ → Option (List ℕ)
-value_of word = option_and_then filled (after option_text word)
+-- what is read in a line: the plan that it asks for, or none where it asks for nothing
+abbrev pub IsReadAs : List (List ℕ) → Option Plan → Type 0
+IsReadAs words (Some plan) = Means words plan
+IsReadAs words None = MeansNothing words
 
--- `exec --root-secret=TEXT`
-abbrev pub attached : List ℕ → List ℕ → Option (List ℕ)
-attached command word = if bytes_eq command (codes "exec") then value_of word else None
+-- the root secret that is read in a line
+abbrev pub GivesSecret : List (List ℕ) → Option (List ℕ) → Type 0
+GivesSecret words (Some secret) = Means words (ExecFresh secret)
+GivesSecret words None = MeansNothing words
 
--- the root secret that a line of words gives
-abbrev pub secret_of : List (List ℕ) → Option (List ℕ)
-secret_of (command ∷ option ∷ value ∷ []) = apart command option value
-secret_of (command ∷ word ∷ []) = attached command word
-secret_of words = None
-
--- what a line of words asks for
-abbrev pub plan_of : List (List ℕ) → Option Plan
-plan_of words = option_map ExecFresh (secret_of words)
+-- the value that is read in one word with its option
+abbrev pub HasValue : List ℕ → Option (List ℕ) → Type 0
+HasValue word (Some value) = (word ≡ codes "--root-secret=" ++ value) × (value ≢ [])
+HasValue word None = (value : List ℕ) → value ≢ [] → word ≢ codes "--root-secret=" ++ value
 
 -- the secret of root in a plan
 abbrev pub root_secret : Plan → List ℕ

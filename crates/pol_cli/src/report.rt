@@ -1,7 +1,7 @@
 //! What a run reports.
-ghost use Rattle.std.specs.Prelude.{◌≡◌, [], ◌∷◌, Some};
+ghost use Rattle.std.specs.Prelude.{◌≡◌, Some};
 ghost use Rattle.pol_cli.specs.Run as spec;
-ghost use Rattle.pol_cli.specs.Reason.{reason_text};
+ghost use Rattle.pol_cli.specs.Told.{reason_text};
 
 use pol_server::{Ending, Served};
 use pol_types::Listed;

@@ -1,6 +1,5 @@
 //! The words of a command line.
-ghost use Rattle.std.specs.Prelude.{◌≡◌, ℕ, List, Ok, IfOk, None, length, option_copied};
-ghost use Rattle.std.specs.Option.{option_map};
+ghost use Rattle.std.specs.Prelude.{◌≡◌, ◌↔◌, ◌∷◌, [], Ok, IfOk, IsTrue, None, option_copied};
 ghost use Rattle.pol_cli.specs.Words as spec;
 
 use pol_types::{Listed, OutOfMemory, Text};
@@ -15,7 +14,7 @@ pub struct Words {
 /// What a line of words asks for.
 #[derive(Debug, Drop)]
 pub enum Plan {
-    /// `exec --root-secret TEXT`: serves the link over a fresh catalogue whose root has this secret.
+    /// `exec --root-secret SECRET`: serves the link over a fresh catalogue whose root has this secret.
     ExecFresh { root_secret: Text },
 }
 
@@ -32,8 +31,8 @@ impl Plan {
 
 /// What the words ask for, or `None` where they are no command line. Memory is taken for a command alone.
 pub fn plan_of(alloc: Global, words: &Words) -> Result<Option<Plan>, OutOfMemory>
-    ensures plan { IfOk result (λ plan. plan ≡ spec.plan_of words.now.list) }
-    ensures none { spec.plan_of words.now.list ≡ None → result ≡ Ok None }
+    ensures plan { IfOk result (λ plan. spec.IsReadAs words.now.list plan) }
+    ensures none { spec.MeansNothing words.now.list → result ≡ Ok None }
 {
     let Some(secret) = secret_of(words.list.as_slice()) else {
         return Ok(None);
@@ -44,7 +43,7 @@ pub fn plan_of(alloc: Global, words: &Words) -> Result<Option<Plan>, OutOfMemory
 
 /// The root secret that the words give.
 fn secret_of(words: &[Text]) -> Option<&str>
-    ensures { option_copied result ≡ spec.secret_of words.now }
+    ensures { spec.GivesSecret words.now (option_copied result) }
 {
     match words {
         [command, option, value] => apart(command.as_str(), option.as_str(), value.as_str()),
@@ -55,17 +54,17 @@ fn secret_of(words: &[Text]) -> Option<&str>
 
 /// The value of the option that stands before it as a word of its own.
 fn apart<'a>(command: &str, option: &str, value: &'a str) -> Option<&'a str>
-    ensures { option_copied result ≡ spec.apart command.now option.now value.now }
+    ensures { spec.GivesSecret (command.now ∷ option.now ∷ value.now ∷ []) (option_copied result) }
 {
-    if command == "exec" && option == "--root-secret" && is_apart(value) {
+    if command == "exec" && option == "--root-secret" && stands_apart(value) {
         return Some(value);
     }
     None
 }
 
 /// Whether a value may stand as a word of its own: it has a byte, and doesn't begin as an option does.
-fn is_apart(value: &str) -> bool
-    ensures { result ≡ spec.is_apart value.now }
+fn stands_apart(value: &str) -> bool
+    ensures { IsTrue result ↔ spec.StandsApart value.now }
 {
     match value.as_bytes() {
         [] => false,
@@ -75,7 +74,7 @@ fn is_apart(value: &str) -> bool
 
 /// The value that stands in one word with its option.
 fn attached<'a>(command: &str, word: &'a str) -> Option<&'a str>
-    ensures { option_copied result ≡ spec.attached command.now word.now }
+    ensures { spec.GivesSecret (command.now ∷ word.now ∷ []) (option_copied result) }
 {
     if command != "exec" {
         return None;
@@ -85,18 +84,8 @@ fn attached<'a>(command: &str, word: &'a str) -> Option<&'a str>
 
 /// The value in one word with its option.
 fn value_of(word: &str) -> Option<&str>
-    ensures { option_copied result ≡ spec.value_of word.now }
+    ensures { spec.HasValue word.now (option_copied result) }
 {
     let value = word.strip_prefix("--root-secret=")?;
-    filled(value)
-}
-
-/// A value that has a byte.
-fn filled(value: &str) -> Option<&str>
-    ensures { option_copied result ≡ spec.filled value.now }
-{
-    match value.as_bytes() {
-        [] => None,
-        [_, ..] => Some(value),
-    }
+    if value.is_empty() { None } else { Some(value) }
 }

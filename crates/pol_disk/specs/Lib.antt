@@ -1,3 +1,4 @@
 pub mod Content
 pub mod Disk
+pub mod FileCalls
 pub mod MemoryDisk

@@ -15,6 +15,7 @@ use std::alloc::Global;
 use std::marker::Model;
 use std::mem;
 
+mod calls;
 pub(crate) mod content;
 
 /// A disk in memory. Each write and cut, and each sync that succeeds, is a moment of its clock, and it keeps what a

@@ -1,8 +1,0 @@
-use Rattle.std.proofs.Common.{◌-◌, ◌≤◌, length}
-use Rattle.pol_disk.proofs.file.read_all.Given as goal
-
-abbrev pub invariant-loop-count : goal.invariant-loop-count
-invariant-loop-count g l = l.count ≤ length l.buf
-
-abbrev pub decreases-loop-count : goal.decreases-loop-count
-decreases-loop-count g l = length l.buf - l.count

@@ -1,0 +1,221 @@
+//! Examples while their lines are read.
+use crate::example::{End, Example, Opening};
+use crate::numbers::number_of;
+use crate::settings::Settings;
+use crate::turns::Turns;
+use crate::unread::Unread;
+use crate::values::Value;
+use pol_types::Text;
+use std::alloc::{AllocError, Global};
+
+/// An example or an opening whose lines are being read.
+#[derive(Drop)]
+pub(crate) struct Draft {
+    is_opening: bool,
+    /// The title, or the name of the opening.
+    title: Text,
+    line: usize,
+    stage: Stage,
+    settings: Settings,
+    turns: Turns,
+    end: End,
+    values: Vec<Value>,
+}
+
+/// What was read.
+#[derive(Clone, Copy, PartialEq, Eq)]
+enum Stage {
+    Nothing,
+    Settings,
+    Turns,
+    Values,
+}
+
+/// What came of the lines.
+#[derive(Drop)]
+pub(crate) enum Whole {
+    Example(Example),
+    Opening(Opening),
+}
+
+impl Draft {
+    /// An example of this title, or an opening of this name, at this line.
+    pub(crate) fn new(
+        alloc: Global,
+        title: &str,
+        line: usize,
+        is_opening: bool,
+    ) -> Result<Self, AllocError> {
+        let status = 0;
+        let reason = Text::from(String::from_str(alloc, "done")?);
+        Ok(Draft {
+            is_opening,
+            title: Text::from(String::from_str(alloc, title)?),
+            line,
+            stage: Stage::Nothing,
+            settings: Settings::usual(alloc)?,
+            turns: Turns::new(alloc),
+            end: End {
+                line,
+                status,
+                reason,
+            },
+            values: Vec::new(alloc),
+        })
+    }
+
+    /// The example or the opening, whose lines are all read.
+    pub(crate) fn finish(self, alloc: Global) -> Result<Whole, AllocError> {
+        let Draft {
+            is_opening,
+            title,
+            line,
+            stage: _,
+            settings,
+            turns,
+            end,
+            values,
+        } = self;
+        let script = turns.finish(alloc)?;
+        if is_opening {
+            let name = title;
+            return Ok(Whole::Opening(Opening { name, script }));
+        }
+        Ok(Whole::Example(Example {
+            title,
+            line,
+            settings,
+            script,
+            end,
+            values,
+        }))
+    }
+
+    /// Reads a line, which has this number.
+    pub(crate) fn read(
+        &mut self,
+        alloc: Global,
+        text: &str,
+        line: usize,
+        openings: &[Opening],
+    ) -> Result<(), Unread> {
+        if is_remark(text) {
+            return Ok(());
+        }
+        if let Some(rest) = text.strip_prefix('<') {
+            self.begin_turn()?;
+            return self.turns.read_answer(alloc, rest, line);
+        }
+        if let Some(rest) = text.strip_prefix('>') {
+            self.begin_turn()?;
+            return self.turns.read_request(alloc, rest);
+        }
+        match text.split_once(' ') {
+            Some((word, rest)) => self.read_word(alloc, word, rest, line, openings),
+            None => self.read_word(alloc, text, "", line, openings),
+        }
+    }
+
+    /// Reads a line that begins with this word.
+    fn read_word(
+        &mut self,
+        alloc: Global,
+        word: &str,
+        rest: &str,
+        line: usize,
+        openings: &[Opening],
+    ) -> Result<(), Unread> {
+        if let Some(name) = word.strip_suffix('>') {
+            self.begin_turn()?;
+            return self.turns.read_named(alloc, name, rest);
+        }
+        match word {
+            "begin" => self.read_begin(rest, openings),
+            "token" => self.turns.read_token(alloc, rest),
+            "ends" => self.read_end(alloc, rest, line),
+            "line" | "clock" | "words" | "fail" | "pieces" => self.read_setting(alloc, word, rest),
+            _ => self.read_value(alloc, word, rest, line),
+        }
+    }
+
+    /// A line of a turn may stand here.
+    fn begin_turn(&mut self) -> Result<(), Unread> {
+        if self.stage == Stage::Values {
+            return Err(Unread::Place);
+        }
+        self.stage = Stage::Turns;
+        Ok(())
+    }
+
+    /// A setting may stand here.
+    fn begin_setting(&mut self) -> Result<(), Unread> {
+        if self.stage == Stage::Turns || self.stage == Stage::Values {
+            return Err(Unread::Place);
+        }
+        self.stage = Stage::Settings;
+        Ok(())
+    }
+
+    /// Reads the name of an opening, whose turns come first.
+    fn read_begin(&mut self, name: &str, openings: &[Opening]) -> Result<(), Unread> {
+        self.begin_setting()?;
+        for opening in openings.iter().rev() {
+            if opening.name.as_str() == name {
+                self.turns.script.append(&opening.script)?;
+                return Ok(());
+            }
+        }
+        Err(Unread::Unknown)
+    }
+
+    /// Reads a setting.
+    fn read_setting(&mut self, alloc: Global, word: &str, rest: &str) -> Result<(), Unread> {
+        if self.is_opening {
+            return Err(Unread::Place);
+        }
+        self.begin_setting()?;
+        self.settings.read(alloc, word, rest)
+    }
+
+    /// Reads the status and the reason of the run.
+    fn read_end(&mut self, alloc: Global, rest: &str, line: usize) -> Result<(), Unread> {
+        if self.is_opening {
+            return Err(Unread::Place);
+        }
+        self.begin_turn()?;
+        let Some((status, reason)) = rest.split_once(' ') else {
+            return Err(Unread::Form);
+        };
+        let Ok(status) = u8::try_from(number_of(status)?) else {
+            return Err(Unread::Number);
+        };
+        let reason = Text::from(String::from_str(alloc, reason)?);
+        self.end = End {
+            line,
+            status,
+            reason,
+        };
+        Ok(())
+    }
+
+    /// Reads a line that asks for a value.
+    fn read_value(
+        &mut self,
+        alloc: Global,
+        word: &str,
+        rest: &str,
+        line: usize,
+    ) -> Result<(), Unread> {
+        if self.is_opening || self.stage == Stage::Settings || self.stage == Stage::Turns {
+            return Err(Unread::Place);
+        }
+        self.stage = Stage::Values;
+        self.values.push(Value::read(alloc, word, rest, line)?)?;
+        Ok(())
+    }
+}
+
+/// Whether a line says nothing.
+pub(crate) fn is_remark(text: &str) -> bool {
+    text.is_empty() || text.starts_with('#')
+}

@@ -1,0 +1,36 @@
+//! Examples and their parts.
+use crate::script::Script;
+use crate::settings::Settings;
+use crate::values::Value;
+use pol_types::Text;
+
+/// A worked example.
+#[derive(Drop)]
+pub struct Example {
+    /// The sentence that says what is shown.
+    pub title: Text,
+    /// The line of the title, counted from 1.
+    pub line: usize,
+    pub settings: Settings,
+    pub script: Script,
+    pub end: End,
+    /// The values that are asked for in place of a run.
+    pub values: Vec<Value>,
+}
+
+/// How a run is to end.
+#[derive(Drop)]
+pub struct End {
+    /// The line that says it, or that of the title.
+    pub line: usize,
+    /// The exit status of the run.
+    pub status: u8,
+    pub reason: Text,
+}
+
+/// Turns that examples begin with.
+#[derive(Drop)]
+pub(crate) struct Opening {
+    pub(crate) name: Text,
+    pub(crate) script: Script,
+}

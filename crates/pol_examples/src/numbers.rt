@@ -1,0 +1,24 @@
+//! Numbers in lines.
+use crate::unread::Unread;
+use std::alloc::Global;
+
+/// A number below 2^64 in decimal digits, or in hexadecimal ones behind `0x`.
+pub(crate) fn number_of(text: &str) -> Result<u64, Unread> {
+    let number = match text.strip_prefix("0x") {
+        Some(digits) => u64::from_str_radix(digits, 16),
+        None => text.parse::<u64>(),
+    };
+    match number {
+        Ok(number) => Ok(number),
+        Err(_) => Err(Unread::Number),
+    }
+}
+
+/// The numbers between single spaces.
+pub(crate) fn numbers(alloc: Global, text: &str) -> Result<Vec<u64>, Unread> {
+    let mut numbers = Vec::new(alloc);
+    for word in text.split(' ') {
+        numbers.push(number_of(word)?)?;
+    }
+    Ok(numbers)
+}

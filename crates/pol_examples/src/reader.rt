@@ -1,0 +1,88 @@
+//! The lines of files, and the examples that they tell.
+use crate::draft::{Draft, Whole, is_remark};
+use crate::example::{Example, Opening};
+use crate::unread::Unread;
+use std::alloc::Global;
+
+/// Reads files line by line. The openings of the first file serve all, and those of another one that file alone.
+#[derive(Drop)]
+pub struct Reader {
+    openings: Vec<Opening>,
+    /// How many of the openings are those of the first file, once it is read.
+    shared: Option<usize>,
+    draft: Option<Draft>,
+    line: usize,
+}
+
+impl Reader {
+    /// No file was read.
+    pub fn new(alloc: Global) -> Self {
+        Reader {
+            openings: Vec::new(alloc),
+            shared: None,
+            draft: None,
+            line: 0,
+        }
+    }
+
+    /// The number of the line that was read last, counted from 1.
+    pub fn line(&self) -> usize {
+        self.line
+    }
+
+    /// Reads the next line of a file, and gives the example that ends before it.
+    pub fn read(&mut self, alloc: Global, text: &str) -> Result<Option<Example>, Unread> {
+        self.line = self.line.saturating_add(1);
+        if let Some(title) = text.strip_prefix("== ") {
+            return self.begin(alloc, title, false);
+        }
+        if let Some(name) = text.strip_prefix("opening ") {
+            return self.begin(alloc, name, true);
+        }
+        match &mut self.draft {
+            Some(draft) => draft.read(alloc, text, self.line, self.openings.as_slice())?,
+            None if is_remark(text) => {}
+            None => return Err(Unread::Place),
+        }
+        Ok(None)
+    }
+
+    /// The file has no more lines; gives its last example.
+    pub fn end(&mut self, alloc: Global) -> Result<Option<Example>, Unread> {
+        let example = self.finish(alloc)?;
+        let shared = match self.shared {
+            Some(shared) => shared,
+            None => self.openings.len(),
+        };
+        self.openings.truncate(shared);
+        self.shared = Some(shared);
+        self.line = 0;
+        Ok(example)
+    }
+
+    /// Begins an example or an opening, and gives the example before it.
+    fn begin(
+        &mut self,
+        alloc: Global,
+        title: &str,
+        is_opening: bool,
+    ) -> Result<Option<Example>, Unread> {
+        let example = self.finish(alloc)?;
+        self.draft = Some(Draft::new(alloc, title, self.line, is_opening)?);
+        Ok(example)
+    }
+
+    /// The lines of the example are all read. Where they are those of an opening, it is kept.
+    fn finish(&mut self, alloc: Global) -> Result<Option<Example>, Unread> {
+        let Some(draft) = self.draft.take() else {
+            return Ok(None);
+        };
+        match draft.finish(alloc)? {
+            Whole::Example(example) => Ok(Some(example)),
+            Whole::Opening(opening) => {
+                self.openings.push(opening)?;
+                Ok(None)
+            }
+        }
+    }
+}

@@ -1,0 +1,106 @@
+//! What an example is played with.
+use crate::escapes::unescaped_text;
+use crate::numbers::{number_of, numbers};
+use crate::unread::Unread;
+use pol_types::{Listed, Text};
+use std::alloc::{AllocError, Global};
+
+/// What an example is played with.
+#[derive(Drop)]
+pub struct Settings {
+    /// The words of the command line.
+    pub words: Listed<Text>,
+    /// The moments of the clock, in milliseconds since the Unix epoch.
+    pub moments: Vec<u64>,
+    /// The words that are drawn; without them they count from 0.
+    pub drawn: Option<Listed<u64>>,
+    /// The calls of the source that are to fail, counted from 1.
+    pub takes: Vec<u64>,
+    /// Those of the sink.
+    pub gives: Vec<u64>,
+    /// Those of the draw.
+    pub draws: Vec<u64>,
+    pub pieces: Pieces,
+}
+
+/// The pieces in which the input comes.
+#[derive(Drop)]
+pub enum Pieces {
+    /// They end at these places.
+    At(Vec<usize>),
+    /// Two that part at each place in turn, and at last single bytes.
+    Each,
+}
+
+impl Settings {
+    /// The settings of an example that says none.
+    pub(crate) fn usual(alloc: Global) -> Result<Self, AllocError> {
+        let mut words = Vec::new(alloc);
+        for word in ["exec", "--root-secret", "s3cr3t"] {
+            words.push(Text::from(String::from_str(alloc, word)?))?;
+        }
+        let mut moments = Vec::new(alloc);
+        moments.push(1_000)?;
+        Ok(Settings {
+            words: Listed::from(words),
+            moments,
+            drawn: None,
+            takes: Vec::new(alloc),
+            gives: Vec::new(alloc),
+            draws: Vec::new(alloc),
+            pieces: Pieces::At(Vec::new(alloc)),
+        })
+    }
+
+    /// Reads a setting, which begins with this word.
+    pub(crate) fn read(&mut self, alloc: Global, word: &str, rest: &str) -> Result<(), Unread> {
+        match word {
+            "line" => self.words = Listed::from(words_of(alloc, rest)?),
+            "clock" => self.moments = numbers(alloc, rest)?,
+            "words" => self.drawn = Some(Listed::from(numbers(alloc, rest)?)),
+            "pieces" => self.pieces = pieces_of(alloc, rest)?,
+            "fail" => return self.read_failing(rest),
+            _ => return Err(Unread::Form),
+        }
+        Ok(())
+    }
+
+    /// Reads a call that is to fail.
+    fn read_failing(&mut self, rest: &str) -> Result<(), Unread> {
+        let Some((kind, number)) = rest.split_once(' ') else {
+            return Err(Unread::Form);
+        };
+        let number = number_of(number)?;
+        match kind {
+            "take" => self.takes.push(number)?,
+            "give" => self.gives.push(number)?,
+            "word" => self.draws.push(number)?,
+            _ => return Err(Unread::Form),
+        }
+        Ok(())
+    }
+}
+
+/// The words between single spaces.
+fn words_of(alloc: Global, line: &str) -> Result<Vec<Text>, Unread> {
+    let mut words = Vec::new(alloc);
+    if line.is_empty() {
+        return Ok(words);
+    }
+    for word in line.split(' ') {
+        words.push(unescaped_text(alloc, word)?)?;
+    }
+    Ok(words)
+}
+
+/// The pieces that are said.
+fn pieces_of(alloc: Global, rest: &str) -> Result<Pieces, Unread> {
+    if rest == "each" {
+        return Ok(Pieces::Each);
+    }
+    let mut ends = Vec::new(alloc);
+    for word in rest.split(' ') {
+        ends.push(number_of(word)? as usize)?;
+    }
+    Ok(Pieces::At(ends))
+}

@@ -1,0 +1,9 @@
+pub mod Brackets
+pub mod Chain
+pub mod Ids
+pub mod Kind
+pub mod Numeral
+pub mod Order
+pub mod Partition
+pub mod Shape
+pub mod Transform

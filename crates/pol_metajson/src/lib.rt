@@ -1,0 +1,15 @@
+//! The JSON of tables' metadata (RFC 8259): bodies that create a table are read, each with the path to its first bad
+//! field.
+#![tactic(auto)]
+
+mod body;
+mod brackets;
+mod ids;
+mod keys;
+mod kind;
+mod numeral;
+mod order;
+mod partition;
+mod transform;
+
+pub use body::Body;
