@@ -10,7 +10,6 @@ use Rattle.pol_access.specs.contracts.rows.MemberRow as member
 use Rattle.pol_access.specs.contracts.rows.PrincipalRoleRow as principal_role
 use Rattle.pol_access.specs.contracts.rows.PrincipalRow as principal
 use Rattle.pol_tables.specs.Rising.{KeysBelow}
-use Rattle.pol_tables.specs.Same.{same}
 use Rattle.pol_tables.proofs.ChangesLemmas.{new_rows-itself, table_changes-itself}
 use Rattle.pol_tables.proofs.FactChangesLemmas.{fact_changes-itself}
 use Rattle.pol_tables.proofs.ListLemmas.{each-all, each-weaken, filter-alike}
