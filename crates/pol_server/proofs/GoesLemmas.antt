@@ -1,19 +1,17 @@
 -- What went on between two moments, and between the second and a third.
-use Rattle.std.proofs.Common.{◌≡◌, ◌≢◌, ◌<◌, ◌≤◌, ◌+◌, ◌-◌, ◌^◌, ◌⊎◌, ℕ, Bool, List, [], ◌∷◌, ◌++◌, map, length, Some, None, Option, refl, sym, ap, subst, ◌∙◌, inl, inr, arith, append-nil, append_assoc, length-append}
+use Rattle.std.proofs.Common.{◌≡◌, ◌<◌, ◌≤◌, ◌+◌, ◌-◌, ◌^◌, ℕ, List, [], ◌∷◌, ◌++◌, map, length, Option, sym, ap, subst, ◌∙◌, inl, inr, arith, append-nil, append_assoc, length-append}
 use Rattle.std.specs.List.{flat_map, AllByRecursion}
-use Rattle.std.specs.Io.KnownBytes.{Appends, Consumes, IsAtEnd}
+use Rattle.std.specs.Io.KnownBytes.{Appends, Consumes}
 use Rattle.std.proofs.KnownBytes.{Appends-trans, Appends-nil, Consumes-nil, Consumes-trans}
 use Rattle.std.proofs.lemmas.Grind.{flat_map-append}
 use Rattle.std.proofs.lemmas.List.{map-append}
 use Rattle.pol_http.specs.Message.{IsMessage, Message, print_message}
-use Rattle.pol_shared.specs.History.{Log}
 use Rattle.pol_shared.specs.declared.entry.Entry.{Entry}
 use Rattle.pol_wire.proofs.StreamsLemmas.{IsShifted-nil, IsShifted-trans}
-use Rattle.pol_wire.specs.Faults.{Rises}
 use Rattle.pol_wire.specs.Streams.{IsShifted}
-use Rattle.pol_server.specs.Ends.{Ends}
+use Rattle.pol_server.specs.Link.{EndsLastText}
 use Rattle.pol_server.specs.Serving.{Continues, Finishes, FitsEnding, Goes, Handles, Standing, told_text}
-use Rattle.pol_server.specs.Turn.{IsAnswered, IsOrdered, LastCloses, NoneCloses, Turn, failed_draws, output_of, place_of}
+use Rattle.pol_server.specs.Turn.{IsAnswered, NoneCloses, Turn, output_of, place_of}
 use Rattle.pol_server.specs.declared.served.Ending.{Ending}
 use Rattle.pol_server.specs.declared.served.Ending.TheVariants.{Ended, Cut, Closed, ReadFault, WriteFault, Spent, NoMemory}
 use Rattle.pol_server.specs.declared.served.Place.{Place}
@@ -92,6 +90,12 @@ fits-after WriteFault turns others rest text open_ (inr some) = inr (each-append
 fits-after Spent turns others rest text open_ fits = (each-append _ turns others open_ fits.0, fits.1)
 fits-after NoMemory turns others rest text open_ fits = (each-append _ turns others open_ fits.0, fits.1)
 
+-- turns may come before those whose last text was left out
+left-out-after : (turns others : List Turn) (text missing : List ℕ) → EndsLastText others text missing → EndsLastText (turns ++ others) text missing
+left-out-after turns others text missing (inl ends) = inl ends
+left-out-after turns others text missing (inr (none, front, last, is, ends)) =
+    inr (none, turns ++ front, last, ap (λ later. turns ++ later) is ∙ sym (append_assoc turns front (last ∷ [])), ends)
+
 -- a link that goes on and then ends, ends
 pub finishes-after : (ending : Ending) (a b c : Standing) → Continues a b → Finishes ending b c → Finishes ending a c
 finishes-after ending a b c first second = record {
@@ -104,6 +108,7 @@ finishes-after ending a b c first second = record {
   said = ap (λ all. told_text a.told ++ all) (append_assoc first.out second.out second.missing)
       ∙ joined output_of first.turns second.turns (told_text a.told) first.out (told_text b.told) (second.out ++ second.missing) second.text first.said second.said;
   complete = second.complete;
+  left_out = left-out-after first.turns second.turns second.text second.missing second.left_out;
   fits = fits-after ending first.turns second.turns c.buffer second.text first.open_ second.fits;
   caused = λ failed. rises-earlier a.ends.sink_faults b.ends.sink_faults c.ends.sink_faults first.goes.sink_faults (second.caused failed);
 }

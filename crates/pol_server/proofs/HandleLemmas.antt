@@ -1,6 +1,6 @@
 -- One message: what was read for it, and how it was answered.
 use Rattle.std.proofs.Common.{◌≡◌, ◌<◌, ◌≤◌, ◌+◌, ◌-◌, ◌^◌, ◌⊎◌, ℕ, Bool, List, [], ◌∷◌, ◌++◌, length, take, Option, Some, None, Result, Ok, Err, Vec, Global, refl, sym, ap, subst, ◌∙◌, inl, inr, arith, append-nil, length-append}
-use Rattle.std.specs.Prelude.{◌≢◌, IfOk, IfSome, OnOk, slice_get, ⊤}
+use Rattle.std.specs.Prelude.{◌≢◌, IfOk, IfSome, OnOk, slice_get}
 use Rattle.std.specs.Option.{option_map}
 use Rattle.std.specs.Result.{result_ok}
 use Rattle.std.proofs.Math.Seq.{get_or-append_seam, take-append_seam, take-length}
@@ -26,7 +26,7 @@ use Rattle.pol_shared.specs.declared.entry.Entry.{Entry}
 use Rattle.pol_wire.proofs.StreamsLemmas.{IsShifted-nil}
 use Rattle.pol_wire.specs.Streams.{IsShifted}
 use Rattle.pol_server.specs.Ends.{Ends, Reads}
-use Rattle.pol_server.specs.Serving.{DrawsWords, Handles, IsEntered}
+use Rattle.pol_server.specs.Serving.{DrawsWords, Handles, IsEntered, text_by}
 use Rattle.pol_server.specs.Turn.{framed, full, is_head, stepped, text_of, undrawn, unplanned, without_memory, words_of}
 use Rattle.pol_server.specs.declared.served.Place.{Place}
 use Rattle.pol_server.specs.declared.served.Place.TheVariants.{Catalogue, NoEntry}
@@ -37,6 +37,11 @@ pub kept-text : {E : Type 0} (message : Message) (answer : Answer) (close head_o
 kept-text message answer close head_only (Ok bytes) closing heading is =
     is ∙ ap (λ close. answer_text (framed close head_only answer)) closing ∙ ap (λ head_only. answer_text (framed (closes message.head) head_only answer)) heading
 kept-text message answer close head_only (Err error) closing heading is = tt
+
+-- a text that was made, or the one that needs no memory
+made-or-not : (text : Option (List ℕ)) (bytes : List ℕ) → IfSome text (λ made. made ≡ bytes) → (text_by text ≡ bytes) ⊎ (text_by text ≡ INSUFFICIENT_STORAGE.now)
+made-or-not None bytes is = inr refl
+made-or-not (Some made) bytes is = inl is
 
 -- the moment of a plan's command
 pub moment-command : (planned : Planned) (moment : ℕ) (words : Words4) → (command_of planned moment words).moment ≡ moment
@@ -141,8 +146,8 @@ module _ (old now new : Ends) (moment : ℕ) where
 
 module _ (old new : Ends) (log : Log) (message : Message) (plan : Planned) (moment : ℕ) (words : List ℕ) (planned : plan_of message ≡ Ok plan) (read : IsReadFor old new moment words) where
   -- memory was wanting
-  wanting : (after : Log) → after ≡ log → length words ≤ plan.words → Handles old new log after message NoEntry None
-  wanting after same few = record {
+  wanting : (after : Log) → after ≡ log → length words ≡ plan.words → Handles old new log after message NoEntry None
+  wanting after same drawn = record {
     turn = record { message = message; moments = moment ∷ []; words = words; entries = []; case = without_memory; answer = INSUFFICIENT_STORAGE.now };
     message_is = refl;
     same = read.same;
@@ -152,7 +157,7 @@ module _ (old new : Ends) (log : Log) (message : Message) (plan : Planned) (mome
     draws = λ below. omega (arith, read.kept);
     base = ap (λ log. log.base) same;
     history = ap (λ log. log.history) same ∙ sym (append-nil log.history);
-    answered = record { reads = inr (plan, planned, refl, few); entries = refl; answer = refl };
+    answered = record { reads = inr (plan, moment, record { planned = planned; moments = refl; words = drawn }); entries = refl; answer = refl };
     from = tt;
     below = omega (arith, ap (λ log. length log.history) same);
     place_is = refl;
@@ -162,9 +167,8 @@ module _ (old new : Ends) (log : Log) (message : Message) (plan : Planned) (mome
   -- a draw failed
   pub handles-undrawn : (text : Option (List ℕ)) → length words < plan.words → (new.draw_faults < 2 ^ 64 - 1 → old.draw_faults + 1 ≤ new.draw_faults)
       → IfSome text (λ bytes. bytes ≡ text_of message draw_fault_answer) → Handles old new log log message NoEntry text
-  handles-undrawn None few draws text_is = wanting log refl (omega (arith, few))
-  handles-undrawn (Some bytes) few draws text_is = record {
-    turn = record { message = message; moments = moment ∷ []; words = words; entries = []; case = undrawn; answer = bytes };
+  handles-undrawn text few draws text_is = record {
+    turn = record { message = message; moments = moment ∷ []; words = words; entries = []; case = undrawn; answer = text_by text };
     message_is = refl;
     same = read.same;
     moments = read.moments;
@@ -173,7 +177,7 @@ module _ (old new : Ends) (log : Log) (message : Message) (plan : Planned) (mome
     draws = draws;
     base = refl;
     history = sym (append-nil log.history);
-    answered = record { plan = plan; planned = planned; moments = refl; words = few; entries = refl; answer = text_is };
+    answered = record { plan = plan; planned = planned; moments = refl; words = few; entries = refl; answer = made-or-not text _ text_is };
     from = tt;
     below = omega arith;
     place_is = refl;
@@ -272,4 +276,4 @@ module _ (old new : Ends) (log : Log) (message : Message) (plan : Planned) (mome
     handles-entered close head_only (Catalogue place) None closing heading is = absurd is
     handles-entered close head_only NoEntry (Some bytes) closing heading is =
         handles-full bytes is.0 is.1 (is.2 ∙ ap (λ close. answer_text (framed close head_only (answer_of (Refused (refusal.RunFull (state_of log).charged command.charge))))) closing ∙ ap (λ head_only. answer_text (framed (closes message.head) head_only (answer_of (Refused (refusal.RunFull (state_of log).charged command.charge))))) heading)
-    handles-entered close head_only NoEntry None closing heading is = wanting after is (omega (arith, drawn))
+    handles-entered close head_only NoEntry None closing heading is = wanting after is drawn

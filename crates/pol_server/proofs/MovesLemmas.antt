@@ -1,5 +1,5 @@
 -- What each action of a served link does to it.
-use Rattle.std.proofs.Common.{◌≡◌, ◌≢◌, ◌<◌, ◌≤◌, ◌+◌, ◌⊎◌, ℕ, Bool, true, false, List, [], ◌∷◌, ◌++◌, length, Some, None, Option, Result, Ok, Err, ◌&&◌, ◌||◌, if◌then◌else◌, refl, sym, ap, subst, ◌∙◌, inl, inr, arith, append-nil, length-append}
+use Rattle.std.proofs.Common.{◌≡◌, ◌≢◌, ◌<◌, ◌≤◌, ◌+◌, ◌⊎◌, ℕ, Bool, true, false, List, [], ◌∷◌, ◌++◌, length, Some, None, Option, Result, Ok, Err, ◌&&◌, ◌||◌, if◌then◌else◌, refl, sym, ap, subst, ◌∙◌, inl, inr, arith, append-nil, append_assoc, length-append}
 use Rattle.std.specs.List.{flat_map}
 use Rattle.httparse.specs.Grammar.{RequestHead, print_request}
 use Rattle.httparse.proofs.GrammarLemmas.{request_unique}
@@ -77,6 +77,7 @@ module _ (a b : Standing) (stays : Stays a b) (text given missing : List ℕ) (b
     goes = goes;
     said = ap (λ bytes. told_text a.told ++ bytes) (sym bytes_are);
     complete = complete;
+    left_out = inl (told_text a.told ++ given, ap (λ bytes. told_text a.told ++ bytes) bytes_are ∙ sym (append_assoc (told_text a.told) given missing));
     fits = fits;
     caused = caused;
   }
@@ -145,6 +146,7 @@ module _ (a b : Standing) (now : Ends) (message : Message) (place : Place) (text
     goes = goes-answered;
     said = said-answer;
     complete = complete;
+    left_out = inr (refl, [], turn, refl, (says.given, sym handles.text_is ∙ says.bytes_are));
     fits = fits;
     caused = λ is. rises-earlier a.ends.sink_faults now.sink_faults b.ends.sink_faults sink-kept (caused is);
   }
@@ -188,6 +190,7 @@ finishes-quiet a ending fits other = record {
   goes = goes-given a a [] (record { log = refl; places = refl; buffer = refl; budget = refl }) refl (Appends-nil a.ends.given) (omega arith);
   said = append-nil (told_text a.told);
   complete = λ _. refl;
+  left_out = inl (told_text a.told, sym (append-nil (told_text a.told)));
   fits = fits;
   caused = λ is. absurd (other is);
 }

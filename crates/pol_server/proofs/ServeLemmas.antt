@@ -127,5 +127,6 @@ serves before after first last start connection served finishes empty unplaced w
       gives = goes.output;
       output = sym (ap (λ told. told_text told ++ (finishes.out ++ finishes.missing)) untold) ∙ finishes.said;
       complete = finishes.complete;
+      left_out = finishes.left_out;
       ends = ends-by served.ending connection.stop before after finishes.turns connection.budget (length finishes.taken) connection.buffer.items finishes.text finishes.fits ending stopped (goes.budget ∙ whole_budget) finishes.caused;
     }

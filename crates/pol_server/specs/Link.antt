@@ -1,5 +1,5 @@
 -- A served link: what was taken, answered and given, and how it ended (RFC 9112, section 9).
-use Rattle.std.specs.Prelude.{◌≡◌, ◌≢◌, ◌<◌, ◌≤◌, ◌+◌, ◌-◌, ◌^◌, ◌⊎◌, ℕ, List, [], ◌++◌, length, map, true, false}
+use Rattle.std.specs.Prelude.{◌≡◌, ◌≢◌, ◌<◌, ◌≤◌, ◌+◌, ◌-◌, ◌^◌, ◌⊎◌, ℕ, List, [], ◌∷◌, ◌++◌, length, map, true, false}
 use Rattle.std.specs.List.{flat_map, AllByRecursion}
 use Rattle.std.specs.Io.KnownBytes.{Appends, Consumes, IsAtEnd}
 use Rattle.pol_http.specs.Answer.{answer_text}
@@ -66,6 +66,17 @@ EndsBy WriteFault before after turns taken rest text =
 EndsBy Spent before after turns taken rest text = NoneCloses turns × (taken ≡ taken_bound) × IsUnfinishedRest rest text
 EndsBy NoMemory before after turns taken rest text = NoneCloses turns × IsRestWithoutMemory rest text
 
+-- the text ends with these bytes
+abbrev pub EndsWith : List ℕ → List ℕ → Type 0
+EndsWith text bytes = (front : List ℕ) × (text ≡ front ++ bytes)
+
+-- what a failed write left out is an end of the last text: the ending's, or the last turn's answer where the ending has
+-- none. So all that stands before that text was given, and nothing was handled behind one that could not be given
+abbrev pub EndsLastText : List Turn → List ℕ → List ℕ → Type 0
+EndsLastText turns text missing =
+    EndsWith text missing
+    ⊎ ((text ≡ []) × (front : List Turn) × (last : Turn) × (turns ≡ front ++ last ∷ []) × EndsWith last.answer missing)
+
 -- a link that the pass of this number served, over the history from a first state: its ends and the history before
 -- and after, and what was answered
 pub record ServesLink (base : Rows) (number : ℕ) (before after : Ends) (old new : List Entry) (served : Served) : Type 0 where
@@ -91,4 +102,5 @@ pub record ServesLink (base : Rows) (number : ℕ) (before after : Ends) (old ne
   pub gives : Appends before.given after.given given
   pub output : given ++ missing ≡ flat_map output_of turns ++ text
   pub complete : served.ending ≢ WriteFault → missing ≡ []
+  pub left_out : EndsLastText turns text missing
   pub ends : EndsBy served.ending before after turns (length taken) rest text

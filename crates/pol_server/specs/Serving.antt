@@ -15,7 +15,7 @@ use Rattle.pol_shared.specs.History.{Log, entered, state_of}
 use Rattle.pol_wire.specs.Faults.{Rises}
 use Rattle.pol_wire.specs.Streams.{IsShifted}
 use Rattle.pol_server.specs.Ends.{Ends}
-use Rattle.pol_server.specs.Link.{IsRefusedRest, IsRestWithoutMemory, IsUnfinishedRest, MayBeGiven}
+use Rattle.pol_server.specs.Link.{EndsLastText, IsRefusedRest, IsRestWithoutMemory, IsUnfinishedRest, MayBeGiven}
 use Rattle.pol_server.specs.Turn.{framed, IsAnswered, IsFrom, IsOrdered, LastCloses, NoneCloses, Turn, failed_draws, failed_in, low_after, output_of, place_of, words_of}
 use Rattle.pol_server.specs.declared.connection.Connection.{Connection}
 use Rattle.pol_server.specs.declared.connection.Stop.{Stop}
@@ -154,6 +154,7 @@ pub record Finishes (ending : Ending) (a b : Standing) : Type 0 where
   pub goes : Goes a b turns taken out
   pub said : told_text a.told ++ (out ++ missing) ≡ flat_map output_of turns ++ text
   pub complete : ending ≢ WriteFault → missing ≡ []
+  pub left_out : EndsLastText turns text missing
   pub fits : FitsEnding ending turns b.buffer text
   pub caused : ending ≡ WriteFault → Rises a.ends.sink_faults b.ends.sink_faults
 

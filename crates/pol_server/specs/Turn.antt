@@ -69,14 +69,15 @@ pub record IsUnplanned (turn : Turn) : Type 0 where
   pub entries : turn.entries ≡ []
   pub answer : turn.answer ≡ text_of turn.message (refusal_answer why)
 
--- one moment was read, and then fewer words than the plan asks for
+-- one moment was read, and then fewer words than the plan asks for, since a draw failed; the answer says so, unless memory
+-- was wanting for it
 pub record IsUndrawn (turn : Turn) : Type 0 where
   pub plan : Planned
   pub planned : plan_of turn.message ≡ Ok plan
   pub moments : length turn.moments ≡ 1
   pub words : length turn.words < plan.words
   pub entries : turn.entries ≡ []
-  pub answer : turn.answer ≡ text_of turn.message draw_fault_answer
+  pub answer : (turn.answer ≡ text_of turn.message draw_fault_answer) ⊎ (turn.answer ≡ INSUFFICIENT_STORAGE.now)
 
 -- the message's plan, with the moment and the words that were read for its command
 pub record IsRead (turn : Turn) (plan : Planned) (moment : ℕ) : Type 0 where
@@ -84,10 +85,10 @@ pub record IsRead (turn : Turn) (plan : Planned) (moment : ℕ) : Type 0 where
   pub moments : turn.moments ≡ moment ∷ []
   pub words : length turn.words ≡ plan.words
 
--- nothing was entered, and what was read is nothing, or one moment and some of the words that the plan asks for
+-- nothing was entered, and what was read is nothing, or one moment and the words that the plan asks for
 pub record IsWithoutMemory (turn : Turn) : Type 0 where
   pub reads : ((turn.moments ≡ []) × (turn.words ≡ []))
-      ⊎ ((plan : Planned) × (plan_of turn.message ≡ Ok plan) × (length turn.moments ≡ 1) × (length turn.words ≤ plan.words))
+      ⊎ ((plan : Planned) × (moment : ℕ) × IsRead turn plan moment)
   pub entries : turn.entries ≡ []
   pub answer : turn.answer ≡ INSUFFICIENT_STORAGE.now
 
