@@ -1,11 +1,11 @@
 -- Faults have causes: what follows where no end of a link failed.
-use Rattle.std.proofs.Common.{◌≡◌, ◌≢◌, ◌<◌, ◌≤◌, ◌+◌, ◌-◌, ◌^◌, ◌⊎◌, ℕ, List, [], ◌∷◌, length, inl, inr, arith, ap}
+use Rattle.std.proofs.Common.{◌≡◌, ◌≢◌, ◌<◌, ℕ, List, [], ◌∷◌, length, inl, inr, arith, ap}
 use Rattle.std.specs.List.{AllByRecursion}
 use Rattle.pol_wire.specs.Faults.{Rises}
 use Rattle.pol_server.specs.Ends.{Ends}
 use Rattle.pol_server.specs.Laws.{FaultsHaveCauses, HasNoFault, NeedsNoFault, NoEndFails}
-use Rattle.pol_server.specs.Link.{EndsBy, ServesLink, taken_bound}
-use Rattle.pol_server.specs.Turn.{Case, Turn, failed_draws, failed_in, undrawn}
+use Rattle.pol_server.specs.Link.{EndsBy, taken_bound}
+use Rattle.pol_server.specs.Turn.{Turn, failed_draws, failed_in, undrawn}
 use Rattle.pol_server.specs.declared.served.Ending.{Ending}
 use Rattle.pol_server.specs.declared.served.Ending.TheVariants.{Ended, Cut, Closed, ReadFault, WriteFault, Spent, NoMemory}
 

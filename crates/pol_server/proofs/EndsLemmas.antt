@@ -1,10 +1,10 @@
 -- What the ends of a link tell after several calls.
-use Rattle.std.proofs.Common.{◌≡◌, ◌<◌, ◌≤◌, ◌+◌, ◌-◌, ◌^◌, ℕ, List, [], ◌∷◌, ◌++◌, length, take, drop, Result, Ok, Err, refl, sym, ap, subst, ◌∙◌, inl, inr, arith, length-append, length-drop, take-add, ◌≢◌, ◌⊎◌}
-use Rattle.std.specs.Prelude.{slice_index, IsErr, MatchResult, OnErr, OnOk}
-use Rattle.std.specs.Io.KnownBytes.{Appends, Keeps, WriteAppends}
-use Rattle.std.proofs.KnownBytes.{Appends-nil, Appends-trans, Appends-kept}
-use Rattle.pol_wire.specs.Faults.{CountsFaults, Rises}
-use Rattle.pol_wire.specs.Streams.{GivesNext, IsShifted}
+use Rattle.std.proofs.Common.{◌≡◌, ◌<◌, ◌≤◌, ◌+◌, ◌-◌, ◌^◌, ℕ, List, [], ◌∷◌, ◌++◌, length, take, drop, Result, Ok, Err, sym, ap, subst, ◌∙◌, inl, inr, arith, length-append, length-drop, take-add, ◌≢◌}
+use Rattle.std.specs.Prelude.{slice_index, IsErr}
+use Rattle.std.specs.Io.KnownBytes.{Appends}
+use Rattle.std.proofs.KnownBytes.{Appends-trans, Appends-kept}
+use Rattle.pol_wire.specs.Faults.{Rises}
+use Rattle.pol_wire.specs.Streams.{IsShifted}
 use Rattle.pol_wire.proofs.StreamsLemmas.{IsShifted-kept, IsShifted-trans}
 use Rattle.std.proofs.Math.Seq.{get_or-append_seam}
 use Rattle.std.proofs.lemmas.Bool.{cases_lt}

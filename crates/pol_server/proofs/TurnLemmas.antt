@@ -1,5 +1,5 @@
 -- Turns in a history that goes on, and turns that follow others.
-use Rattle.std.proofs.Common.{◌≡◌, ◌<◌, ◌≤◌, ◌+◌, ◌^◌, ℕ, List, [], ◌∷◌, ◌++◌, length, take, Some, refl, sym, ap, subst, ◌∙◌, arith, length-append, append_assoc}
+use Rattle.std.proofs.Common.{◌≡◌, ◌<◌, ◌≤◌, ◌+◌, ◌^◌, ℕ, List, [], ◌∷◌, ◌++◌, length, take, Some, sym, ap, subst, ◌∙◌, arith, length-append, append_assoc}
 use Rattle.std.specs.Prelude.{slice_get}
 use Rattle.std.specs.List.{AllByRecursion}
 use Rattle.std.proofs.lemmas.List.{take-append-le, get_or_append_left}
@@ -9,7 +9,7 @@ use Rattle.pol_state.specs.Rows.{Rows}
 use Rattle.pol_answers.specs.Texts.{answer_of}
 use Rattle.pol_shared.specs.History.{state_at}
 use Rattle.pol_shared.specs.declared.entry.Entry.{Entry}
-use Rattle.pol_server.specs.Turn.{AnsweredAs, Case, IsAnswered, IsFrom, IsFullAt, IsOrdered, IsStepped, LastCloses, NoneCloses, Turn, failed_draws, failed_in, full, low_after, stepped, text_of, undrawn, unplanned, without_memory}
+use Rattle.pol_server.specs.Turn.{AnsweredAs, Case, IsAnswered, IsFrom, IsFullAt, IsOrdered, IsStepped, LastCloses, NoneCloses, Turn, failed_draws, full, low_after, stepped, text_of, undrawn, unplanned, without_memory}
 
 -- what holds of each of two lists holds of each of both
 pub each-append : {X : Type 0} (P : X → Type 0) (xs ys : List X) → AllByRecursion P xs → AllByRecursion P ys → AllByRecursion P (xs ++ ys)

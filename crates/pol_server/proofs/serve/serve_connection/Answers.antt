@@ -1,5 +1,4 @@
 use Rattle.std.proofs.Common.{◌∙◌}
-use Rattle.pol_server.specs.Ends.{ends_of}
 use Rattle.pol_server.proofs.ServeLemmas.{serves}
 use Rattle.pol_server.proofs.serve.serve_connection.Goals as goal
 

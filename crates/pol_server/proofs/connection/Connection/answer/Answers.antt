@@ -1,4 +1,4 @@
-use Rattle.std.proofs.Common.{◌≡◌, ◌||◌, Ok, Err, drop, refl, sym, subst, ap, ◌∙◌}
+use Rattle.std.proofs.Common.{Ok, Err, drop, refl, sym, subst, ap, ◌∙◌}
 use Rattle.pol_http.specs.Message.{HasAskingHead}
 use Rattle.pol_http.specs.Next.{IsMessageAt}
 use Rattle.pol_server.specs.Serving.{standing}

@@ -1,4 +1,4 @@
-use Rattle.std.proofs.Common.{◌≡◌, ◌≢◌, ◌||◌, [], true, Ok, Err, inl, inr, refl, sym, subst, ap, ◌∙◌}
+use Rattle.std.proofs.Common.{◌≢◌, [], true, Ok, Err, inl, inr, refl, sym, subst, ap, ◌∙◌}
 use Rattle.pol_http.specs.Message.{HasAskingHead}
 use Rattle.pol_server.specs.Link.{IsUnfinishedRest}
 use Rattle.pol_server.specs.Serving.{standing, told_text}

@@ -1,6 +1,6 @@
-use Rattle.std.proofs.Common.{◌≡◌, ◌++◌, false, Some, inl, inr, refl, sym, subst, ap, ◌∙◌}
-use Rattle.pol_server.specs.Link.{IsRefusedRest, IsToldBefore, refused_text}
-use Rattle.pol_server.specs.Serving.{Says, standing, told_text}
+use Rattle.std.proofs.Common.{◌≡◌, ◌++◌, false, inl, inr, refl, ap, ◌∙◌}
+use Rattle.pol_server.specs.Link.{IsRefusedRest}
+use Rattle.pol_server.specs.Serving.{standing, told_text}
 use Rattle.pol_server.specs.declared.served.Ending.TheVariants.{Closed}
 use Rattle.pol_server.proofs.MovesLemmas.{moves-saying, moves-wanting, refused-silent, silent-untold}
 use Rattle.pol_server.proofs.connection.Connection.refuse.Goals as goal

@@ -1,4 +1,4 @@
-use Rattle.pol_server.specs.Serving.{Continues, IsStopped, IsToldAsked, standing, work_of}
+use Rattle.pol_server.specs.Serving.{work_of}
 use Rattle.pol_server.proofs.ServeLemmas.{IsServed}
 use Rattle.pol_server.proofs.connection.Connection.serve_by.Given as goal
 

@@ -1,4 +1,4 @@
-use Rattle.std.proofs.Common.{◌≡◌, ◌++◌, Some, None, if◌then◌else◌, refl, sym, subst, ap, ◌∙◌}
+use Rattle.std.proofs.Common.{◌++◌, Some, None, if◌then◌else◌, refl, sym, subst, ap, ◌∙◌}
 use Rattle.pol_http.specs.Message.{print_message}
 use Rattle.pol_http.specs.Next.{IsMessageAt}
 use Rattle.pol_server.specs.Serving.{Says, standing, told_text}
