@@ -2,8 +2,10 @@ pub mod Brackets
 pub mod Chain
 pub mod Ids
 pub mod Kind
+pub mod Known
 pub mod Numeral
 pub mod Order
 pub mod Partition
+pub mod Schema
 pub mod Shape
 pub mod Transform

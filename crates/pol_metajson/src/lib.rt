@@ -4,9 +4,12 @@
 
 mod body;
 mod brackets;
+mod columns;
+mod failed;
 mod ids;
 mod keys;
 mod kind;
+mod kinds;
 mod numeral;
 mod order;
 mod partition;
