@@ -13,6 +13,7 @@ mod kinds;
 mod numeral;
 mod order;
 mod partition;
+mod schema;
 mod transform;
 
 pub use body::Body;
