@@ -93,6 +93,10 @@ entries shape = record {
   exact = exactness.entries_exact shape.exact;
 }
 
+-- a rule that what was read must meet
+abbrev pub rule : Bool → Shape ⊤
+rule test = record { read = λ d. form.holds test; stands = λ d nothing. test ≡ true; exact = exactness.rules_exact test }
+
 -- a rule that the member of a key must meet
 abbrev pub holds_at : List ℕ → Bool → Shape ⊤
 holds_at key rule = record {

@@ -10,10 +10,13 @@ mod ids;
 mod keys;
 mod kind;
 mod kinds;
+pub mod laws;
 mod numeral;
 mod order;
 mod partition;
 mod schema;
+mod table;
 mod transform;
 
 pub use body::Body;
+pub use table::{TableRequest, read_create_table};

@@ -4,11 +4,10 @@ ghost use Rattle.pol_readers.specs.Reading.{Gives};
 ghost use Rattle.pol_metajson.specs.Known.{all_known, known_from};
 ghost use Rattle.pol_metajson.specs.Schema as spec;
 
-use crate::Body;
 use crate::failed::failed_at;
 use crate::ids::{ColumnId, Id};
-use crate::keys;
 use crate::kinds::read_fields;
+use crate::{Body, keys};
 use pol_meta::{Column, Ids, Part, Schema};
 use pol_readers::{Form, ReadError, field, fixed, object, optional, under_key};
 use pol_types::{Listed, OutOfMemory};
@@ -41,7 +40,12 @@ impl Form for Body<Schema> {
         let columns: Body<Listed<Column>> = field(alloc, value, keys::FIELDS)?;
         let fields = columns.into_value();
         let ids = ids_of(alloc, given)?;
-        known_at(alloc, keys::IDENTIFIER_FIELD_IDS, fields.as_slice(), ids.as_slice())?;
+        known_at(
+            alloc,
+            keys::IDENTIFIER_FIELD_IDS,
+            fields.as_slice(),
+            ids.as_slice(),
+        )?;
         Ok(Body::new(Schema {
             schema_id: 0,
             identifier_field_ids: ids,
