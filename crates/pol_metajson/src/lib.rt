@@ -20,6 +20,3 @@ mod transform;
 
 pub use body::Body;
 pub use table::{TableRequest, read_create_table};
-
-#[cfg(test)]
-mod tests;

@@ -1,4 +1,4 @@
-use super::*;
+use pol_metajson::read_create_table;
 use std::alloc::{AllocError, Global};
 use std::test::Fail;
 
