@@ -1,11 +1,10 @@
 //! What a run reports.
-ghost use Rattle.std.specs.Prelude.{◌≡◌, Some};
+ghost use Rattle.std.specs.Prelude.{◌≡◌};
 ghost use Rattle.pol_cli.specs.Run as spec;
 ghost use Rattle.pol_cli.specs.Told.{reason_text};
 
 use pol_server::{Ending, Served};
 use pol_types::Listed;
-use std::fmt;
 
 /// Why a run ended as it did.
 #[derive(Clone, Copy, Debug, PartialEq, Eq)]
@@ -26,11 +25,12 @@ pub enum Reason {
     Spent,
 }
 
-impl fmt::Display for Reason {
-    ghost output = { λ reason. Some (reason_text reason) };
-
-    fn fmt<W: fmt::Write>(&self, f: &mut fmt::Formatter<W>) -> fmt::Result {
-        f.write_str(match self {
+impl Reason {
+    /// The reason in words.
+    pub fn text(self) -> &'static str
+        ensures { result.now ≡ reason_text self }
+    {
+        match self {
             Reason::Done => "done",
             Reason::ReadFault => "the input can't be read",
             Reason::WriteFault => "the output can't be written",
@@ -38,7 +38,7 @@ impl fmt::Display for Reason {
             Reason::NoMemory => "memory is wanting",
             Reason::InputCut => "the input ended inside a message",
             Reason::Spent => "2^40 bytes were taken",
-        })
+        }
     }
 }
 

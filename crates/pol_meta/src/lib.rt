@@ -27,6 +27,3 @@ pub use snapshot::Snapshot;
 pub use sort::{Direction, NullOrder, SortField, SortOrder, UnboundOrder};
 pub use transform::Transform;
 pub use why::{CreateRefused, Why};
-
-#[cfg(test)]
-mod tests;

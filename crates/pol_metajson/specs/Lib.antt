@@ -2,8 +2,12 @@ pub mod Brackets
 pub mod Chain
 pub mod Ids
 pub mod Kind
+pub mod Known
+pub mod Laws
 pub mod Numeral
 pub mod Order
 pub mod Partition
+pub mod Schema
 pub mod Shape
+pub mod Table
 pub mod Transform

@@ -1,13 +1,17 @@
 -- Forms written once: what a value of JSON (RFC 8259) is read as, the grammar of the same as a relation, and the proof
 -- that the two agree. A form of an object is a chain of its parts, in the order in which they are tested.
-use Rattle.std.specs.Prelude.{◌≡◌, ℕ, Bool, List, Option, None, Some, Ok, ⊤}
+use Rattle.std.specs.Prelude.{◌≡◌, ℕ, Bool, List, Option, None, Some, Ok, ⊤, false, is_some, if◌then◌else◌, MatchBool, true}
+use Rattle.std.specs.List.{list_all}
 use Rattle.serde_json.specs.Data.{Data}
+use Rattle.serde_json.specs.Find.{as_str}
 use Rattle.pol_readers.specs.Exactness as exactness
 use Rattle.pol_readers.specs.Forms as form
 use Rattle.pol_readers.specs.Grammar as grammar
 use Rattle.pol_readers.specs.Grammar.{Exact, Then}
-use Rattle.pol_readers.specs.Reading.{Reading, found}
-use Rattle.pol_metajson.specs.Chain.{chain}
+use Rattle.pol_readers.specs.Reading.{Reading, found, under}
+use Rattle.pol_readers.specs.declared.path.Step.TheVariants.{Key}
+use Rattle.pol_metajson.specs.Known.{all_known, all_known_exact}
+use Rattle.pol_metajson.specs.Chain.{IsChained, chain, chained, chained_exact}
 
 pub record Shape (A : Type 0) : Type 1 where
   pub read : Data → Reading A
@@ -87,4 +91,57 @@ entries shape = record {
   read = form.entries shape.read;
   stands = grammar.HasEntries shape.stands;
   exact = exactness.entries_exact shape.exact;
+}
+
+-- a rule that what was read must meet
+abbrev pub rule : Bool → Shape ⊤
+rule test = record { read = λ d. form.holds test; stands = λ d nothing. test ≡ true; exact = exactness.rules_exact test }
+
+-- a rule that the member of a key must meet
+abbrev pub holds_at : List ℕ → Bool → Shape ⊤
+holds_at key rule = record {
+  read = λ d. under (Key key) (form.holds rule);
+  stands = λ d nothing. rule ≡ true;
+  exact = exactness.rules_under_exact (Key key) rule;
+}
+
+-- ids of the member of a key that must all pass a test
+abbrev pub known_at : List ℕ → (ℕ → Bool) → List ℕ → Shape ⊤
+known_at key test ids = record {
+  read = λ d. all_known key test ids;
+  stands = λ d nothing. list_all test ids ≡ true;
+  exact = all_known_exact key test ids;
+}
+
+-- the members of a list, each read by what those before it made
+abbrev pub in_turn : {A : Type 0} → (List A → Shape (List A)) → Shape (List A)
+in_turn next = record {
+  read = chained (λ made. (next made).read);
+  stands = IsChained (λ made. (next made).stands);
+  exact = chained_exact (λ made. (next made).exact);
+}
+
+-- a text of one form, or another value of another form
+choice_sound : {A : Type 0} (first second : Shape A) (test : Bool) (d : Data) (value : A)
+    → (if test then first.read d else second.read d) ≡ Ok value → MatchBool test (first.stands d value) (second.stands d value)
+choice_sound first second true d value is = first.exact.sound d value is
+choice_sound first second false d value is = second.exact.sound d value is
+
+choice_complete : {A : Type 0} (first second : Shape A) (test : Bool) (d : Data) (value : A)
+    → MatchBool test (first.stands d value) (second.stands d value) → (if test then first.read d else second.read d) ≡ Ok value
+choice_complete first second true d value so = first.exact.complete d value so
+choice_complete first second false d value so = second.exact.complete d value so
+
+pub choice_exact : {A : Type 0} (first second : Shape A)
+    → Exact (λ d. if is_some (as_str d) then first.read d else second.read d) (λ d value. MatchBool (is_some (as_str d)) (first.stands d value) (second.stands d value))
+choice_exact first second = record {
+  sound = λ d. choice_sound first second (is_some (as_str d)) d;
+  complete = λ d. choice_complete first second (is_some (as_str d)) d;
+}
+
+abbrev pub text_or : {A : Type 0} → Shape A → Shape A → Shape A
+text_or first second = record {
+  read = λ d. if is_some (as_str d) then first.read d else second.read d;
+  stands = λ d value. MatchBool (is_some (as_str d)) (first.stands d value) (second.stands d value);
+  exact = choice_exact first second;
 }

@@ -4,12 +4,19 @@
 
 mod body;
 mod brackets;
+mod columns;
+mod failed;
 mod ids;
 mod keys;
 mod kind;
+mod kinds;
+pub mod laws;
 mod numeral;
 mod order;
 mod partition;
+mod schema;
+mod table;
 mod transform;
 
 pub use body::Body;
+pub use table::{TableRequest, read_create_table};

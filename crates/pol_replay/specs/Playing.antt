@@ -1,9 +1,9 @@
 -- What came of an example that was played.
-use Rattle.std.specs.Prelude.{◌≡◌, ◌≢◌, ◌↔◌, ℕ, List, [], Option, Some, None, All, IfSome, codes}
+use Rattle.std.specs.Prelude.{◌≡◌, ◌≢◌, ◌↔◌, ℕ, List, [], Option, Some, None, All, IfSome}
 use Rattle.pol_cli.specs.Run.{HasCause, IsDecided, IsUnfailing, RunsLink, report_of, status_of}
+use Rattle.pol_cli.specs.Told.{reason_text}
 use Rattle.pol_cli.specs.Words.{Means, MeansNothing}
-use Rattle.pol_cli.specs.declared.report.Reason.{Reason}
-use Rattle.pol_cli.specs.declared.report.Reason.TheVariants.{Done, InputCut, NoMemory, ReadFault, Spent, Usage, WriteFault}
+use Rattle.pol_cli.specs.declared.report.Reason.TheVariants.{Usage}
 use Rattle.pol_cli.specs.declared.report.Report.{Report}
 use Rattle.pol_cli.specs.declared.words.Plan.TheVariants.{ExecFresh}
 use Rattle.pol_server.specs.Ends.{Ends}
@@ -27,16 +27,6 @@ pub record Ran (words : List (List ℕ)) (before after : Ends) (report : Report)
   pub complete : IsUnfailing before after → IsDecided report.reason
   pub status : report.status ≡ status_of report.reason
   pub faulty : report.reason ≡ Usage → MeansNothing words
-
--- the words by which an example says why a run ended
-abbrev pub reason_text : Reason → List ℕ
-reason_text Done = codes "done"
-reason_text ReadFault = codes "the input can't be read"
-reason_text WriteFault = codes "the output can't be written"
-reason_text Usage = codes "the words are no command line"
-reason_text NoMemory = codes "memory is wanting"
-reason_text InputCut = codes "the input ended inside a message"
-reason_text Spent = codes "2^40 bytes were taken"
 
 -- the words that an example's draw gives
 abbrev pub drawn_of : Option (List ℕ) → List ℕ → Option (ℕ → ℕ)

@@ -3,10 +3,9 @@ ghost use Rattle.std.specs.Prelude.{◌≡◌, [], IfOk};
 ghost use Rattle.pol_wire.specs.MemoryClock.{first_clock};
 ghost use Rattle.pol_wire.specs.MemorySink.{first_sink};
 ghost use Rattle.pol_wire.specs.MemorySource.{first_source};
-ghost use Rattle.pol_replay.specs.Playing as spec;
 ghost use Rattle.pol_replay.specs.Playing.{AreTold, IsOutcome, IsPlayed, IsPlayedOver, Ran, ends_before, memory_ends};
 
-use pol_cli::{Devices, Reason, Report, Words, run};
+use pol_cli::{Devices, Report, Words, run};
 use pol_examples::{Difference, Example, Pieces, Unread, value_difference};
 use pol_types::OutOfMemory;
 use pol_wire::{CountingDraw, Draw, Link, MemoryClock, MemoryDraw, MemorySink, MemorySource};
@@ -95,7 +94,7 @@ fn play_over<R: AllocGlobal, W: Draw + Drop>(
     let link = link_of(rt.alloc(), example, ends, draw)?;
     let (report, devices) = run_link(rt, &words, link);
     let output = devices.link.sink.bytes();
-    let reason = reason_text(report.reason);
+    let reason = report.reason.text();
     match example.difference(rt.alloc(), output, report.status, reason) {
         Ok(difference) => Ok(difference),
         Err(OutOfMemory) => Err(OutOfMemory),
@@ -132,21 +131,6 @@ fn link_of<W: Draw + Drop>(
         clock,
         words: draw,
     })
-}
-
-/// The words by which an example says why a run ended.
-fn reason_text(reason: Reason) -> &'static str
-    ensures { result.now ≡ spec.reason_text reason }
-{
-    match reason {
-        Reason::Done => "done",
-        Reason::ReadFault => "the input can't be read",
-        Reason::WriteFault => "the output can't be written",
-        Reason::Usage => "the words are no command line",
-        Reason::NoMemory => "memory is wanting",
-        Reason::InputCut => "the input ended inside a message",
-        Reason::Spent => "2^40 bytes were taken",
-    }
 }
 
 /// The source of an example's input, in pieces that end at these places.

@@ -1,6 +1,9 @@
 ghost use Rattle.std.specs.Prelude.{◌≡◌, IfOk};
 
-use super::*;
+use pol_meta::{
+    Column, CreateRefused, Direction, Ids, Kind, NullOrder, Part, Schema, SortField, TableMetadata,
+    Transform, UnboundField, UnboundOrder, UnboundSpec,
+};
 use pol_properties::Properties;
 use pol_types::{Listed, Text};
 use std::alloc::{AllocError, Global};
