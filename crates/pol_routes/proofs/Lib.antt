@@ -1,5 +1,4 @@
 pub mod FieldLemmas
-pub mod ManagementLemmas
 pub mod PlanLemmas
 pub mod ProperLemmas
 pub mod QueryLemmas
