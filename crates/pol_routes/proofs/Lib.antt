@@ -5,5 +5,7 @@ pub mod QueryLemmas
 pub mod RouteLemmas
 pub mod ScopeLemmas
 pub mod SegmentLemmas
+pub mod TableLemmas
 pub mod TargetLemmas
 pub mod ToldLemmas
+pub mod WalkLemmas
