@@ -8,7 +8,7 @@ use Rattle.pol_http.specs.declared.answer.Body.TheVariants.{Nothing, Json, Token
 use Rattle.pol_http.specs.declared.head.HeadRefused.{HeadRefused}
 use Rattle.pol_http.specs.declared.head.HeadRefused.TheVariants.{BadHead, LengthNeeded, BodyTooLong}
 use Rattle.pol_commands.specs.declared.reply.Answer.{Answer as Done}
-use Rattle.pol_commands.specs.declared.reply.Answer.TheVariants.{SessionOpened, ConfigTold, CatalogsListed, CatalogCreated, CatalogLoaded, NamespacesListed, NamespaceCreated, NamespaceLoaded, PropertiesUpdated, PrincipalsListed, PrincipalCreated, PrincipalLoaded, SecretRotated, RolesListed, RoleCreated, RoleLoaded, MemberAdded, JoinAdded, GrantsListed, GrantAdded, GrantRevoked}
+use Rattle.pol_commands.specs.declared.reply.Answer.TheVariants.{SessionOpened, ConfigTold, CatalogsListed, CatalogCreated, CatalogLoaded, CatalogDropped, NamespacesListed, NamespaceCreated, NamespaceLoaded, NamespaceThere, NamespaceDropped, PropertiesUpdated, PrincipalsListed, PrincipalCreated, PrincipalLoaded, PrincipalDropped, SecretRotated, RolesListed, RoleCreated, RoleLoaded, RoleDropped, MemberAdded, MemberEnded, JoinAdded, JoinEnded, GrantsListed, GrantAdded, GrantRevoked}
 use Rattle.pol_commands.specs.declared.reply.Refusal.{Refusal}
 use Rattle.pol_commands.specs.declared.reply.Reply.{Reply}
 use Rattle.pol_commands.specs.declared.reply.Reply.TheVariants.{Answered, Refused}
@@ -67,35 +67,36 @@ refused_answer why = told_answer (status_of why) (message_of why) (kind_of why)
 unfoldable pub json_answer : ℕ → Data → Answer
 json_answer code json = answer_with code (Json (compact_text json))
 
--- the answer to a management command that is done; what has no line of its own has ended or is there, of which nothing
--- is told
-unfoldable pub management_answer : Done → Answer
-management_answer (PrincipalsListed rows) = json_answer 200 (principals_json rows)
-management_answer (PrincipalCreated name client_id word) = json_answer 201 (credentials_json client_id word name)
-management_answer (PrincipalLoaded row) = json_answer 200 (principal_json row)
-management_answer (SecretRotated name client_id word) = json_answer 200 (credentials_json client_id word name)
-management_answer (RolesListed names) = json_answer 200 (roles_json names)
-management_answer RoleCreated = answer_with 201 Nothing
-management_answer (RoleLoaded name) = json_answer 200 (role_json name)
-management_answer MemberAdded = answer_with 201 Nothing
-management_answer JoinAdded = answer_with 201 Nothing
-management_answer (GrantsListed grants) = json_answer 200 (grants_json grants)
-management_answer GrantAdded = answer_with 201 Nothing
-management_answer GrantRevoked = answer_with 201 Nothing
-management_answer done = answer_with 204 Nothing
-
--- the answer to a command that is done
+-- the answer to a command that is done; of what has ended or is there nothing is told
 abbrev pub done_answer : Done → Answer
 done_answer (SessionOpened serial word_a word_b) = session_answer (text_of_token serial word_a word_b)
 done_answer (ConfigTold catalog) = json_answer 200 (config_json catalog)
 done_answer (CatalogsListed rows) = json_answer 200 (catalogs_json rows)
 done_answer (CatalogCreated row) = json_answer 201 (catalog_json row)
 done_answer (CatalogLoaded row) = json_answer 200 (catalog_json row)
+done_answer CatalogDropped = answer_with 204 Nothing
 done_answer (NamespacesListed namespaces) = json_answer 200 (namespaces_json namespaces)
 done_answer (NamespaceCreated namespace properties) = json_answer 200 (namespace_json namespace properties)
 done_answer (NamespaceLoaded namespace properties) = json_answer 200 (namespace_json namespace properties)
+done_answer NamespaceThere = answer_with 204 Nothing
+done_answer NamespaceDropped = answer_with 204 Nothing
 done_answer (PropertiesUpdated missing removed updated) = json_answer 200 (updated_json missing removed updated)
-done_answer done = management_answer done
+done_answer (PrincipalsListed rows) = json_answer 200 (principals_json rows)
+done_answer (PrincipalCreated name client_id word) = json_answer 201 (credentials_json client_id word name)
+done_answer (PrincipalLoaded row) = json_answer 200 (principal_json row)
+done_answer PrincipalDropped = answer_with 204 Nothing
+done_answer (SecretRotated name client_id word) = json_answer 200 (credentials_json client_id word name)
+done_answer (RolesListed names) = json_answer 200 (roles_json names)
+done_answer RoleCreated = answer_with 201 Nothing
+done_answer (RoleLoaded name) = json_answer 200 (role_json name)
+done_answer RoleDropped = answer_with 204 Nothing
+done_answer MemberAdded = answer_with 201 Nothing
+done_answer MemberEnded = answer_with 204 Nothing
+done_answer JoinAdded = answer_with 201 Nothing
+done_answer JoinEnded = answer_with 204 Nothing
+done_answer (GrantsListed grants) = json_answer 200 (grants_json grants)
+done_answer GrantAdded = answer_with 201 Nothing
+done_answer GrantRevoked = answer_with 201 Nothing
 
 -- the answer to a reply
 unfoldable pub answer_of : Reply → Answer

@@ -34,8 +34,8 @@ pub fn answer_of(alloc: Global, reply: &Reply) -> Result<Answer, OutOfMemory>
     }
 }
 
-/// The answer to a command that is done.
-#[tactic(auto, using(crate::proofs::JsonLemmas::config_whole, crate::proofs::JsonLemmas::catalog_whole, crate::proofs::JsonLemmas::catalogs_whole, crate::proofs::JsonLemmas::namespace_whole, crate::proofs::JsonLemmas::namespaces_whole, crate::proofs::JsonLemmas::updated_whole))]
+/// The answer to a command that is done. Of what has ended or is there nothing is told.
+#[tactic(auto, using(crate::proofs::JsonLemmas::config_whole, crate::proofs::JsonLemmas::catalog_whole, crate::proofs::JsonLemmas::catalogs_whole, crate::proofs::JsonLemmas::namespace_whole, crate::proofs::JsonLemmas::namespaces_whole, crate::proofs::JsonLemmas::updated_whole, crate::proofs::ManagementJsonLemmas::principal_whole, crate::proofs::ManagementJsonLemmas::principals_whole, crate::proofs::ManagementJsonLemmas::role_whole, crate::proofs::ManagementJsonLemmas::roles_whole, crate::proofs::ManagementJsonLemmas::grants_whole))]
 fn done_answer(alloc: Global, done: &Done) -> Result<Answer, OutOfMemory>
     ensures { IfOk result (λ answer. answer ≡ spec.done_answer done.now) }
 {
@@ -65,17 +65,6 @@ fn done_answer(alloc: Global, done: &Done) -> Result<Answer, OutOfMemory>
             removed,
             updated,
         } => json_answer(alloc, 200, updated_json(alloc, missing, removed, updated)?),
-        _ => management_answer(alloc, done),
-    }
-}
-
-/// The answer to a management command that is done. What has no arm of its own has ended or is there, of which nothing
-/// is told.
-#[tactic(auto, using(crate::proofs::ManagementJsonLemmas::principal_whole, crate::proofs::ManagementJsonLemmas::principals_whole, crate::proofs::ManagementJsonLemmas::credentials_whole, crate::proofs::ManagementJsonLemmas::role_whole, crate::proofs::ManagementJsonLemmas::roles_whole, crate::proofs::ManagementJsonLemmas::grants_whole), unfolding(crate::specs::Texts::management_answer))]
-fn management_answer(alloc: Global, done: &Done) -> Result<Answer, OutOfMemory>
-    ensures { IfOk result (λ answer. answer ≡ spec.management_answer done.now) }
-{
-    match done {
         Done::PrincipalsListed(rows) => json_answer(alloc, 200, principals_json(alloc, rows)?),
         Done::PrincipalCreated {
             name,
@@ -96,7 +85,13 @@ fn management_answer(alloc: Global, done: &Done) -> Result<Answer, OutOfMemory>
         | Done::JoinAdded
         | Done::GrantAdded
         | Done::GrantRevoked => Ok(answer_with(201, Body::Nothing)),
-        _ => Ok(answer_with(204, Body::Nothing)),
+        Done::CatalogDropped
+        | Done::NamespaceThere
+        | Done::NamespaceDropped
+        | Done::PrincipalDropped
+        | Done::RoleDropped
+        | Done::MemberEnded
+        | Done::JoinEnded => Ok(answer_with(204, Body::Nothing)),
     }
 }
 

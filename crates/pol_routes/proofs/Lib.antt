@@ -1,10 +1,11 @@
 pub mod FieldLemmas
-pub mod ManagementLemmas
 pub mod PlanLemmas
 pub mod ProperLemmas
 pub mod QueryLemmas
 pub mod RouteLemmas
 pub mod ScopeLemmas
 pub mod SegmentLemmas
+pub mod TableLemmas
 pub mod TargetLemmas
 pub mod ToldLemmas
+pub mod WalkLemmas

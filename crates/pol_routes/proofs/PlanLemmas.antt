@@ -1,37 +1,30 @@
 -- No plan is want of memory.
-use Rattle.std.proofs.Common.{◌≢◌, ℕ, List, Bool, true, false, cond, Option, Some, None, Result, Ok, Err}
+use Rattle.std.proofs.Common.{◌≢◌, ℕ, List, Option, Some, None, Result, Ok, Err}
 use Rattle.form_urlencoded.specs.Form.{parse}
 use Rattle.pol_http.specs.Message.{Message}
 use Rattle.pol_requests.specs.declared.refused.RouteRefused.{RouteRefused}
 use Rattle.pol_requests.specs.declared.refused.RouteRefused.TheVariants.{InvalidRequest, GrantType, OutOfMemory}
 use Rattle.pol_requests.specs.declared.table.Endpoint.{Endpoint}
-use Rattle.pol_requests.specs.declared.table.Endpoint.TheVariants.{OpenSession as OpensSession, GetConfig, ListNamespaces, CreateNamespace, LoadNamespace, HeadNamespace, DropNamespace, UpdateProperties, ListCatalogs, CreateCatalog, GetCatalog, DropCatalog}
-use Rattle.pol_routes.specs.declared.plans.Planned.{Planned}
+use Rattle.pol_requests.specs.declared.table.Endpoint.TheVariants.{OpenSession, GetConfig, ListNamespaces, CreateNamespace, LoadNamespace, HeadNamespace, DropNamespace, UpdateProperties, ListCatalogs, CreateCatalog, GetCatalog, DropCatalog, ListPrincipals, CreatePrincipal, GetPrincipal, DropPrincipal, Rotate, ListMembers, AddMember, EndMember, ListPrincipalRoles, CreatePrincipalRole, GetPrincipalRole, DropPrincipalRole, ListJoins, AddJoin, EndJoin, ListCatalogRoles, CreateCatalogRole, GetCatalogRole, DropCatalogRole, ListGrants, AddGrant, Revoke}
 use Rattle.pol_routes.specs.declared.token_form.TokenForm.{TokenForm}
+use Rattle.pol_commands.specs.declared.command.Action.{Action}
 use Rattle.pol_commands.specs.declared.command.Caller.{Caller}
 use Rattle.pol_requests.specs.Table.{table}
-use Rattle.pol_routes.proofs.ManagementLemmas.{management_told}
+use Rattle.pol_routes.specs.Management.{owner_and_part, create_principal, get_principal, drop_principal, rotate, list_members, add_member, end_member, create_principal_role, get_principal_role, drop_principal_role, list_joins, add_join, end_join, list_catalog_roles, create_catalog_role, get_catalog_role, drop_catalog_role, list_grants, add_grant, revoke}
 use Rattle.pol_routes.proofs.ToldLemmas.{IsTold, body_told, done_told, if_told, namespace_segment_told, namespace_told, plain_segment_told, plain_told, read_told, unreadable_told}
 use Rattle.pol_routes.specs.Query.{query_value, readable}
-use Rattle.pol_routes.specs.Requests.{action_of, warehouse_of, parent_of, namespace_path, get_config, list_namespaces, create_namespace, load_namespace, head_namespace, drop_namespace, update_properties, create_catalog, get_catalog, drop_catalog}
-use Rattle.pol_routes.specs.Plan.{plan_of_form, action_plan, token_plan, endpoint_plan, plan_by, plan_of}
+use Rattle.pol_routes.specs.Requests.{action_of, open_session, session_asked, warehouse_of, parent_of, namespace_path, get_config, list_namespaces, create_namespace, load_namespace, head_namespace, drop_namespace, update_properties, create_catalog, get_catalog, drop_catalog}
+use Rattle.pol_routes.specs.Plan.{endpoint_plan, plan_by, plan_of}
 use Rattle.pol_routes.specs.Route.{of_method, of_path, path_found, endpoint_at, endpoint_of}
 use Rattle.pol_routes.specs.Target.{path_of}
 use Rattle.pol_routes.specs.TokenForm.{token_form}
 
-either_told : (b : Bool) (first second : Result Planned RouteRefused) → IsTold first → IsTold second → IsTold (cond b first second)
-either_told true first second told other = told
-either_told false first second told other = other
-
-planned_told : {planned : Planned} → IsTold (Ok planned)
-planned_told is = absurd (cc)
-
-refused_told : (why : RouteRefused) → why ≢ OutOfMemory → IsTold {A = Planned} (Err why)
+refused_told : (why : RouteRefused) → why ≢ OutOfMemory → IsTold {A = Action} (Err why)
 refused_told why not is = not (cc)
 
-form_told : (charge : ℕ) (form : Option TokenForm) → IsTold (plan_of_form charge form)
-form_told charge None = refused_told InvalidRequest (λ is. absurd (cc))
-form_told charge (Some form) = either_told _ _ _ planned_told (refused_told GrantType (λ is. absurd (cc)))
+asked_told : (form : Option TokenForm) → session_asked form ≢ Err OutOfMemory
+asked_told None = refused_told InvalidRequest (λ is. absurd (cc))
+asked_told (Some form) = if_told _ _ _ (done_told _) (refused_told GrantType (λ is. absurd (cc)))
 
 -- no route is want of memory
 route_told : (method path : List ℕ) → endpoint_of method path ≢ Err OutOfMemory
@@ -69,8 +62,14 @@ unfolding namespace_path
 path_told path =
     read_told _ _ (λ catalog. read_told _ _ (λ namespace. done_told _) (namespace_segment_told _)) (plain_segment_told _)
 
+names_told : (path : List ℕ) → owner_and_part path ≢ Err OutOfMemory
+unfolding owner_and_part
+names_told path =
+    read_told _ _ (λ first. read_told _ _ (λ second. done_told _) (plain_segment_told _)) (plain_segment_told _)
+
 action_told : (target bytes : List ℕ) (endpoint : Endpoint) → action_of target bytes endpoint ≢ Err OutOfMemory
-unfolding get_config list_namespaces create_namespace load_namespace head_namespace drop_namespace update_properties create_catalog get_catalog drop_catalog
+unfolding open_session get_config list_namespaces create_namespace load_namespace head_namespace drop_namespace update_properties create_catalog get_catalog drop_catalog create_principal get_principal drop_principal rotate list_members add_member end_member create_principal_role get_principal_role drop_principal_role list_joins add_join end_join list_catalog_roles create_catalog_role get_catalog_role drop_catalog_role list_grants add_grant revoke
+action_told target bytes OpenSession = asked_told (token_form (parse bytes))
 action_told target bytes GetConfig = read_told _ _ (λ value. read_told _ _ (λ catalog. done_told _) (warehouse_told value)) (query_told _ _)
 action_told target bytes ListNamespaces =
     read_told _ _ (λ catalog. read_told _ _ (λ value. read_told _ _ (λ parent. done_told _) (parent_told value)) (query_told _ _)) (plain_segment_told _)
@@ -83,16 +82,33 @@ action_told target bytes ListCatalogs = done_told _
 action_told target bytes CreateCatalog = read_told _ _ (λ read. done_told _) (body_told _)
 action_told target bytes GetCatalog = read_told _ _ (λ catalog. done_told _) (plain_segment_told _)
 action_told target bytes DropCatalog = read_told _ _ (λ catalog. done_told _) (plain_segment_told _)
-action_told target bytes endpoint = management_told (path_of target) bytes endpoint
+action_told target bytes ListPrincipals = done_told _
+action_told target bytes CreatePrincipal = read_told _ _ (λ new. done_told _) (body_told _)
+action_told target bytes GetPrincipal = read_told _ _ (λ name. done_told _) (plain_segment_told _)
+action_told target bytes DropPrincipal = read_told _ _ (λ name. done_told _) (plain_segment_told _)
+action_told target bytes Rotate = read_told _ _ (λ name. done_told _) (plain_segment_told _)
+action_told target bytes ListMembers = read_told _ _ (λ name. done_told _) (plain_segment_told _)
+action_told target bytes AddMember = read_told _ _ (λ name. read_told _ _ (λ read. done_told _) (body_told _)) (plain_segment_told _)
+action_told target bytes EndMember = read_told _ _ (λ names. done_told _) (names_told _)
+action_told target bytes ListPrincipalRoles = done_told _
+action_told target bytes CreatePrincipalRole = read_told _ _ (λ new. done_told _) (body_told _)
+action_told target bytes GetPrincipalRole = read_told _ _ (λ name. done_told _) (plain_segment_told _)
+action_told target bytes DropPrincipalRole = read_told _ _ (λ name. done_told _) (plain_segment_told _)
+action_told target bytes ListJoins = read_told _ _ (λ names. done_told _) (names_told _)
+action_told target bytes AddJoin = read_told _ _ (λ names. read_told _ _ (λ read. done_told _) (body_told _)) (names_told _)
+action_told target bytes EndJoin = read_told _ _ (λ names. read_told _ _ (λ role. done_told _) (plain_segment_told _)) (names_told _)
+action_told target bytes ListCatalogRoles = read_told _ _ (λ name. done_told _) (plain_segment_told _)
+action_told target bytes CreateCatalogRole = read_told _ _ (λ name. read_told _ _ (λ read. done_told _) (body_told _)) (plain_segment_told _)
+action_told target bytes GetCatalogRole = read_told _ _ (λ names. done_told _) (names_told _)
+action_told target bytes DropCatalogRole = read_told _ _ (λ names. done_told _) (names_told _)
+action_told target bytes ListGrants = read_told _ _ (λ names. done_told _) (names_told _)
+action_told target bytes AddGrant = read_told _ _ (λ names. read_told _ _ (λ read. done_told _) (body_told _)) (names_told _)
+action_told target bytes Revoke = read_told _ _ (λ names. read_told _ _ (λ read. done_told _) (body_told _)) (names_told _)
+action_told target bytes _ = λ is. absurd (cc)
 
-planned_action_told : (charge : ℕ) (caller : Caller) (target body : List ℕ) (endpoint : Endpoint) → IsTold (action_plan charge caller target body endpoint)
-unfolding action_plan
-planned_action_told charge caller target body endpoint = read_told _ _ (λ action. done_told _) (action_told target body endpoint)
-
-endpoint_told : (charge : ℕ) (caller : Caller) (target body : List ℕ) (endpoint : Endpoint) → IsTold (endpoint_plan charge caller target body endpoint)
-unfolding token_plan
-endpoint_told charge caller target body OpensSession = form_told charge (token_form (parse body))
-endpoint_told charge caller target body endpoint = planned_action_told charge caller target body endpoint
+endpoint_told : (charge : ℕ) (caller : Caller) (target body : List ℕ) (endpoint : Endpoint) → endpoint_plan charge caller target body endpoint ≢ Err OutOfMemory
+unfolding endpoint_plan
+endpoint_told charge caller target body endpoint = read_told _ _ (λ action. done_told _) (action_told target body endpoint)
 
 by_told : (message : Message) (route : Result Endpoint RouteRefused) → route ≢ Err OutOfMemory → IsTold (plan_by message route)
 by_told message (Err why) told is = told (cc)

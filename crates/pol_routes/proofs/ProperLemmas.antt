@@ -13,7 +13,7 @@ use Rattle.pol_readers.specs.Forms.{body}
 use Rattle.pol_readers.specs.Reading.{Reading}
 use Rattle.pol_requests.specs.declared.refused.RouteRefused.{RouteRefused}
 use Rattle.pol_requests.specs.declared.table.Endpoint.{Endpoint}
-use Rattle.pol_requests.specs.declared.table.Endpoint.TheVariants.{OpenSession as OpensSession, GetConfig, ListNamespaces, CreateNamespace, LoadNamespace, HeadNamespace, DropNamespace, UpdateProperties, ListCatalogs, CreateCatalog, GetCatalog, DropCatalog, ListPrincipals, CreatePrincipal, GetPrincipal, DropPrincipal, Rotate, ListMembers, AddMember, EndMember, ListPrincipalRoles, CreatePrincipalRole, GetPrincipalRole, DropPrincipalRole, ListJoins, AddJoin, EndJoin, ListCatalogRoles, CreateCatalogRole, GetCatalogRole, DropCatalogRole, ListGrants, AddGrant, Revoke}
+use Rattle.pol_requests.specs.declared.table.Endpoint.TheVariants.{OpenSession, GetConfig, ListNamespaces, CreateNamespace, LoadNamespace, HeadNamespace, DropNamespace, UpdateProperties, ListCatalogs, CreateCatalog, GetCatalog, DropCatalog, ListPrincipals, CreatePrincipal, GetPrincipal, DropPrincipal, Rotate, ListMembers, AddMember, EndMember, ListPrincipalRoles, CreatePrincipalRole, GetPrincipalRole, DropPrincipalRole, ListJoins, AddJoin, EndJoin, ListCatalogRoles, CreateCatalogRole, GetCatalogRole, DropCatalogRole, ListGrants, AddGrant, Revoke}
 use Rattle.pol_requests.specs.Refused.{Gives, read_on}
 use Rattle.pol_bodies.specs.declared.management_bodies.GrantBody.{GrantBody}
 use Rattle.pol_bodies.proofs.ManagementBodyLemmas.{grant_bodies_exact}
@@ -22,9 +22,9 @@ use Rattle.pol_bodies.specs.Bodies.{new_namespace, property_updates}
 use Rattle.pol_bodies.specs.ManagementBodies.{catalog_role_body, grant_body, principal_role_body}
 use Rattle.pol_routes.specs.declared.plans.Planned.{Planned}
 use Rattle.pol_routes.specs.declared.token_form.TokenForm.{TokenForm}
-use Rattle.pol_routes.specs.Management.{management_of, owner, owner_and_part, create_principal, get_principal, drop_principal, rotate, list_members, add_member, end_member, create_principal_role, get_principal_role, drop_principal_role, list_joins, add_join, end_join, list_catalog_roles, create_catalog_role, get_catalog_role, drop_catalog_role, list_grants, add_grant, revoke}
-use Rattle.pol_routes.specs.Plan.{action_plan, endpoint_plan, plan_by, plan_of, plan_of_form, token_plan}
-use Rattle.pol_routes.specs.Requests.{action_of, namespace_path, parent_of, prefix_of, warehouse_of, get_config, list_namespaces, create_namespace, load_namespace, head_namespace, drop_namespace, update_properties, create_catalog, get_catalog, drop_catalog}
+use Rattle.pol_routes.specs.Management.{owner, owner_and_part, create_principal, get_principal, drop_principal, rotate, list_members, add_member, end_member, create_principal_role, get_principal_role, drop_principal_role, list_joins, add_join, end_join, list_catalog_roles, create_catalog_role, get_catalog_role, drop_catalog_role, list_grants, add_grant, revoke}
+use Rattle.pol_routes.specs.Plan.{endpoint_plan, plan_by, plan_of, words_of}
+use Rattle.pol_routes.specs.Requests.{action_of, open_session, session_asked, namespace_path, parent_of, prefix_of, warehouse_of, get_config, list_namespaces, create_namespace, load_namespace, head_namespace, drop_namespace, update_properties, create_catalog, get_catalog, drop_catalog}
 use Rattle.pol_routes.specs.Route.{endpoint_of}
 use Rattle.pol_routes.specs.Query.{query_value}
 use Rattle.pol_routes.specs.Segment.{plain_segment, segment_at}
@@ -63,40 +63,17 @@ grant_proper bytes make makes (Ok read) is =
     made_proper _ (makes read.grant ((bodies_exact grant_bodies_exact).sound bytes read is).4.1.2.3)
 grant_proper bytes make makes (Err path) is = unread_proper _
 
-management_proper : (path bytes : List ℕ) (endpoint : Endpoint) → IsProperRead (management_of path bytes endpoint)
-unfolding management_of create_principal get_principal drop_principal rotate list_members add_member end_member create_principal_role get_principal_role drop_principal_role list_joins add_join end_join list_catalog_roles create_catalog_role get_catalog_role drop_catalog_role list_grants add_grant revoke
-management_proper path bytes ListPrincipals = made_proper _ tt
-management_proper path bytes CreatePrincipal = read_proper _ _ (λ new. made_proper _ tt)
-management_proper path bytes GetPrincipal = read_proper _ _ (λ name. made_proper _ tt)
-management_proper path bytes DropPrincipal = read_proper _ _ (λ name. made_proper _ tt)
-management_proper path bytes Rotate = read_proper _ _ (λ name. made_proper _ tt)
-management_proper path bytes ListMembers = read_proper _ _ (λ name. made_proper _ tt)
-management_proper path bytes AddMember =
-    read_twice_proper (owner path) (λ principal. body_of (body principal_role_body bytes)) (λ principal read. action.AddMember principal read.name) (λ principal read. tt)
-management_proper path bytes EndMember = read_proper _ _ (λ names. made_proper _ tt)
-management_proper path bytes ListPrincipalRoles = made_proper _ tt
-management_proper path bytes CreatePrincipalRole = read_proper _ _ (λ new. made_proper _ tt)
-management_proper path bytes GetPrincipalRole = read_proper _ _ (λ name. made_proper _ tt)
-management_proper path bytes DropPrincipalRole = read_proper _ _ (λ name. made_proper _ tt)
-management_proper path bytes ListJoins = read_proper _ _ (λ names. made_proper _ tt)
-management_proper path bytes AddJoin =
-    read_twice_proper (owner_and_part path) (λ names. body_of (body catalog_role_body bytes)) (λ names read. action.AddJoin names.1 names.0 read.name) (λ names read. tt)
-management_proper path bytes EndJoin =
-    read_twice_proper (owner_and_part path) (λ names. plain_segment (segment_at path 8)) (λ names role. action.EndJoin names.1 names.0 role) (λ names role. tt)
-management_proper path bytes ListCatalogRoles = read_proper _ _ (λ name. made_proper _ tt)
-management_proper path bytes CreateCatalogRole =
-    read_twice_proper (owner path) (λ catalog. body_of (body catalog_role_body bytes)) (λ catalog new. action.CreateCatalogRole catalog new.name) (λ catalog new. tt)
-management_proper path bytes GetCatalogRole = read_proper _ _ (λ names. made_proper _ tt)
-management_proper path bytes DropCatalogRole = read_proper _ _ (λ names. made_proper _ tt)
-management_proper path bytes ListGrants = read_proper _ _ (λ names. made_proper _ tt)
-management_proper path bytes AddGrant =
-    read_proper _ _ (λ names. grant_proper bytes (action.AddGrant names.0 names.1) (λ grant may. may) (body grant_body bytes) refl)
-management_proper path bytes Revoke =
-    read_twice_proper (owner_and_part path) (λ names. body_of (body grant_body bytes)) (λ names read. action.Revoke names.0 names.1 read.grant) (λ names read. tt)
-management_proper path bytes _ = unread_proper _
+if_proper : (b : Bool) (first second : Result Action RouteRefused) → IsProperRead first → IsProperRead second → IsProperRead (cond b first second)
+if_proper true first second is other = is
+if_proper false first second is other = other
+
+asked_proper : (form : Option TokenForm) → IsProperRead (session_asked form)
+asked_proper None = unread_proper _
+asked_proper (Some form) = if_proper _ _ _ (made_proper _ tt) (unread_proper _)
 
 action_proper : (target bytes : List ℕ) (endpoint : Endpoint) → IsProperRead (action_of target bytes endpoint)
-unfolding get_config list_namespaces create_namespace load_namespace head_namespace drop_namespace update_properties create_catalog get_catalog drop_catalog
+unfolding open_session get_config list_namespaces create_namespace load_namespace head_namespace drop_namespace update_properties create_catalog get_catalog drop_catalog create_principal get_principal drop_principal rotate list_members add_member end_member create_principal_role get_principal_role drop_principal_role list_joins add_join end_join list_catalog_roles create_catalog_role get_catalog_role drop_catalog_role list_grants add_grant revoke
+action_proper target bytes OpenSession = asked_proper (token_form (parse bytes))
 action_proper target bytes GetConfig =
     read_twice_proper (query_value (codes "warehouse") (query_of target)) warehouse_of (λ value catalog. action.GetConfig catalog) (λ value catalog. tt)
 action_proper target bytes ListNamespaces =
@@ -114,7 +91,35 @@ action_proper target bytes ListCatalogs = made_proper _ tt
 action_proper target bytes CreateCatalog = read_proper _ _ (λ read. made_proper _ tt)
 action_proper target bytes GetCatalog = read_proper _ _ (λ catalog. made_proper _ tt)
 action_proper target bytes DropCatalog = read_proper _ _ (λ catalog. made_proper _ tt)
-action_proper target bytes endpoint = management_proper (path_of target) bytes endpoint
+action_proper target bytes ListPrincipals = made_proper _ tt
+action_proper target bytes CreatePrincipal = read_proper _ _ (λ new. made_proper _ tt)
+action_proper target bytes GetPrincipal = read_proper _ _ (λ name. made_proper _ tt)
+action_proper target bytes DropPrincipal = read_proper _ _ (λ name. made_proper _ tt)
+action_proper target bytes Rotate = read_proper _ _ (λ name. made_proper _ tt)
+action_proper target bytes ListMembers = read_proper _ _ (λ name. made_proper _ tt)
+action_proper target bytes AddMember =
+    read_twice_proper (owner (path_of target)) (λ principal. body_of (body principal_role_body bytes)) (λ principal read. action.AddMember principal read.name) (λ principal read. tt)
+action_proper target bytes EndMember = read_proper _ _ (λ names. made_proper _ tt)
+action_proper target bytes ListPrincipalRoles = made_proper _ tt
+action_proper target bytes CreatePrincipalRole = read_proper _ _ (λ new. made_proper _ tt)
+action_proper target bytes GetPrincipalRole = read_proper _ _ (λ name. made_proper _ tt)
+action_proper target bytes DropPrincipalRole = read_proper _ _ (λ name. made_proper _ tt)
+action_proper target bytes ListJoins = read_proper _ _ (λ names. made_proper _ tt)
+action_proper target bytes AddJoin =
+    read_twice_proper (owner_and_part (path_of target)) (λ names. body_of (body catalog_role_body bytes)) (λ names read. action.AddJoin names.1 names.0 read.name) (λ names read. tt)
+action_proper target bytes EndJoin =
+    read_twice_proper (owner_and_part (path_of target)) (λ names. plain_segment (segment_at (path_of target) 8)) (λ names role. action.EndJoin names.1 names.0 role) (λ names role. tt)
+action_proper target bytes ListCatalogRoles = read_proper _ _ (λ name. made_proper _ tt)
+action_proper target bytes CreateCatalogRole =
+    read_twice_proper (owner (path_of target)) (λ catalog. body_of (body catalog_role_body bytes)) (λ catalog new. action.CreateCatalogRole catalog new.name) (λ catalog new. tt)
+action_proper target bytes GetCatalogRole = read_proper _ _ (λ names. made_proper _ tt)
+action_proper target bytes DropCatalogRole = read_proper _ _ (λ names. made_proper _ tt)
+action_proper target bytes ListGrants = read_proper _ _ (λ names. made_proper _ tt)
+action_proper target bytes AddGrant =
+    read_proper _ _ (λ names. grant_proper bytes (action.AddGrant names.0 names.1) (λ grant may. may) (body grant_body bytes) refl)
+action_proper target bytes Revoke =
+    read_twice_proper (owner_and_part (path_of target)) (λ names. body_of (body grant_body bytes)) (λ names read. action.Revoke names.0 names.1 read.grant) (λ names read. tt)
+action_proper target bytes _ = unread_proper _
 
 -- the action of a plan, if there is one, is proper
 unfoldable IsProperPlan : Result Planned RouteRefused → Type 0
@@ -129,28 +134,15 @@ unplanned : (why : RouteRefused) → IsProperPlan (Err why)
 unfolding IsProperPlan
 unplanned why = tt
 
-planned_proper : (charge words : ℕ) (caller : Caller) (result : Result Action RouteRefused) → IsProperRead result
-    → IsProperPlan (read_on (λ read. Ok (record { caller = caller; action = read; words = words; charge = charge })) result)
+planned_proper : (charge : ℕ) (caller : Caller) (result : Result Action RouteRefused) → IsProperRead result
+    → IsProperPlan (read_on (λ read. Ok (record { caller = caller; action = read; words = words_of read; charge = charge })) result)
 unfolding IsProperRead
-planned_proper charge words caller (Ok read) is = plan_made _ is
-planned_proper charge words caller (Err why) is = unplanned why
-
-either_proper : (b : Bool) (first second : Result Planned RouteRefused) → IsProperPlan first → IsProperPlan second → IsProperPlan (cond b first second)
-either_proper true first second is other = is
-either_proper false first second is other = other
-
-form_proper : (charge : ℕ) (form : Option TokenForm) → IsProperPlan (plan_of_form charge form)
-form_proper charge None = unplanned _
-form_proper charge (Some form) = either_proper _ _ _ (plan_made _ tt) (unplanned _)
-
-request_proper : (charge : ℕ) (caller : Caller) (target body : List ℕ) (endpoint : Endpoint) → IsProperPlan (action_plan charge caller target body endpoint)
-unfolding action_plan
-request_proper charge caller target body endpoint = planned_proper _ _ _ _ (action_proper target body endpoint)
+planned_proper charge caller (Ok read) is = plan_made _ is
+planned_proper charge caller (Err why) is = unplanned why
 
 endpoint_proper : (charge : ℕ) (caller : Caller) (target body : List ℕ) (endpoint : Endpoint) → IsProperPlan (endpoint_plan charge caller target body endpoint)
-unfolding token_plan
-endpoint_proper charge caller target body OpensSession = form_proper charge (token_form (parse body))
-endpoint_proper charge caller target body endpoint = request_proper charge caller target body endpoint
+unfolding endpoint_plan
+endpoint_proper charge caller target body endpoint = planned_proper _ _ _ (action_proper target body endpoint)
 
 by_proper : (message : Message) (route : Result Endpoint RouteRefused) → IsProperPlan (plan_by message route)
 by_proper message (Err why) = unplanned why

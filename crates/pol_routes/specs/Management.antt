@@ -1,12 +1,9 @@
 -- What management requests ask for (Apache Polaris Management Service), by their paths and bodies.
-use Rattle.std.specs.Prelude.{ℕ, List, None, Result, Ok, Err}
+use Rattle.std.specs.Prelude.{ℕ, List, None, Result, Ok}
 use Rattle.pol_commands.specs.declared.command.Action.{Action}
 use Rattle.pol_commands.specs.declared.command.Action.TheVariants as action
 use Rattle.pol_readers.specs.Forms.{body}
 use Rattle.pol_requests.specs.declared.refused.RouteRefused.{RouteRefused}
-use Rattle.pol_requests.specs.declared.refused.RouteRefused.TheVariants.{NotBuilt}
-use Rattle.pol_requests.specs.declared.table.Endpoint.{Endpoint}
-use Rattle.pol_requests.specs.declared.table.Endpoint.TheVariants.{ListPrincipals, CreatePrincipal, GetPrincipal, DropPrincipal, Rotate, ListMembers, AddMember, EndMember, ListPrincipalRoles, CreatePrincipalRole, GetPrincipalRole, DropPrincipalRole, ListJoins, AddJoin, EndJoin, ListCatalogRoles, CreateCatalogRole, GetCatalogRole, DropCatalogRole, ListGrants, AddGrant, Revoke}
 use Rattle.pol_requests.specs.Refused.{read_on}
 use Rattle.pol_bodies.specs.Body.{body_of}
 use Rattle.pol_bodies.specs.ManagementBodies.{catalog_role_body, grant_body, principal_body, principal_role_body}
@@ -94,29 +91,3 @@ add_grant path bytes =
 unfoldable pub revoke : List ℕ → List ℕ → Result Action RouteRefused
 revoke path bytes =
     read_on (λ names. read_on (λ read. Ok (action.Revoke names.0 names.1 read.grant)) (body_of (body grant_body bytes))) (owner_and_part path)
-
--- the action that a request with that path and body asks for; what has no line of its own isn't built yet
-unfoldable pub management_of : List ℕ → List ℕ → Endpoint → Result Action RouteRefused
-management_of path bytes ListPrincipals = Ok action.ListPrincipals
-management_of path bytes CreatePrincipal = create_principal bytes
-management_of path bytes GetPrincipal = get_principal path
-management_of path bytes DropPrincipal = drop_principal path
-management_of path bytes Rotate = rotate path
-management_of path bytes ListMembers = list_members path
-management_of path bytes AddMember = add_member path bytes
-management_of path bytes EndMember = end_member path
-management_of path bytes ListPrincipalRoles = Ok action.ListPrincipalRoles
-management_of path bytes CreatePrincipalRole = create_principal_role bytes
-management_of path bytes GetPrincipalRole = get_principal_role path
-management_of path bytes DropPrincipalRole = drop_principal_role path
-management_of path bytes ListJoins = list_joins path
-management_of path bytes AddJoin = add_join path bytes
-management_of path bytes EndJoin = end_join path
-management_of path bytes ListCatalogRoles = list_catalog_roles path
-management_of path bytes CreateCatalogRole = create_catalog_role path bytes
-management_of path bytes GetCatalogRole = get_catalog_role path
-management_of path bytes DropCatalogRole = drop_catalog_role path
-management_of path bytes ListGrants = list_grants path
-management_of path bytes AddGrant = add_grant path bytes
-management_of path bytes Revoke = revoke path bytes
-management_of path bytes _ = Err NotBuilt

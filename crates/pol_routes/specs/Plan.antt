@@ -1,65 +1,71 @@
 -- What a message asks of the catalogue.
-use Rattle.std.specs.Prelude.{ℕ, ◌+◌, List, length, if◌then◌else◌, Option, Some, None, Result, Ok, Err, codes}
-use Rattle.std.specs.Str.{bytes_eq}
-use Rattle.form_urlencoded.specs.Form.{parse}
+use Rattle.std.specs.Prelude.{ℕ, ◌+◌, List, length, Result, Ok, Err}
 use Rattle.pol_http.specs.Head.{fields_of}
 use Rattle.pol_http.specs.Message.{Message, print_message}
-use Rattle.pol_commands.specs.declared.command.Action.TheVariants.{OpenSession}
+use Rattle.pol_commands.specs.declared.command.Action.{Action}
+use Rattle.pol_commands.specs.declared.command.Action.TheVariants.{OpenSession, GetConfig, ListCatalogs, CreateCatalog, GetCatalog, DropCatalog, ListNamespaces, CreateNamespace, LoadNamespace, HeadNamespace, DropNamespace, UpdateProperties, ListPrincipals, CreatePrincipal, GetPrincipal, DropPrincipal, Rotate, ListMembers, AddMember, EndMember, ListPrincipalRoles, CreatePrincipalRole, GetPrincipalRole, DropPrincipalRole, ListJoins, AddJoin, EndJoin, ListCatalogRoles, CreateCatalogRole, GetCatalogRole, DropCatalogRole, ListGrants, AddGrant, Revoke}
 use Rattle.pol_commands.specs.declared.command.Caller.{Caller}
 use Rattle.pol_commands.specs.declared.command.Caller.TheVariants.{Nobody}
 use Rattle.pol_commands.specs.declared.command.Command.{Command}
 use Rattle.pol_commands.specs.declared.command.Words4.{Words4}
 use Rattle.pol_requests.specs.declared.refused.RouteRefused.{RouteRefused}
-use Rattle.pol_requests.specs.declared.refused.RouteRefused.TheVariants.{InvalidRequest, GrantType}
 use Rattle.pol_requests.specs.declared.table.Endpoint.{Endpoint}
-use Rattle.pol_requests.specs.declared.table.Endpoint.TheVariants.{OpenSession as OpensSession, CreatePrincipal, Rotate}
+use Rattle.pol_requests.specs.declared.table.Endpoint.TheVariants.{OpenSession as OpensSession}
 use Rattle.pol_requests.specs.Refused.{read_on}
 use Rattle.pol_routes.specs.declared.plans.Planned.{Planned}
 use Rattle.pol_routes.specs.declared.plans.TheConstants.{REQUEST_CHARGE}
-use Rattle.pol_routes.specs.declared.token_form.TokenForm.{TokenForm}
 use Rattle.pol_routes.specs.Bearer.{caller_of}
 use Rattle.pol_routes.specs.Requests.{action_of}
 use Rattle.pol_routes.specs.Route.{endpoint_of}
 use Rattle.pol_routes.specs.Target.{path_of}
-use Rattle.pol_routes.specs.TokenForm.{token_form}
 
--- the session that a token request asks for, of a client that stands for itself (RFC 6749, section 4.4)
-abbrev pub session_plan : ℕ → TokenForm → Result Planned RouteRefused
-session_plan charge form =
-    if bytes_eq form.grant_type (codes "client_credentials")
-    then Ok (record {
-      caller = Nobody;
-      action = OpenSession form.client_id form.client_secret form.scopes;
-      words = 2;
-      charge = charge;
-    })
-    else Err GrantType
+-- how many random words an action needs: a session's token is made of two, a new principal's client id of one and its
+-- secret of two, as is another secret
+abbrev pub words_of : Action → ℕ
+words_of (OpenSession client_id word scopes) = 2
+words_of (GetConfig catalog) = 0
+words_of ListCatalogs = 0
+words_of (CreateCatalog name base allowed properties is_external) = 0
+words_of (GetCatalog catalog) = 0
+words_of (DropCatalog catalog) = 0
+words_of (ListNamespaces catalog parent) = 0
+words_of (CreateNamespace catalog namespace properties) = 0
+words_of (LoadNamespace catalog namespace) = 0
+words_of (HeadNamespace catalog namespace) = 0
+words_of (DropNamespace catalog namespace) = 0
+words_of (UpdateProperties catalog namespace removals updates) = 0
+words_of ListPrincipals = 0
+words_of (CreatePrincipal name client_id word) = 3
+words_of (GetPrincipal name) = 0
+words_of (DropPrincipal name) = 0
+words_of (Rotate name word) = 2
+words_of (ListMembers principal) = 0
+words_of (AddMember principal role) = 0
+words_of (EndMember principal role) = 0
+words_of ListPrincipalRoles = 0
+words_of (CreatePrincipalRole name) = 0
+words_of (GetPrincipalRole name) = 0
+words_of (DropPrincipalRole name) = 0
+words_of (ListJoins catalog role) = 0
+words_of (AddJoin catalog role catalog_role) = 0
+words_of (EndJoin catalog role catalog_role) = 0
+words_of (ListCatalogRoles catalog) = 0
+words_of (CreateCatalogRole catalog name) = 0
+words_of (GetCatalogRole catalog name) = 0
+words_of (DropCatalogRole catalog name) = 0
+words_of (ListGrants catalog role) = 0
+words_of (AddGrant catalog role grant) = 0
+words_of (Revoke catalog role grant) = 0
 
--- the plan of a request, if there is one
-abbrev pub plan_of_form : ℕ → Option TokenForm → Result Planned RouteRefused
-plan_of_form charge None = Err InvalidRequest
-plan_of_form charge (Some form) = session_plan charge form
+-- whose a request is: a token request is nobody's
+abbrev pub caller_for : Endpoint → Caller → Caller
+caller_for OpensSession caller = Nobody
+caller_for _ caller = caller
 
--- the plan of a token request with that body
-unfoldable pub token_plan : ℕ → List ℕ → Result Planned RouteRefused
-token_plan charge body = plan_of_form charge (token_form (parse body))
-
--- how many random words a request needs: a new principal's client id is made of one and its secret of two, as is
--- another secret
-abbrev pub words_of : Endpoint → ℕ
-words_of CreatePrincipal = 3
-words_of Rotate = 2
-words_of other = 0
-
--- the plan of a request for an action other than opening a session
-unfoldable pub action_plan : ℕ → Caller → List ℕ → List ℕ → Endpoint → Result Planned RouteRefused
-action_plan charge caller target body endpoint =
-    read_on (λ action. Ok (record { caller = caller; action = action; words = words_of endpoint; charge = charge })) (action_of target body endpoint)
-
--- the plan of a request with that charge, caller, target and body, by what it asks for; a token request is nobody's
-abbrev pub endpoint_plan : ℕ → Caller → List ℕ → List ℕ → Endpoint → Result Planned RouteRefused
-endpoint_plan charge caller target body OpensSession = token_plan charge body
-endpoint_plan charge caller target body endpoint = action_plan charge caller target body endpoint
+-- the plan of a request with that charge, caller, target and body, by what it asks for
+unfoldable pub endpoint_plan : ℕ → Caller → List ℕ → List ℕ → Endpoint → Result Planned RouteRefused
+endpoint_plan charge caller target body endpoint =
+    read_on (λ action. Ok (record { caller = caller_for endpoint caller; action = action; words = words_of action; charge = charge })) (action_of target body endpoint)
 
 -- the plan of a message whose route is known, or was refused
 abbrev pub plan_by : Message → Result Endpoint RouteRefused → Result Planned RouteRefused

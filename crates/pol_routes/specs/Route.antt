@@ -1,11 +1,12 @@
 -- The route of a request: the path of the table that matchit finds, and the row of its method.
-use Rattle.std.specs.Prelude.{ℕ, ◌+◌, Bool, ◌&&◌, List, [], ◌∷◌, if◌then◌else◌, Option, Some, None, option_map, option_and_then, is_none, find, slice_get, Result, Ok, Err}
+use Rattle.std.specs.Prelude.{ℕ, ◌+◌, Bool, false, ◌&&◌, not, List, [], ◌∷◌, drop, ◌==◌, if◌then◌else◌, Option, Some, None, option_map, option_and_then, is_none, find, slice_get, Result, Ok, Err}
 use Rattle.std.specs.Str.{bytes_eq}
+use Rattle.form_urlencoded.specs.Form.{is_nonempty}
 use Rattle.matchit.specs.Order.{placed}
 use Rattle.matchit.specs.Route.{Scan, parse_route}
 use Rattle.matchit.specs.Router.{RouteOf, nearest, route_from}
-use Rattle.matchit.specs.Rows.{RowsOf}
-use Rattle.matchit.specs.Seek.{first}
+use Rattle.matchit.specs.Rows.{RowsOf, catch_all_token, param_token}
+use Rattle.matchit.specs.Seek.{first, slash}
 use Rattle.matchit.specs.declared.error.InsertError.{InsertError}
 use Rattle.pol_requests.specs.declared.refused.RouteRefused.{RouteRefused}
 use Rattle.pol_requests.specs.declared.refused.RouteRefused.TheVariants.{NoRoute, WrongMethod}
@@ -57,3 +58,25 @@ path_found path = option_map (λ route. route.value) (first table_routes path)
 
 unfoldable pub endpoint_of : List ℕ → List ℕ → Result Endpoint RouteRefused
 endpoint_of method path = of_path method (path_found path)
+
+-- the bytes in front of the first slash, and those from it on
+abbrev pub first_segment : List ℕ → List ℕ
+first_segment [] = []
+first_segment (byte ∷ path) = if byte == slash then [] else byte ∷ first_segment path
+
+abbrev pub behind_segment : List ℕ → List ℕ
+behind_segment [] = []
+behind_segment (byte ∷ path) = if byte == slash then byte ∷ path else behind_segment path
+
+abbrev pub begins_with : ℕ → List ℕ → Bool
+begins_with byte [] = false
+begins_with byte (first ∷ path) = first == byte
+
+-- the path is one of the pattern's: a parameter stands for a segment, and a catch-all for all that follows, neither of
+-- which is empty, and any other token for itself
+abbrev pub fits : List ℕ → List ℕ → Bool
+fits [] path = not (is_nonempty path)
+fits (token ∷ tokens) path =
+    if token == catch_all_token then is_nonempty path
+    else if token == param_token then is_nonempty (first_segment path) && fits tokens (behind_segment path)
+    else begins_with token path && fits tokens (drop 1 path)

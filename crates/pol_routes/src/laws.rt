@@ -1,5 +1,8 @@
 //! Laws of plans: theorems over the definitions in `specs/`. Their bodies are empty.
-ghost use Rattle.pol_routes.specs.Laws.{PlansAreProper, PlansTellNoWantOfMemory};
+ghost use Rattle.std.specs.Prelude.{◌≡◌};
+ghost use Rattle.pol_routes.specs.declared.plans.TheConstants.{REQUEST_CHARGE};
+ghost use Rattle.pol_routes.specs.declared.token_form.TheConstants.{SCOPE_LIMIT};
+ghost use Rattle.pol_routes.specs.Laws.{EachRowIsServed, PlansAreProper, PlansTellNoWantOfMemory};
 
 /// No message has want of memory for its plan: `plan` answers that of its own accord alone.
 pub fn plans_tell_no_want_of_memory()
@@ -9,4 +12,16 @@ pub fn plans_tell_no_want_of_memory()
 /// No message is planned as a grant, or as the end of one, of a privilege that may not be granted on what it is on.
 pub fn plans_are_proper()
     ensures { PlansAreProper }
+{}
+
+/// A request is charged 512 beside its bytes, and a token request has at most 16 scopes.
+pub fn bounds_are_those()
+    ensures charge { REQUEST_CHARGE ≡ 512 }
+    ensures scopes { SCOPE_LIMIT ≡ 16 }
+{}
+
+/// Each request of the table is answered by its own row: no path of the table is malformed or in conflict with another,
+/// and no other row is found in its place.
+pub fn each_row_is_served()
+    ensures { EachRowIsServed }
 {}

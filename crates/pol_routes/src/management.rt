@@ -6,7 +6,7 @@ use crate::segment::{plain_segment, segment_at};
 use pol_bodies::{CatalogRoleBody, GrantBody, PrincipalBody, PrincipalRoleBody, body_of};
 use pol_commands::Action;
 use pol_names::Plain;
-use pol_requests::{Endpoint, RouteRefused};
+use pol_requests::RouteRefused;
 use std::alloc::Global;
 
 /// The place of what a path names first: a principal, a principal role or a catalogue.
@@ -17,44 +17,6 @@ const PART_PLACE: usize = 7;
 
 /// The place of a catalogue's role behind the catalogue to which a principal role is joined.
 const JOINED_ROLE_PLACE: usize = 8;
-
-/// The action that a management request asks for. Its path is read first, then its body. What has no arm of its own
-/// isn't built yet.
-#[tactic(auto, unfolding(crate::specs::Management::management_of))]
-pub(crate) fn management_of(
-    alloc: Global,
-    endpoint: Endpoint,
-    path: &[u8],
-    body: &[u8],
-) -> Result<Action, RouteRefused>
-    ensures { Gives (spec.management_of path.now body.now endpoint) result }
-{
-    match endpoint {
-        Endpoint::ListPrincipals => Ok(Action::ListPrincipals),
-        Endpoint::CreatePrincipal => create_principal(alloc, body),
-        Endpoint::GetPrincipal => get_principal(alloc, path),
-        Endpoint::DropPrincipal => drop_principal(alloc, path),
-        Endpoint::Rotate => rotate(alloc, path),
-        Endpoint::ListMembers => list_members(alloc, path),
-        Endpoint::AddMember => add_member(alloc, path, body),
-        Endpoint::EndMember => end_member(alloc, path),
-        Endpoint::ListPrincipalRoles => Ok(Action::ListPrincipalRoles),
-        Endpoint::CreatePrincipalRole => create_principal_role(alloc, body),
-        Endpoint::GetPrincipalRole => get_principal_role(alloc, path),
-        Endpoint::DropPrincipalRole => drop_principal_role(alloc, path),
-        Endpoint::ListJoins => list_joins(alloc, path),
-        Endpoint::AddJoin => add_join(alloc, path, body),
-        Endpoint::EndJoin => end_join(alloc, path),
-        Endpoint::ListCatalogRoles => list_catalog_roles(alloc, path),
-        Endpoint::CreateCatalogRole => create_catalog_role(alloc, path, body),
-        Endpoint::GetCatalogRole => get_catalog_role(alloc, path),
-        Endpoint::DropCatalogRole => drop_catalog_role(alloc, path),
-        Endpoint::ListGrants => list_grants(alloc, path),
-        Endpoint::AddGrant => add_grant(alloc, path, body),
-        Endpoint::Revoke => revoke(alloc, path, body),
-        _ => Err(RouteRefused::NotBuilt),
-    }
-}
 
 /// What a path names first.
 fn owner(alloc: Global, path: &[u8]) -> Result<Plain, RouteRefused>
@@ -75,7 +37,7 @@ fn owner_and_part(alloc: Global, path: &[u8]) -> Result<(Plain, Plain), RouteRef
 
 /// A new principal, whose client id and secret are drawn (createPrincipal).
 #[tactic(auto, using(pol_requests::proofs::RefusedLemmas::read_on_refused, pol_requests::proofs::RefusedLemmas::read_on_read), unfolding(crate::specs::Management::create_principal))]
-fn create_principal(alloc: Global, body: &[u8]) -> Result<Action, RouteRefused>
+pub(crate) fn create_principal(alloc: Global, body: &[u8]) -> Result<Action, RouteRefused>
     ensures { Gives (spec.create_principal body.now) result }
 {
     let new: PrincipalBody = body_of(alloc, body)?;
@@ -88,7 +50,7 @@ fn create_principal(alloc: Global, body: &[u8]) -> Result<Action, RouteRefused>
 
 /// A principal that is shown (getPrincipal).
 #[tactic(auto, using(pol_requests::proofs::RefusedLemmas::read_on_refused, pol_requests::proofs::RefusedLemmas::read_on_read), unfolding(crate::specs::Management::get_principal))]
-fn get_principal(alloc: Global, path: &[u8]) -> Result<Action, RouteRefused>
+pub(crate) fn get_principal(alloc: Global, path: &[u8]) -> Result<Action, RouteRefused>
     ensures { Gives (spec.get_principal path.now) result }
 {
     let name = owner(alloc, path)?;
@@ -97,7 +59,7 @@ fn get_principal(alloc: Global, path: &[u8]) -> Result<Action, RouteRefused>
 
 /// The end of a principal (deletePrincipal).
 #[tactic(auto, using(pol_requests::proofs::RefusedLemmas::read_on_refused, pol_requests::proofs::RefusedLemmas::read_on_read), unfolding(crate::specs::Management::drop_principal))]
-fn drop_principal(alloc: Global, path: &[u8]) -> Result<Action, RouteRefused>
+pub(crate) fn drop_principal(alloc: Global, path: &[u8]) -> Result<Action, RouteRefused>
     ensures { Gives (spec.drop_principal path.now) result }
 {
     let name = owner(alloc, path)?;
@@ -106,7 +68,7 @@ fn drop_principal(alloc: Global, path: &[u8]) -> Result<Action, RouteRefused>
 
 /// Another secret of a principal, which is drawn (rotateCredentials).
 #[tactic(auto, using(pol_requests::proofs::RefusedLemmas::read_on_refused, pol_requests::proofs::RefusedLemmas::read_on_read), unfolding(crate::specs::Management::rotate))]
-fn rotate(alloc: Global, path: &[u8]) -> Result<Action, RouteRefused>
+pub(crate) fn rotate(alloc: Global, path: &[u8]) -> Result<Action, RouteRefused>
     ensures { Gives (spec.rotate path.now) result }
 {
     let name = owner(alloc, path)?;
@@ -115,7 +77,7 @@ fn rotate(alloc: Global, path: &[u8]) -> Result<Action, RouteRefused>
 
 /// The roles of a principal (listPrincipalRolesAssigned).
 #[tactic(auto, using(pol_requests::proofs::RefusedLemmas::read_on_refused, pol_requests::proofs::RefusedLemmas::read_on_read), unfolding(crate::specs::Management::list_members))]
-fn list_members(alloc: Global, path: &[u8]) -> Result<Action, RouteRefused>
+pub(crate) fn list_members(alloc: Global, path: &[u8]) -> Result<Action, RouteRefused>
     ensures { Gives (spec.list_members path.now) result }
 {
     let principal = owner(alloc, path)?;
@@ -124,7 +86,7 @@ fn list_members(alloc: Global, path: &[u8]) -> Result<Action, RouteRefused>
 
 /// A role that a principal gets (assignPrincipalRole).
 #[tactic(auto, using(pol_requests::proofs::RefusedLemmas::read_on_refused, pol_requests::proofs::RefusedLemmas::read_on_read), unfolding(crate::specs::Management::add_member))]
-fn add_member(alloc: Global, path: &[u8], body: &[u8]) -> Result<Action, RouteRefused>
+pub(crate) fn add_member(alloc: Global, path: &[u8], body: &[u8]) -> Result<Action, RouteRefused>
     ensures { Gives (spec.add_member path.now body.now) result }
 {
     let principal = owner(alloc, path)?;
@@ -137,7 +99,7 @@ fn add_member(alloc: Global, path: &[u8], body: &[u8]) -> Result<Action, RouteRe
 
 /// A role that is taken from a principal (revokePrincipalRole).
 #[tactic(auto, using(pol_requests::proofs::RefusedLemmas::read_on_refused, pol_requests::proofs::RefusedLemmas::read_on_read), unfolding(crate::specs::Management::end_member))]
-fn end_member(alloc: Global, path: &[u8]) -> Result<Action, RouteRefused>
+pub(crate) fn end_member(alloc: Global, path: &[u8]) -> Result<Action, RouteRefused>
     ensures { Gives (spec.end_member path.now) result }
 {
     let (principal, role) = owner_and_part(alloc, path)?;
@@ -146,7 +108,7 @@ fn end_member(alloc: Global, path: &[u8]) -> Result<Action, RouteRefused>
 
 /// A new principal role (createPrincipalRole).
 #[tactic(auto, using(pol_requests::proofs::RefusedLemmas::read_on_refused, pol_requests::proofs::RefusedLemmas::read_on_read), unfolding(crate::specs::Management::create_principal_role))]
-fn create_principal_role(alloc: Global, body: &[u8]) -> Result<Action, RouteRefused>
+pub(crate) fn create_principal_role(alloc: Global, body: &[u8]) -> Result<Action, RouteRefused>
     ensures { Gives (spec.create_principal_role body.now) result }
 {
     let new: PrincipalRoleBody = body_of(alloc, body)?;
@@ -155,7 +117,7 @@ fn create_principal_role(alloc: Global, body: &[u8]) -> Result<Action, RouteRefu
 
 /// A principal role that is shown (getPrincipalRole).
 #[tactic(auto, using(pol_requests::proofs::RefusedLemmas::read_on_refused, pol_requests::proofs::RefusedLemmas::read_on_read), unfolding(crate::specs::Management::get_principal_role))]
-fn get_principal_role(alloc: Global, path: &[u8]) -> Result<Action, RouteRefused>
+pub(crate) fn get_principal_role(alloc: Global, path: &[u8]) -> Result<Action, RouteRefused>
     ensures { Gives (spec.get_principal_role path.now) result }
 {
     let name = owner(alloc, path)?;
@@ -164,7 +126,7 @@ fn get_principal_role(alloc: Global, path: &[u8]) -> Result<Action, RouteRefused
 
 /// The end of a principal role (deletePrincipalRole).
 #[tactic(auto, using(pol_requests::proofs::RefusedLemmas::read_on_refused, pol_requests::proofs::RefusedLemmas::read_on_read), unfolding(crate::specs::Management::drop_principal_role))]
-fn drop_principal_role(alloc: Global, path: &[u8]) -> Result<Action, RouteRefused>
+pub(crate) fn drop_principal_role(alloc: Global, path: &[u8]) -> Result<Action, RouteRefused>
     ensures { Gives (spec.drop_principal_role path.now) result }
 {
     let name = owner(alloc, path)?;
@@ -173,7 +135,7 @@ fn drop_principal_role(alloc: Global, path: &[u8]) -> Result<Action, RouteRefuse
 
 /// The roles of a catalogue to which a principal role is joined (listCatalogRolesForPrincipalRole).
 #[tactic(auto, using(pol_requests::proofs::RefusedLemmas::read_on_refused, pol_requests::proofs::RefusedLemmas::read_on_read), unfolding(crate::specs::Management::list_joins))]
-fn list_joins(alloc: Global, path: &[u8]) -> Result<Action, RouteRefused>
+pub(crate) fn list_joins(alloc: Global, path: &[u8]) -> Result<Action, RouteRefused>
     ensures { Gives (spec.list_joins path.now) result }
 {
     let (role, catalog) = owner_and_part(alloc, path)?;
@@ -182,7 +144,7 @@ fn list_joins(alloc: Global, path: &[u8]) -> Result<Action, RouteRefused>
 
 /// A principal role that is joined to a role of a catalogue (assignCatalogRoleToPrincipalRole).
 #[tactic(auto, using(pol_requests::proofs::RefusedLemmas::read_on_refused, pol_requests::proofs::RefusedLemmas::read_on_read), unfolding(crate::specs::Management::add_join))]
-fn add_join(alloc: Global, path: &[u8], body: &[u8]) -> Result<Action, RouteRefused>
+pub(crate) fn add_join(alloc: Global, path: &[u8], body: &[u8]) -> Result<Action, RouteRefused>
     ensures { Gives (spec.add_join path.now body.now) result }
 {
     let (role, catalog) = owner_and_part(alloc, path)?;
@@ -196,7 +158,7 @@ fn add_join(alloc: Global, path: &[u8], body: &[u8]) -> Result<Action, RouteRefu
 
 /// The end of such a join (revokeCatalogRoleFromPrincipalRole).
 #[tactic(auto, using(pol_requests::proofs::RefusedLemmas::read_on_refused, pol_requests::proofs::RefusedLemmas::read_on_read), unfolding(crate::specs::Management::end_join))]
-fn end_join(alloc: Global, path: &[u8]) -> Result<Action, RouteRefused>
+pub(crate) fn end_join(alloc: Global, path: &[u8]) -> Result<Action, RouteRefused>
     ensures { Gives (spec.end_join path.now) result }
 {
     let (role, catalog) = owner_and_part(alloc, path)?;
@@ -210,7 +172,7 @@ fn end_join(alloc: Global, path: &[u8]) -> Result<Action, RouteRefused>
 
 /// The roles of a catalogue (listCatalogRoles).
 #[tactic(auto, using(pol_requests::proofs::RefusedLemmas::read_on_refused, pol_requests::proofs::RefusedLemmas::read_on_read), unfolding(crate::specs::Management::list_catalog_roles))]
-fn list_catalog_roles(alloc: Global, path: &[u8]) -> Result<Action, RouteRefused>
+pub(crate) fn list_catalog_roles(alloc: Global, path: &[u8]) -> Result<Action, RouteRefused>
     ensures { Gives (spec.list_catalog_roles path.now) result }
 {
     let catalog = owner(alloc, path)?;
@@ -219,7 +181,11 @@ fn list_catalog_roles(alloc: Global, path: &[u8]) -> Result<Action, RouteRefused
 
 /// A new role of a catalogue (createCatalogRole).
 #[tactic(auto, using(pol_requests::proofs::RefusedLemmas::read_on_refused, pol_requests::proofs::RefusedLemmas::read_on_read), unfolding(crate::specs::Management::create_catalog_role))]
-fn create_catalog_role(alloc: Global, path: &[u8], body: &[u8]) -> Result<Action, RouteRefused>
+pub(crate) fn create_catalog_role(
+    alloc: Global,
+    path: &[u8],
+    body: &[u8],
+) -> Result<Action, RouteRefused>
     ensures { Gives (spec.create_catalog_role path.now body.now) result }
 {
     let catalog = owner(alloc, path)?;
@@ -232,7 +198,7 @@ fn create_catalog_role(alloc: Global, path: &[u8], body: &[u8]) -> Result<Action
 
 /// A role of a catalogue that is shown (getCatalogRole).
 #[tactic(auto, using(pol_requests::proofs::RefusedLemmas::read_on_refused, pol_requests::proofs::RefusedLemmas::read_on_read), unfolding(crate::specs::Management::get_catalog_role))]
-fn get_catalog_role(alloc: Global, path: &[u8]) -> Result<Action, RouteRefused>
+pub(crate) fn get_catalog_role(alloc: Global, path: &[u8]) -> Result<Action, RouteRefused>
     ensures { Gives (spec.get_catalog_role path.now) result }
 {
     let (catalog, name) = owner_and_part(alloc, path)?;
@@ -241,7 +207,7 @@ fn get_catalog_role(alloc: Global, path: &[u8]) -> Result<Action, RouteRefused>
 
 /// The end of a role of a catalogue (deleteCatalogRole).
 #[tactic(auto, using(pol_requests::proofs::RefusedLemmas::read_on_refused, pol_requests::proofs::RefusedLemmas::read_on_read), unfolding(crate::specs::Management::drop_catalog_role))]
-fn drop_catalog_role(alloc: Global, path: &[u8]) -> Result<Action, RouteRefused>
+pub(crate) fn drop_catalog_role(alloc: Global, path: &[u8]) -> Result<Action, RouteRefused>
     ensures { Gives (spec.drop_catalog_role path.now) result }
 {
     let (catalog, name) = owner_and_part(alloc, path)?;
@@ -250,7 +216,7 @@ fn drop_catalog_role(alloc: Global, path: &[u8]) -> Result<Action, RouteRefused>
 
 /// The grants of a role of a catalogue (listGrantsForCatalogRole).
 #[tactic(auto, using(pol_requests::proofs::RefusedLemmas::read_on_refused, pol_requests::proofs::RefusedLemmas::read_on_read), unfolding(crate::specs::Management::list_grants))]
-fn list_grants(alloc: Global, path: &[u8]) -> Result<Action, RouteRefused>
+pub(crate) fn list_grants(alloc: Global, path: &[u8]) -> Result<Action, RouteRefused>
     ensures { Gives (spec.list_grants path.now) result }
 {
     let (catalog, role) = owner_and_part(alloc, path)?;
@@ -259,7 +225,7 @@ fn list_grants(alloc: Global, path: &[u8]) -> Result<Action, RouteRefused>
 
 /// A grant that such a role gets (addGrantToCatalogRole).
 #[tactic(auto, using(pol_requests::proofs::RefusedLemmas::read_on_refused, pol_requests::proofs::RefusedLemmas::read_on_read), unfolding(crate::specs::Management::add_grant))]
-fn add_grant(alloc: Global, path: &[u8], body: &[u8]) -> Result<Action, RouteRefused>
+pub(crate) fn add_grant(alloc: Global, path: &[u8], body: &[u8]) -> Result<Action, RouteRefused>
     ensures { Gives (spec.add_grant path.now body.now) result }
 {
     let (catalog, role) = owner_and_part(alloc, path)?;
@@ -273,7 +239,7 @@ fn add_grant(alloc: Global, path: &[u8], body: &[u8]) -> Result<Action, RouteRef
 
 /// A grant that is taken from such a role (revokeGrantFromCatalogRole).
 #[tactic(auto, using(pol_requests::proofs::RefusedLemmas::read_on_refused, pol_requests::proofs::RefusedLemmas::read_on_read), unfolding(crate::specs::Management::revoke))]
-fn revoke(alloc: Global, path: &[u8], body: &[u8]) -> Result<Action, RouteRefused>
+pub(crate) fn revoke(alloc: Global, path: &[u8], body: &[u8]) -> Result<Action, RouteRefused>
     ensures { Gives (spec.revoke path.now body.now) result }
 {
     let (catalog, role) = owner_and_part(alloc, path)?;

@@ -12,7 +12,6 @@ use crate::bearer::caller_of;
 use crate::requests::action_of;
 use crate::routes::Routes;
 use crate::target;
-use crate::token_form::{TokenForm, read_token_form};
 use httparse::spans::Span;
 use pol_commands::{Action, Caller, Command, Words4};
 use pol_http::Head;
@@ -67,6 +66,7 @@ fn endpoint_of(routes: &Routes, method: &[u8], target: &[u8]) -> Result<Endpoint
 }
 
 /// The plan of a request by what it asks for.
+#[tactic(auto, using(pol_requests::proofs::RefusedLemmas::read_on_refused, pol_requests::proofs::RefusedLemmas::read_on_read), unfolding(crate::specs::Plan::endpoint_plan))]
 fn endpoint_plan(
     alloc: Global,
     endpoint: Endpoint,
@@ -77,73 +77,66 @@ fn endpoint_plan(
 ) -> Result<Planned, RouteRefused>
     ensures { Gives (spec.endpoint_plan charge caller target.now body.now endpoint) result }
 {
-    match endpoint {
-        Endpoint::OpenSession => token_plan(alloc, charge, body),
-        _ => action_plan(alloc, endpoint, charge, caller, target, body),
-    }
-}
-
-/// The plan of a request for an action other than opening a session.
-#[tactic(auto, using(pol_requests::proofs::RefusedLemmas::read_on_refused, pol_requests::proofs::RefusedLemmas::read_on_read), unfolding(crate::specs::Plan::action_plan))]
-fn action_plan(
-    alloc: Global,
-    endpoint: Endpoint,
-    charge: u64,
-    caller: Caller,
-    target: &[u8],
-    body: &[u8],
-) -> Result<Planned, RouteRefused>
-    ensures { Gives (spec.action_plan charge caller target.now body.now endpoint) result }
-{
     let action = action_of(alloc, endpoint, target, body)?;
+    let words = words_of(&action);
     Ok(Planned {
-        caller,
+        caller: caller_for(endpoint, caller),
         action,
-        words: words_of(endpoint),
+        words,
         charge,
     })
 }
 
-/// How many random words a request needs: a new principal's client id is made of one and its secret of two, as is
-/// another secret.
-fn words_of(endpoint: Endpoint) -> u8
-    ensures { result ≡ spec.words_of endpoint }
+/// Whose a request is. A token request is nobody's.
+fn caller_for(endpoint: Endpoint, caller: Caller) -> Caller
+    ensures { result ≡ spec.caller_for endpoint caller }
 {
     match endpoint {
-        Endpoint::CreatePrincipal => 3,
-        Endpoint::Rotate => 2,
-        _ => 0,
+        Endpoint::OpenSession => Caller::Nobody,
+        _ => caller,
     }
 }
 
-/// The plan of a token request (RFC 6749, section 4.4.2).
-#[tactic(auto, unfolding(crate::specs::Plan::token_plan))]
-fn token_plan(alloc: Global, charge: u64, body: &[u8]) -> Result<Planned, RouteRefused>
-    ensures { Gives (spec.token_plan charge body.now) result }
+/// How many random words an action needs: a session's token is made of two, a new principal's client id of one and its
+/// secret of two, as is another secret.
+fn words_of(action: &Action) -> u8
+    ensures { result ≡ spec.words_of action.now }
 {
-    match read_token_form(alloc, body)? {
-        Some(form) => session_plan(charge, form),
-        None => Err(RouteRefused::InvalidRequest),
+    match action {
+        Action::CreatePrincipal { .. } => 3,
+        Action::OpenSession { .. } | Action::Rotate { .. } => 2,
+        Action::GetConfig { .. }
+        | Action::ListCatalogs
+        | Action::CreateCatalog { .. }
+        | Action::GetCatalog { .. }
+        | Action::DropCatalog { .. }
+        | Action::ListNamespaces { .. }
+        | Action::CreateNamespace { .. }
+        | Action::LoadNamespace { .. }
+        | Action::HeadNamespace { .. }
+        | Action::DropNamespace { .. }
+        | Action::UpdateProperties { .. }
+        | Action::ListPrincipals
+        | Action::GetPrincipal { .. }
+        | Action::DropPrincipal { .. }
+        | Action::ListMembers { .. }
+        | Action::AddMember { .. }
+        | Action::EndMember { .. }
+        | Action::ListPrincipalRoles
+        | Action::CreatePrincipalRole { .. }
+        | Action::GetPrincipalRole { .. }
+        | Action::DropPrincipalRole { .. }
+        | Action::ListJoins { .. }
+        | Action::AddJoin { .. }
+        | Action::EndJoin { .. }
+        | Action::ListCatalogRoles { .. }
+        | Action::CreateCatalogRole { .. }
+        | Action::GetCatalogRole { .. }
+        | Action::DropCatalogRole { .. }
+        | Action::ListGrants { .. }
+        | Action::AddGrant { .. }
+        | Action::Revoke { .. } => 0,
     }
-}
-
-/// The session that a token request asks for.
-fn session_plan(charge: u64, form: TokenForm) -> Result<Planned, RouteRefused>
-    ensures { result ≡ spec.session_plan charge form }
-{
-    if form.grant_type.as_str() != "client_credentials" {
-        return Err(RouteRefused::GrantType);
-    }
-    Ok(Planned {
-        caller: Caller::Nobody,
-        action: Action::OpenSession {
-            client_id: form.client_id,
-            secret: form.client_secret,
-            scopes: form.scopes,
-        },
-        words: 2,
-        charge,
-    })
 }
 
 /// The command of a plan at a moment, in milliseconds since the Unix epoch, with the words that were drawn for it.

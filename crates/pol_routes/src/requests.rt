@@ -3,10 +3,16 @@ ghost use Rattle.std.specs.Prelude.{◌≡◌};
 ghost use Rattle.pol_requests.specs.Refused.{Gives};
 ghost use Rattle.pol_routes.specs.Requests as spec;
 
-use crate::management::management_of;
+use crate::management::{
+    add_grant, add_join, add_member, create_catalog_role, create_principal, create_principal_role,
+    drop_catalog_role, drop_principal, drop_principal_role, end_join, end_member, get_catalog_role,
+    get_principal, get_principal_role, list_catalog_roles, list_grants, list_joins, list_members,
+    revoke, rotate,
+};
 use crate::query::query_value;
 use crate::segment::{namespace_of, namespace_segment, plain_of, plain_segment, segment_at};
 use crate::target::{path_of, query_of};
+use crate::token_form::{TokenForm, read_token_form};
 use pol_bodies::{CatalogBody, NewCatalog, NewNamespace, PropertyUpdates, body_of};
 use pol_commands::Action;
 use pol_names::{Namespace, Plain};
@@ -34,6 +40,7 @@ pub(crate) fn action_of(
 {
     let path = path_of(target);
     match endpoint {
+        Endpoint::OpenSession => open_session(alloc, body),
         Endpoint::GetConfig => get_config(alloc, query_of(target)),
         Endpoint::ListNamespaces => list_namespaces(alloc, path, query_of(target)),
         Endpoint::CreateNamespace => create_namespace(alloc, path, body),
@@ -45,8 +52,76 @@ pub(crate) fn action_of(
         Endpoint::CreateCatalog => create_catalog(alloc, body),
         Endpoint::GetCatalog => get_catalog(alloc, path),
         Endpoint::DropCatalog => drop_catalog(alloc, path),
-        _ => management_of(alloc, endpoint, path, body),
+        Endpoint::ListPrincipals => Ok(Action::ListPrincipals),
+        Endpoint::CreatePrincipal => create_principal(alloc, body),
+        Endpoint::GetPrincipal => get_principal(alloc, path),
+        Endpoint::DropPrincipal => drop_principal(alloc, path),
+        Endpoint::Rotate => rotate(alloc, path),
+        Endpoint::ListMembers => list_members(alloc, path),
+        Endpoint::AddMember => add_member(alloc, path, body),
+        Endpoint::EndMember => end_member(alloc, path),
+        Endpoint::ListPrincipalRoles => Ok(Action::ListPrincipalRoles),
+        Endpoint::CreatePrincipalRole => create_principal_role(alloc, body),
+        Endpoint::GetPrincipalRole => get_principal_role(alloc, path),
+        Endpoint::DropPrincipalRole => drop_principal_role(alloc, path),
+        Endpoint::ListJoins => list_joins(alloc, path),
+        Endpoint::AddJoin => add_join(alloc, path, body),
+        Endpoint::EndJoin => end_join(alloc, path),
+        Endpoint::ListCatalogRoles => list_catalog_roles(alloc, path),
+        Endpoint::CreateCatalogRole => create_catalog_role(alloc, path, body),
+        Endpoint::GetCatalogRole => get_catalog_role(alloc, path),
+        Endpoint::DropCatalogRole => drop_catalog_role(alloc, path),
+        Endpoint::ListGrants => list_grants(alloc, path),
+        Endpoint::AddGrant => add_grant(alloc, path, body),
+        Endpoint::Revoke => revoke(alloc, path, body),
+        Endpoint::ListTables
+        | Endpoint::CreateTable
+        | Endpoint::LoadTable
+        | Endpoint::HeadTable
+        | Endpoint::CommitTable
+        | Endpoint::DropTable
+        | Endpoint::LoadCredentials
+        | Endpoint::ReportMetrics
+        | Endpoint::RenameTable
+        | Endpoint::CommitTransaction
+        | Endpoint::ListViews
+        | Endpoint::CreateView
+        | Endpoint::LoadView
+        | Endpoint::HeadView
+        | Endpoint::ReplaceView
+        | Endpoint::DropView
+        | Endpoint::RenameView
+        | Endpoint::GetObject
+        | Endpoint::HeadObject
+        | Endpoint::PutObject
+        | Endpoint::DeleteObject
+        | Endpoint::ListObjects => Err(RouteRefused::NotBuilt),
     }
+}
+
+/// A session (RFC 6749, section 4.4.2).
+#[tactic(auto, unfolding(crate::specs::Requests::open_session))]
+fn open_session(alloc: Global, body: &[u8]) -> Result<Action, RouteRefused>
+    ensures { Gives (spec.open_session body.now) result }
+{
+    match read_token_form(alloc, body)? {
+        Some(form) => session_of(form),
+        None => Err(RouteRefused::InvalidRequest),
+    }
+}
+
+/// The session that a token request asks for, whose fields stand as they must.
+fn session_of(form: TokenForm) -> Result<Action, RouteRefused>
+    ensures { result ≡ spec.session_of form }
+{
+    if form.grant_type.as_str() != "client_credentials" {
+        return Err(RouteRefused::GrantType);
+    }
+    Ok(Action::OpenSession {
+        client_id: form.client_id,
+        secret: form.client_secret,
+        scopes: form.scopes,
+    })
 }
 
 /// How to speak to the catalogue of a warehouse (Iceberg REST OpenAPI, getConfig).
