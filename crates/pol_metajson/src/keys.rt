@@ -1,73 +1,97 @@
 //! The keys of objects and the words of texts, as the Iceberg table spec has them.
 
-pub(crate) const DIRECTION: &str = "direction";
+pub const DIRECTION: &str = "direction";
 
-pub(crate) const DOC: &str = "doc";
+pub const DOC: &str = "doc";
 
-pub(crate) const ELEMENT: &str = "element";
+pub const ELEMENT: &str = "element";
 
-pub(crate) const ELEMENT_ID: &str = "element-id";
+pub const ELEMENT_ID: &str = "element-id";
 
-pub(crate) const ELEMENT_REQUIRED: &str = "element-required";
+pub const ELEMENT_REQUIRED: &str = "element-required";
 
-pub(crate) const FIELDS: &str = "fields";
+pub const FIELDS: &str = "fields";
 
-pub(crate) const FIELD_ID: &str = "field-id";
+pub const FIELD_ID: &str = "field-id";
 
-pub(crate) const ID: &str = "id";
+pub const ID: &str = "id";
 
-pub(crate) const IDENTIFIER_FIELD_IDS: &str = "identifier-field-ids";
+pub const IDENTIFIER_FIELD_IDS: &str = "identifier-field-ids";
 
-pub(crate) const KEY: &str = "key";
+pub const KEY: &str = "key";
 
-pub(crate) const KEY_ID: &str = "key-id";
+pub const KEY_ID: &str = "key-id";
 
-pub(crate) const LOCATION: &str = "location";
+pub const LOCATION: &str = "location";
 
-pub(crate) const NAME: &str = "name";
+pub const MANIFEST_LIST: &str = "manifest-list";
 
-pub(crate) const NULL_ORDER: &str = "null-order";
+pub const MAX_REF_AGE_MS: &str = "max-ref-age-ms";
 
-pub(crate) const ORDER_ID: &str = "order-id";
+pub const MAX_SNAPSHOT_AGE_MS: &str = "max-snapshot-age-ms";
 
-pub(crate) const PARTITION_SPEC: &str = "partition-spec";
+pub const METADATA_FILE: &str = "metadata-file";
 
-pub(crate) const PROPERTIES: &str = "properties";
+pub const MIN_SNAPSHOTS_TO_KEEP: &str = "min-snapshots-to-keep";
 
-pub(crate) const REQUIRED: &str = "required";
+pub const NAME: &str = "name";
 
-pub(crate) const SCHEMA: &str = "schema";
+pub const NULL_ORDER: &str = "null-order";
 
-pub(crate) const SCHEMA_ID: &str = "schema-id";
+pub const ORDER_ID: &str = "order-id";
 
-pub(crate) const SOURCE_ID: &str = "source-id";
+pub const PARENT_SNAPSHOT_ID: &str = "parent-snapshot-id";
 
-pub(crate) const SPEC_ID: &str = "spec-id";
+pub const PARTITION_SPEC: &str = "partition-spec";
 
-pub(crate) const STAGE_CREATE: &str = "stage-create";
+pub const PROPERTIES: &str = "properties";
 
-pub(crate) const TRANSFORM: &str = "transform";
+pub const REQUIRED: &str = "required";
 
-pub(crate) const TYPE: &str = "type";
+pub const SCHEMA: &str = "schema";
 
-pub(crate) const VALUE: &str = "value";
+pub const SCHEMA_ID: &str = "schema-id";
 
-pub(crate) const VALUE_ID: &str = "value-id";
+pub const SEQUENCE_NUMBER: &str = "sequence-number";
 
-pub(crate) const VALUE_REQUIRED: &str = "value-required";
+pub const SNAPSHOT_ID: &str = "snapshot-id";
 
-pub(crate) const WRITE_ORDER: &str = "write-order";
+pub const SOURCE_ID: &str = "source-id";
 
-pub(crate) const ASC: &str = "asc";
+pub const SPEC_ID: &str = "spec-id";
 
-pub(crate) const DESC: &str = "desc";
+pub const STAGE_CREATE: &str = "stage-create";
 
-pub(crate) const LIST: &str = "list";
+pub const SUMMARY: &str = "summary";
 
-pub(crate) const MAP: &str = "map";
+pub const TIMESTAMP_MS: &str = "timestamp-ms";
 
-pub(crate) const NULLS_FIRST: &str = "nulls-first";
+pub const TRANSFORM: &str = "transform";
 
-pub(crate) const NULLS_LAST: &str = "nulls-last";
+pub const TYPE: &str = "type";
 
-pub(crate) const STRUCT: &str = "struct";
+pub const VALUE: &str = "value";
+
+pub const VALUE_ID: &str = "value-id";
+
+pub const VALUE_REQUIRED: &str = "value-required";
+
+pub const WRITE_ORDER: &str = "write-order";
+
+pub const ASC: &str = "asc";
+
+pub const BRANCH: &str = "branch";
+
+pub const DESC: &str = "desc";
+
+pub const LIST: &str = "list";
+
+pub const MAP: &str = "map";
+
+pub const NULLS_FIRST: &str = "nulls-first";
+
+pub const NULLS_LAST: &str = "nulls-last";
+
+pub const STRUCT: &str = "struct";
+
+pub const TAG: &str = "tag";
