@@ -1,2 +1,4 @@
+pub mod Columns
 pub mod Json
 pub mod Texts
+pub mod Trees

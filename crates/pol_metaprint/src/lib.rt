@@ -1,6 +1,7 @@
 //! The JSON that a table's metadata is printed as, as the Iceberg table spec has it.
 #![tactic(auto)]
 
+mod columns;
 mod members;
 mod parts;
 mod printed;

@@ -1,8 +1,8 @@
 //! The words of a metadata.
-ghost use Rattle.std.specs.Prelude.{◌≡◌, IfOk};
+ghost use Rattle.std.specs.Prelude.{◌≡◌, ◌++◌, IfOk, codes, decimal};
 ghost use Rattle.pol_metaprint.specs.Texts as spec;
 
-use pol_meta::{Direction, NullOrder, RefKind, Transform};
+use pol_meta::{Direction, Kind, NullOrder, RefKind, Transform};
 use pol_metajson::keys;
 use pol_types::{OutOfMemory, Text};
 use std::alloc::Global;
@@ -59,4 +59,35 @@ pub(crate) fn ref_kind_text(kind: RefKind) -> &'static str
         RefKind::Branch => keys::BRANCH,
         RefKind::Tag => keys::TAG,
     }
+}
+
+/// The word of a type; one with columns has the word that says which it is.
+pub(crate) fn kind_text(alloc: Global, kind: Kind) -> Result<Text, OutOfMemory>
+    ensures { IfOk result (λ text. text ≡ spec.kind_text kind) }
+{
+    match kind {
+        Kind::Boolean => plain(alloc, "boolean"),
+        Kind::Int => plain(alloc, "int"),
+        Kind::Long => plain(alloc, "long"),
+        Kind::Float => plain(alloc, "float"),
+        Kind::Double => plain(alloc, "double"),
+        Kind::Date => plain(alloc, "date"),
+        Kind::Time => plain(alloc, "time"),
+        Kind::Timestamp => plain(alloc, "timestamp"),
+        Kind::Timestamptz => plain(alloc, "timestamptz"),
+        Kind::String => plain(alloc, "string"),
+        Kind::Uuid => plain(alloc, "uuid"),
+        Kind::Binary => plain(alloc, "binary"),
+        Kind::Decimal { precision, scale } => decimal(alloc, precision, scale),
+        Kind::Fixed { length } => sized(alloc, "fixed", length),
+        Kind::Struct => plain(alloc, keys::STRUCT),
+        Kind::List => plain(alloc, keys::LIST),
+        Kind::Map => plain(alloc, keys::MAP),
+    }
+}
+
+fn decimal(alloc: Global, precision: u32, scale: u32) -> Result<Text, OutOfMemory>
+    ensures { IfOk result (λ text. text ≡ codes "decimal(" ++ (decimal precision ++ (codes ", " ++ (decimal scale ++ codes ")")))) }
+{
+    Ok(Text::from(format!(in alloc; "decimal({precision}, {scale})")?))
 }
