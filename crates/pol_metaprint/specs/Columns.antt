@@ -41,18 +41,24 @@ is_required (Element required) = required
 is_required Key = true
 is_required (Value required) = required
 
--- a list has one column in it, and a map two
-unfoldable pub list_of : List Tree → Data
-list_of (element ∷ []) =
+abbrev pub element_json : Tree → Data
+element_json element =
     object (put TYPE.now (string LIST.now) (put ELEMENT_REQUIRED.now (boolean (is_required element.column.part))
     (put ELEMENT_ID.now (number_json element.column.id) (put ELEMENT.now element.json no_members))))
-list_of trees = null
 
-unfoldable pub map_of : List Tree → Data
-map_of (key ∷ value ∷ []) =
+abbrev pub pair_json : Tree → Tree → Data
+pair_json key value =
     object (put TYPE.now (string MAP.now) (put VALUE_REQUIRED.now (boolean (is_required value.column.part))
     (put VALUE_ID.now (number_json value.column.id) (put VALUE.now value.json
     (put KEY_ID.now (number_json key.column.id) (put KEY.now key.json no_members))))))
+
+-- a list has one column in it, and a map two
+unfoldable pub list_of : List Tree → Data
+list_of (element ∷ []) = element_json element
+list_of trees = null
+
+unfoldable pub map_of : List Tree → Data
+map_of (key ∷ value ∷ []) = pair_json key value
 map_of trees = null
 
 abbrev pub kind_json : Kind → List Tree → Data

@@ -3,8 +3,10 @@
 
 mod columns;
 mod members;
+mod metadata;
 mod parts;
 mod printed;
 mod texts;
 
+pub use metadata::table_value;
 pub use printed::Printed;
