@@ -10,3 +10,6 @@ mod texts;
 
 pub use metadata::table_value;
 pub use printed::Printed;
+
+#[cfg(test)]
+mod tests;
