@@ -1,2 +1,3 @@
 mod bodies;
 mod metadata;
+mod printed;

@@ -21,3 +21,5 @@ kind_nested zero depth seen d some other = absurd (omega arith)
 kind_nested (suc left) depth seen d some other =
     let same : suc left - 1 ≡ left = omega arith in
     rw (other, same) refl
+
+pub ruleset kinds = (kind_none, kind_text, kind_nested)

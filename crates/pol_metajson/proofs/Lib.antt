@@ -1,2 +1,6 @@
+pub mod ColumnsLemmas
+pub mod FormLemmas
 pub mod KindLemmas
 pub mod NumeralLemmas
+pub mod RequestLemmas
+pub mod WordLemmas

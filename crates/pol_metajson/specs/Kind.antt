@@ -8,16 +8,22 @@ use Rattle.pol_metajson.specs.Brackets.{behind, between, sized}
 use Rattle.pol_metajson.specs.Numeral.{numeral}
 
 -- times, texts, uuids and bytes
+abbrev pub timed_kinds : List (List ℕ × Kind)
+timed_kinds =
+    (codes "time", kind.Time) ∷ (codes "timestamp", kind.Timestamp) ∷ (codes "timestamptz", kind.Timestamptz)
+    ∷ (codes "string", kind.String) ∷ (codes "uuid", kind.Uuid) ∷ (codes "binary", kind.Binary) ∷ []
+
 abbrev pub timed_kind : List ℕ → Option Kind
-timed_kind word =
-    meaning ((codes "time", kind.Time) ∷ (codes "timestamp", kind.Timestamp) ∷ (codes "timestamptz", kind.Timestamptz)
-    ∷ (codes "string", kind.String) ∷ (codes "uuid", kind.Uuid) ∷ (codes "binary", kind.Binary) ∷ []) word
+timed_kind word = meaning timed_kinds word
 
 -- truth values, numbers and dates
+abbrev pub plain_kinds : List (List ℕ × Kind)
+plain_kinds =
+    (codes "boolean", kind.Boolean) ∷ (codes "int", kind.Int) ∷ (codes "long", kind.Long)
+    ∷ (codes "float", kind.Float) ∷ (codes "double", kind.Double) ∷ (codes "date", kind.Date) ∷ []
+
 abbrev pub plain_kind : List ℕ → Option Kind
-plain_kind word =
-    meaning ((codes "boolean", kind.Boolean) ∷ (codes "int", kind.Int) ∷ (codes "long", kind.Long)
-    ∷ (codes "float", kind.Float) ∷ (codes "double", kind.Double) ∷ (codes "date", kind.Date) ∷ []) word
+plain_kind word = meaning plain_kinds word
 
 -- bytes without one space at their head
 abbrev pub without_space : List ℕ → List ℕ

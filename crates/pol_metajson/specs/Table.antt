@@ -3,6 +3,8 @@ use Rattle.std.specs.Prelude.{ℕ, false, List, [], map, is_none, unwrap_or, Opt
 use Rattle.pol_names.specs.Name.{name_refusal}
 use Rattle.pol_properties.specs.Properties.{of_pairs}
 use Rattle.pol_properties.specs.declared.property.Property.{Property}
+use Rattle.pol_meta.specs.Creation.{IsAskedFor}
+use Rattle.pol_meta.specs.Valid.{IsLong}
 use Rattle.pol_meta.specs.declared.partition.UnboundSpec.{UnboundSpec}
 use Rattle.pol_meta.specs.declared.sort.UnboundOrder.{UnboundOrder}
 use Rattle.pol_metajson.specs.Order.{unbound_order}
@@ -59,3 +61,8 @@ table_request = do
     stage_create = unwrap_or staged false;
     properties = unwrap_or described [];
   })
+
+-- a request with the forms that the metadata of a new table asks for, at any moment
+abbrev pub IsFormed : TableRequest → Type 0
+IsFormed request =
+    (moment : ℕ) → IsLong moment → IsAskedFor request.schema request.partition_spec request.write_order moment

@@ -8,10 +8,13 @@ use Rattle.pol_metajson.specs.Brackets.{sized}
 use Rattle.pol_metajson.specs.Shape.{Shape, text_of}
 
 -- those without a number
+abbrev pub plain_transforms : List (List ℕ × Transform)
+plain_transforms =
+    (codes "identity", Identity) ∷ (codes "void", Void) ∷ (codes "year", Year) ∷ (codes "month", Month)
+    ∷ (codes "day", Day) ∷ (codes "hour", Hour) ∷ []
+
 abbrev pub plain_transform : List ℕ → Option Transform
-plain_transform word =
-    meaning ((codes "identity", Identity) ∷ (codes "void", Void) ∷ (codes "year", Year) ∷ (codes "month", Month)
-    ∷ (codes "day", Day) ∷ (codes "hour", Hour) ∷ []) word
+plain_transform word = meaning plain_transforms word
 
 -- those with a number
 abbrev pub sized_transform : List ℕ → Option Transform

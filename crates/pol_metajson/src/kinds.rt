@@ -20,7 +20,7 @@ use std::alloc::Global;
 /// The type that a value is: `left` bounds how many types stand in one another in it, and its columns stand in `depth`
 /// others. Ids that were seen are refused, and the ids of its columns are seen from then on.
 #[cycle(kinds)]
-#[tactic(auto, using(crate::proofs::KindLemmas::kind_none, crate::proofs::KindLemmas::kind_text, crate::proofs::KindLemmas::kind_nested))]
+#[tactic(auto, using(crate::proofs::KindLemmas::kinds))]
 pub(crate) fn read_kind(
     alloc: Global,
     value: &Value,

@@ -7,7 +7,7 @@ mod brackets;
 mod columns;
 mod failed;
 mod ids;
-mod keys;
+pub mod keys;
 mod kind;
 mod kinds;
 pub mod laws;

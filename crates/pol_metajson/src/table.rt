@@ -28,8 +28,10 @@ pub struct TableRequest {
 
 /// Reads a body that creates a table (Iceberg REST OpenAPI, CreateTableRequest). Its fields are tested in the order
 /// name, location, schema, partition-spec, write-order, stage-create, properties.
+#[tactic(auto, using(crate::proofs::RequestLemmas::body_formed))]
 pub fn read_create_table(alloc: Global, body: &[u8]) -> Result<Body<TableRequest>, ReadError>
-    ensures { Gives result (form.body spec.table_request.read body.now) }
+    ensures reading { Gives result (form.body spec.table_request.read body.now) }
+    ensures formed { IfOk result spec.IsFormed }
 {
     read_body(alloc, body)
 }

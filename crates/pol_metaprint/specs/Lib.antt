@@ -1,0 +1,5 @@
+pub mod Columns
+pub mod Json
+pub mod Metadata
+pub mod Texts
+pub mod Trees
