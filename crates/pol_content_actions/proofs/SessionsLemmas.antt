@@ -1,11 +1,13 @@
 -- Opening a session: what refuses it, what it changes, and where the changes lead.
-use Rattle.std.proofs.Common.{◌≡◌, ℕ, ◌+◌, List, [], ◌∷◌, Option, None, Some, refl, sym, ap, subst, ◌∙◌}
+use Rattle.std.proofs.Common.{◌≡◌, ℕ, ◌+◌, List, [], ◌∷◌, Option, None, Some, Result, Ok, Err, refl, sym, ap, subst, ◌∙◌}
+use Rattle.std.specs.Result.{IsErrAnd}
 use Rattle.pol_access.specs.declared.rows.PrincipalRow.{PrincipalRow}
 use Rattle.pol_tables.specs.Rising.{KeysBelow}
 use Rattle.pol_content.specs.declared.change.Change.TheVariants.{Time, NextSerial, PutSession}
 use Rattle.pol_tokens.specs.Tokens.{serial_of}
 use Rattle.pol_names.specs.declared.scope.Scope.{Scope}
 use Rattle.pol_commands.specs.declared.command.Command.{Command}
+use Rattle.pol_commands.specs.declared.reply.Answer.{Answer}
 use Rattle.pol_commands.specs.declared.reply.Refusal.{Refusal}
 use Rattle.pol_state.specs.Applied.{applied}
 use Rattle.pol_state.specs.Changes.{changes_between}
@@ -13,10 +15,20 @@ use Rattle.pol_state.specs.Rows.{Rows}
 use Rattle.pol_state.specs.Sound.{IsSound}
 use Rattle.pol_state.proofs.ChangesLemmas.{changes-timed, serials-below}
 use Rattle.pol_rules.specs.Acting.{rows_by, stamped}
+use Rattle.pol_rules.specs.Judged.{Acts}
+use Rattle.pol_rules.specs.declared.rules.Acted.{Acted}
+use Rattle.pol_rules.specs.declared.rules.Stop.{Stop}
+use Rattle.pol_rules.specs.declared.rules.Stop.TheVariants.{Refused}
 use Rattle.pol_rules.specs.Rules.{client_of, first_refusal, given, invalid_client, invalid_scope, over_limit, with_serial, time_of}
 use Rattle.pol_rules.proofs.RulesLemmas.{refusal-past, refusal-stops}
 use Rattle.pol_content_actions.specs.Sessions.{open_session, opened, scope_of, session_opened, with_session}
 use Rattle.pol_content_actions.proofs.ChangesLemmas.{applied-opened, changes-opened}
+
+-- an action that is stopped by the first rule to fail answers so
+pub acts-refused : (s : Rows) (command : Command) (rules : List (Option Refusal)) (after : Rows) (answer : Answer) (why : Refusal) (result : Result Acted Stop) → IsErrAnd result (λ told. told ≡ Refused why) → first_refusal rules ≡ Some why → Acts s command rules after answer result
+acts-refused s command rules after answer why (Ok acted) told first = absurd told
+acts-refused s command rules after answer why (Err one) told first =
+    subst (λ stopped. Acts s command rules after answer (Err stopped)) (sym told) first
 
 module _ (s : Rows) (command : Command) (scopes : List (List ℕ)) where
   opened-serial : (principal : PrincipalRow) → (opened s command scopes principal).serial ≡ s.next_serial

@@ -2,7 +2,7 @@
 ghost use Rattle.std.specs.Prelude.{◌≡◌, ◌+◌, ◌<◌, ◌^◌, Some};
 ghost use Rattle.std.specs.Bool.{⊤};
 ghost use Rattle.pol_content_actions.specs.Catalogs.{with_catalog};
-ghost use Rattle.pol_rules.specs.Judged.{Judges};
+ghost use Rattle.pol_rules.specs.Judged.{Sees};
 ghost use Rattle.pol_rules.specs.Rules.{over_limit};
 ghost use Rattle.pol_state.specs.Sound.{IsSound};
 ghost use Rattle.pol_content.specs.Content.{namespace_id};
@@ -10,11 +10,11 @@ ghost use Rattle.pol_tables.specs.Table.{row_of};
 ghost use Rattle.pol_content_actions.specs.Namespaces.{with_altered, with_namespace};
 
 use pol_access::PrincipalRoleRow;
-use pol_commands::Quantity;
+use pol_commands::{Quantity, Refusal};
 use pol_content::{CatalogRow, NamespaceRow};
 use pol_names::Namespace;
 use pol_properties::Properties;
-use pol_rules::rules::{CATALOG_ROLES, COUNTER_BOUND, GRANTS, JOINS, Stop, within};
+use pol_rules::rules::{CATALOG_ROLES, COUNTER_BOUND, GRANTS, JOINS, within};
 use pol_state::State;
 
 /// How many catalogues there are at most.
@@ -35,10 +35,10 @@ pub(crate) fn catalog_within(
     state: &State,
     row: &CatalogRow,
     service: &PrincipalRoleRow,
-) -> Result<(), Stop>
+) -> Result<(), Refusal>
     requires sound { IsSound state.now.rows }
     requires id { row.now.id ≡ state.now.rows.next_id }
-    ensures { Judges (over_limit (with_catalog state.now.rows row.now service.now)) (λ _. state.now.rows.next_id + 1 < 2 ^ 62) result }
+    ensures { Sees (over_limit (with_catalog state.now.rows row.now service.now)) (λ _. state.now.rows.next_id + 1 < 2 ^ 62) result }
 {
     let access = state.access();
     within(
@@ -73,9 +73,9 @@ pub(crate) fn namespace_within(
     catalog: &CatalogRow,
     levels: &Namespace,
     properties: &Properties,
-) -> Result<(), Stop>
+) -> Result<(), Refusal>
     requires { IsSound state.now.rows }
-    ensures { Judges (over_limit (with_namespace state.now.rows levels.now properties.now catalog.now)) (λ _. state.now.rows.next_id < 2 ^ 62) result }
+    ensures { Sees (over_limit (with_namespace state.now.rows levels.now properties.now catalog.now)) (λ _. state.now.rows.next_id < 2 ^ 62) result }
 {
     within(
         Quantity::Namespaces,
@@ -92,10 +92,10 @@ pub(crate) fn altered_within(
     state: &State,
     row: &NamespaceRow,
     altered: &NamespaceRow,
-) -> Result<(), Stop>
+) -> Result<(), Refusal>
     requires sound { IsSound state.now.rows }
     requires there { row_of namespace_id altered.now.id state.now.rows.content.namespaces ≡ Some row.now }
-    ensures { Judges (over_limit (with_altered state.now.rows altered.now)) (λ _. ⊤) result }
+    ensures { Sees (over_limit (with_altered state.now.rows altered.now)) (λ _. ⊤) result }
 {
     within(
         Quantity::Properties,

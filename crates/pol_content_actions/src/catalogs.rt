@@ -145,6 +145,7 @@ fn created(
 }
 
 /// The role `catalog_admin` of a catalogue, named by its id. Its own id is the one after the catalogue's.
+#[tactic(auto, unfolding(pol_names::specs::Plain::plain_refusal))]
 fn catalog_admin(alloc: Global, catalog: u64) -> Result<CatalogRoleRow, OutOfMemory>
     requires { catalog + 1 < 2 ^ 62 }
     ensures { IfOk result (λ row. row ≡ admin_of catalog) }

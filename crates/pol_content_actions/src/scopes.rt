@@ -1,7 +1,8 @@
 ghost use Rattle.std.specs.Prelude.{◌≡◌, ◌≢◌, ◌++◌, ℕ, List, codes, IfOk, MatchOption, length, map, ◌==◌, ◌||◌, option_copied};
+ghost use Rattle.std.specs.Bool.{⊤};
 ghost use Rattle.std.specs.List.{filter_map, list_all, list_any, IsDistinct};
 ghost use Rattle.std.specs.Str.{bytes_eq};
-ghost use Rattle.pol_rules.specs.Judged.{Judges};
+ghost use Rattle.pol_rules.specs.Judged.{Sees};
 ghost use Rattle.pol_rules.specs.Rules.{all_roles, role_scope, role_of_scope, held_role, is_scope, invalid_scope};
 ghost use Rattle.pol_access.specs.Access.{principal_role_name};
 ghost use Rattle.pol_content_actions.specs.Sessions.{scope_of};
@@ -9,7 +10,6 @@ ghost use Rattle.pol_state.specs.Sound.{IsSound};
 
 use pol_access::{Access, PrincipalRoleRow, RoleIds, Scope};
 use pol_commands::Refusal;
-use pol_rules::rules::Stop;
 use pol_state::State;
 use pol_types::{Listed, OutOfMemory, Text};
 use std::alloc::Global;
@@ -20,20 +20,19 @@ const ALL_ROLES: &str = "PRINCIPAL_ROLE:ALL";
 /// What the scope of a role has before the role's name.
 const ROLE_PREFIX: &str = "PRINCIPAL_ROLE:";
 
-/// The scope that these words make, each of which is all roles or a role of the principal.
-pub(crate) fn scope_there(
-    alloc: Global,
+/// Each of these words is all roles or a role of the principal.
+pub(crate) fn scopes_there(
     state: &State,
     principal: u64,
     scopes: &Listed<Text>,
-) -> Result<Scope, Stop>
+) -> Result<(), Refusal>
     requires { IsSound state.now.rows }
-    ensures { Judges (invalid_scope state.now.rows principal scopes.now) (λ scope. scope ≡ scope_of state.now.rows principal scopes.now) result }
+    ensures { Sees (invalid_scope state.now.rows principal scopes.now) (λ _. ⊤) result }
 {
     if !are_scopes(state.access(), principal, scopes) {
-        return Err(Stop::Refused(Refusal::InvalidScope));
+        return Err(Refusal::InvalidScope);
     }
-    Ok(scope(alloc, state, principal, scopes)?)
+    Ok(())
 }
 
 /// Whether each of these words is all roles or a role of the principal.
@@ -54,8 +53,9 @@ fn is_scope(access: &Access, principal: u64, scope: &str) -> bool
     scope == ALL_ROLES || held_role(access, principal, scope).is_some()
 }
 
+/// The scope that these words make, each of which is all roles or a role of the principal.
 #[tactic(auto, unfolding(crate::specs::Sessions::scope_of))]
-fn scope(
+pub(crate) fn scope_of(
     alloc: Global,
     state: &State,
     principal: u64,

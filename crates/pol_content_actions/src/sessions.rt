@@ -3,7 +3,7 @@ ghost use Rattle.pol_rules.specs.Judged.{Acts};
 ghost use Rattle.pol_content_actions.specs.Sessions.{open_session, opened};
 ghost use Rattle.pol_state.specs.Sound.{IsSound};
 
-use crate::scopes::scope_there;
+use crate::scopes::{scope_of, scopes_there};
 use pol_commands::{Answer, Command};
 use pol_content::Change;
 use pol_rules::callers::client_there;
@@ -27,8 +27,9 @@ pub fn open_session(
     ensures { let acting = open_session state.now.rows command.now client_id.now secret.now scopes.now in Acts state.now.rows command.now acting.rules acting.after acting.answer result }
 {
     let principal = client_there(state, client_id.as_str(), secret.as_str())?.id;
-    let scope = scope_there(alloc, state, principal, scopes)?;
+    scopes_there(state, principal, scopes)?;
     let serial = serial_left(state)?;
+    let scope = scope_of(alloc, state, principal, scopes)?;
     let (word_a, word_b) = (command.words.a, command.words.b);
     let time = time_of(state, command);
     let row = SessionRow {

@@ -4,21 +4,21 @@ ghost use Rattle.std.specs.Bool.{⊤};
 ghost use Rattle.pol_grant_actions.specs.CatalogRoles.{with_catalog_role};
 ghost use Rattle.pol_grant_actions.specs.Grants.{with_grant};
 ghost use Rattle.pol_grant_actions.specs.Joins.{with_join};
-ghost use Rattle.pol_rules.specs.Judged.{Judges};
+ghost use Rattle.pol_rules.specs.Judged.{Sees};
 ghost use Rattle.pol_rules.specs.Rules.{over_limit};
 ghost use Rattle.pol_state.specs.Sound.{IsSound};
 
 use pol_access::{CatalogRoleRow, GrantRow, JoinRow};
-use pol_commands::Quantity;
-use pol_rules::rules::{CATALOG_ROLES, COUNTER_BOUND, GRANTS, JOINS, Stop, within};
+use pol_commands::{Quantity, Refusal};
+use pol_rules::rules::{CATALOG_ROLES, COUNTER_BOUND, GRANTS, JOINS, within};
 use pol_state::State;
 
 /// No quantity passes its bound where a role of a catalogue is put, and an id is taken.
 #[tactic(auto, using(crate::proofs::LimitsLemmas::catalog_role_limits))]
-pub(crate) fn catalog_role_within(state: &State, row: &CatalogRoleRow) -> Result<(), Stop>
+pub(crate) fn catalog_role_within(state: &State, row: &CatalogRoleRow) -> Result<(), Refusal>
     requires sound { IsSound state.now.rows }
     requires id { row.now.id ≡ state.now.rows.next_id }
-    ensures { Judges (over_limit (with_catalog_role state.now.rows row.now)) (λ _. state.now.rows.next_id < 2 ^ 62) result }
+    ensures { Sees (over_limit (with_catalog_role state.now.rows row.now)) (λ _. state.now.rows.next_id < 2 ^ 62) result }
 {
     let count = state.access().catalog_roles().len() as u64;
     within(Quantity::CatalogRoles, CATALOG_ROLES, count + 1)?;
@@ -27,9 +27,9 @@ pub(crate) fn catalog_role_within(state: &State, row: &CatalogRoleRow) -> Result
 
 /// No quantity passes its bound where a join is put, which may be there already.
 #[tactic(auto, using(crate::proofs::LimitsLemmas::known_join_limits, crate::proofs::LimitsLemmas::new_join_limits))]
-pub(crate) fn join_within(state: &State, row: &JoinRow) -> Result<(), Stop>
+pub(crate) fn join_within(state: &State, row: &JoinRow) -> Result<(), Refusal>
     requires { IsSound state.now.rows }
-    ensures { Judges (over_limit (with_join state.now.rows row.now)) (λ _. ⊤) result }
+    ensures { Sees (over_limit (with_join state.now.rows row.now)) (λ _. ⊤) result }
 {
     if state
         .access()
@@ -43,9 +43,9 @@ pub(crate) fn join_within(state: &State, row: &JoinRow) -> Result<(), Stop>
 
 /// No quantity passes its bound where a grant is put, which may be there already.
 #[tactic(auto, using(crate::proofs::LimitsLemmas::known_grant_limits, crate::proofs::LimitsLemmas::new_grant_limits))]
-pub(crate) fn grant_within(state: &State, row: &GrantRow) -> Result<(), Stop>
+pub(crate) fn grant_within(state: &State, row: &GrantRow) -> Result<(), Refusal>
     requires { IsSound state.now.rows }
-    ensures { Judges (over_limit (with_grant state.now.rows row.now)) (λ _. ⊤) result }
+    ensures { Sees (over_limit (with_grant state.now.rows row.now)) (λ _. ⊤) result }
 {
     if state.access().has_grant(row) {
         return Ok(());

@@ -1,5 +1,5 @@
 -- The first of the rules that fails.
-use Rattle.std.proofs.Common.{◌≡◌, [], ◌∷◌, Option, None, Some, refl, ◌∙◌, ◌≤◌, ◌+◌, ◌^◌, ℕ, List, Result, Ok, Err, sym, ap, true, false, codes, is_some, true≢false}
+use Rattle.std.proofs.Common.{◌≡◌, [], ◌∷◌, Option, None, Some, refl, ◌∙◌, ◌≤◌, ◌+◌, ◌^◌, ℕ, List, sym, ap, true, false, codes, is_some, true≢false}
 use Rattle.std.specs.List.{AllByRecursion}
 use Rattle.pol_access.specs.declared.rows.PrincipalRow.{PrincipalRow}
 use Rattle.pol_access.specs.Names.{principal_named, principal_role_named}
@@ -22,17 +22,13 @@ use Rattle.pol_state.proofs.ChangesLemmas.{changes-timed}
 use Rattle.pol_rules.specs.AccessRules.{catalog_role_at, grant_of, join_of, member_of}
 use Rattle.pol_rules.specs.Acting.{done, rows_by, stamped}
 use Rattle.pol_rules.specs.Needs.{service}
-use Rattle.pol_rules.specs.Judged.{Acts}
 use Rattle.pol_rules.specs.Rules.{above, client_of, first_refusal, given, key_twice, namespace_holds, over_limit, run_full, with_serial, time_of}
-use Rattle.pol_rules.specs.declared.rules.Acted.{Acted}
-use Rattle.pol_rules.specs.declared.rules.Stop.{Stop}
-use Rattle.pol_rules.specs.declared.rules.Stop.TheVariants as stop
 use Rattle.pol_rules.proofs.FoundLemmas.{at-own, principal-own, role-at, role-own}
 use Rattle.pol_rules.proofs.LeadsLemmas.{leads-done, leads-first, leads-reading}
 use Rattle.pol_rules.proofs.AccessRulesLemmas.{catalog_role-other, client_id-other, no_catalog_role-other, no_grant-other, no_join-other, no_member-other, no_principal-other, no_role-other, principal-other, reserved-other, reserved_grant-other, reserved_join-other, reserved_member-other, role-other, securable-other}
 use Rattle.pol_rules.proofs.SoundLemmas.{sound-reading, stamped-sound, within-bounds, IsWithin}
 use Rattle.pol_rules.proofs.LimitsLemmas.{above-within, serial_limits}
-use Rattle.pol_rules.proofs.RulesLemmas.{caller-other, catalog-other, client-other, deeper-other, first-other, given-other, holds-other, key-other, levels-other, limit-other, need-other, no_catalogue-other, parent-other, refusal-past, run_full-tells, scope-other, tells_full, text-other, texts-other, type-other, EachPasses-none}
+use Rattle.pol_rules.proofs.RulesLemmas.{caller-other, catalog-other, client-other, deeper-other, first-other, given-other, holds-other, key-other, levels-other, limit-other, need-other, no_catalogue-other, parent-other, run_full-tells, scope-other, tells_full, text-other, texts-other, type-other, EachPasses-none}
 use Rattle.pol_content_actions.specs.Catalogs.{new_catalog}
 use Rattle.pol_content_actions.specs.Namespaces.{namespace_at, with_properties}
 use Rattle.pol_content_actions.specs.Sessions.{open_session, opened, session_opened}
@@ -51,12 +47,6 @@ use Rattle.pol_machine.specs.Machine.{reply_by, acting, next_by, next_state, rep
 pub answered-none : (first : Option Refusal) (answer : Answer) → reply_by first answer ≡ Answered answer → first ≡ None
 answered-none None answer is = refl
 answered-none (Some why) answer is = let contrary : Refused why ≡ Answered answer = is in cc
-
--- a rule that passes first leaves what an action does
-pub acts-past : (s : Rows) (command : Command) (rule : Option Refusal) (rules : List (Option Refusal)) (after : Rows) (answer : Answer) (result : Result Acted Stop) → rule ≡ None → Acts s command rules after answer result → Acts s command (rule ∷ rules) after answer result
-acts-past s command rule rules after answer (Ok acted) passes acts = (refusal-past rule rules None passes acts.0, acts.1, acts.2)
-acts-past s command rule rules after answer (Err (stop.Refused why)) passes acts = refusal-past rule rules (Some why) passes acts
-acts-past s command rule rules after answer (Err stop.OutOfMemory) passes acts = tt
 
 module _ (s : Rows) (command : Command) where
   abbrev action : Rows

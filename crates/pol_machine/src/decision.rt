@@ -1,10 +1,12 @@
-ghost use Rattle.std.specs.Prelude.{◌≡◌, ◌≤◌, ◌^◌, IfOk};
+ghost use Rattle.std.specs.Prelude.{◌≡◌, ◌≤◌, ◌^◌, [], IfErr, IfOk, None};
+ghost use Rattle.pol_commands.specs.declared.reply.Reply.TheVariants.{Refused};
 ghost use Rattle.pol_state.specs.Changes.{changes_between};
-ghost use Rattle.pol_rules.specs.Judged.{Acts};
-ghost use Rattle.pol_machine.specs.Machine.{acting, next_state, reply_of, rules_of};
+ghost use Rattle.pol_rules.specs.Judged.{Acts, FirstPasses};
+ghost use Rattle.pol_rules.specs.Rules.{run_full};
+ghost use Rattle.pol_machine.specs.Machine.{acting, next_state, reply_of};
 ghost use Rattle.pol_state.specs.Sound.{IsSound};
 
-use pol_commands::{Action, Command, Reply};
+use pol_commands::{Action, Command, Refusal, Reply};
 use pol_content::Change;
 use pol_content_actions::catalogs::{
     create_catalog, drop_catalog, get_catalog, get_config, list_catalogs,
@@ -39,33 +41,46 @@ pub struct Decision {
 }
 
 /// Decides a command in a state, which stays as it is: the reply is the first rule that fails, else the answer, and
-/// the changes are those between the state and the state after the command.
+/// the changes are those between the state and the state after the command. A full run is told without memory, and so
+/// is the first rule of an action, by which the caller is judged.
 pub fn decide(alloc: Global, state: &State, command: &Command) -> Result<Decision, OutOfMemory>
     requires sound { IsSound state.now.rows }
     requires moment { command.now.moment ≤ 2 ^ 62 }
     ensures reply { IfOk result (λ decision. decision.reply ≡ reply_of state.now.rows command.now) }
     ensures changes { IfOk result (λ decision. decision.changes ≡ changes_between state.now.rows (next_state state.now.rows command.now)) }
+    ensures full { IfErr result (λ _. run_full state.now.rows command.now.charge ≡ None) }
+    ensures first { IfErr result (λ _. FirstPasses (acting state.now.rows command.now command.now.action).rules) }
 {
+    if let Err(why) = run_open(state, command.charge) {
+        return Ok(refused(alloc, why));
+    }
     match act(alloc, state, command) {
         Ok(acted) => Ok(Decision {
             reply: Reply::Answered(acted.answer),
             changes: acted.changes,
         }),
-        Err(Stop::Refused(why)) => Ok(Decision {
-            reply: Reply::Refused(why),
-            changes: Listed::from(Vec::new(alloc)),
-        }),
+        Err(Stop::Refused(why)) => Ok(refused(alloc, why)),
         Err(Stop::OutOfMemory) => Err(OutOfMemory),
     }
 }
 
-/// Does a command's action, where the run has room for its charge.
+/// A refusal, which changes nothing.
+fn refused(alloc: Global, why: Refusal) -> Decision
+    ensures reply { result.reply ≡ Refused why }
+    ensures changes { result.changes ≡ [] }
+{
+    Decision {
+        reply: Reply::Refused(why),
+        changes: Listed::from(Vec::new(alloc)),
+    }
+}
+
+/// Does a command's action.
 fn act(alloc: Global, state: &State, command: &Command) -> Result<Acted, Stop>
     requires sound { IsSound state.now.rows }
     requires moment { command.now.moment ≤ 2 ^ 62 }
-    ensures { let action = acting state.now.rows command.now command.now.action in Acts state.now.rows command.now (rules_of state.now.rows command.now) action.after action.answer result }
+    ensures { let action = acting state.now.rows command.now command.now.action in Acts state.now.rows command.now action.rules action.after action.answer result }
 {
-    run_open(state, command.charge)?;
     match &command.action {
         Action::OpenSession {
             client_id,

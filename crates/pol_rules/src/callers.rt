@@ -1,12 +1,12 @@
 ghost use Rattle.std.specs.Prelude.{◌≡◌, Some, option_copied};
 ghost use Rattle.std.specs.Bool.{⊤};
 ghost use Rattle.pol_access.specs.Access.{principal_id};
-ghost use Rattle.pol_rules.specs.Judged.{Judges};
+ghost use Rattle.pol_rules.specs.Judged.{Sees};
 ghost use Rattle.pol_state.specs.Sound.{IsSound};
 ghost use Rattle.pol_tables.specs.Table.{knows};
 ghost use Rattle.pol_rules.specs.Rules.{client_of, invalid_client, is_signed_in, session_of, unauthenticated};
 
-use crate::rules::{Stop, time_of};
+use crate::rules::time_of;
 use pol_access::PrincipalRow;
 use pol_commands::{Caller, Command, Refusal};
 use pol_state::State;
@@ -16,11 +16,11 @@ use pol_tokens::SessionRow;
 /// The caller may ask: it is the bearer of an unexpired session's text, whose principal is there, or it sets the
 /// catalogue up.
 #[tactic(auto, unfolding(crate::specs::Rules::unauthenticated))]
-pub fn signed_in(state: &State, command: &Command) -> Result<(), Stop>
-    ensures { Judges (unauthenticated state.now.rows command.now) (λ _. ⊤) result }
+pub fn signed_in(state: &State, command: &Command) -> Result<(), Refusal>
+    ensures { Sees (unauthenticated state.now.rows command.now) (λ _. ⊤) result }
 {
     if !is_signed_in(state, time_of(state, command), &command.caller) {
-        return Err(Stop::Refused(Refusal::Unauthenticated));
+        return Err(Refusal::Unauthenticated);
     }
     Ok(())
 }
@@ -61,15 +61,15 @@ pub fn client_there<'a>(
     state: &'a State,
     client_id: &str,
     secret: &str,
-) -> Result<&'a PrincipalRow, Stop>
+) -> Result<&'a PrincipalRow, Refusal>
     requires { IsSound state.now.rows }
-    ensures { Judges (invalid_client state.now.rows client_id.now secret.now) (λ principal. client_of state.now.rows client_id.now secret.now ≡ Some principal.now) result }
+    ensures { Sees (invalid_client state.now.rows client_id.now secret.now) (λ principal. client_of state.now.rows client_id.now secret.now ≡ Some principal.now) result }
 {
     let Some(principal) = state.access().principal_of_client(client_id) else {
-        return Err(Stop::Refused(Refusal::InvalidClient));
+        return Err(Refusal::InvalidClient);
     };
     if principal.digest != digest(secret) {
-        return Err(Stop::Refused(Refusal::InvalidClient));
+        return Err(Refusal::InvalidClient);
     }
     Ok(principal)
 }

@@ -4,7 +4,7 @@ ghost use Rattle.pol_access.specs.Names.{principal_role_named};
 ghost use Rattle.pol_content.specs.Content.{catalog_id, catalog_named};
 ghost use Rattle.pol_tables.specs.Table.{row_of};
 ghost use Rattle.pol_locations.specs.Location.{segments_of};
-ghost use Rattle.pol_rules.specs.Judged.{Judges};
+ghost use Rattle.pol_rules.specs.Judged.{Judges, Sees};
 ghost use Rattle.pol_rules.specs.Rules.{bad_text, bad_texts, catalog_holds, catalog_taken, no_catalogue, unsupported_type};
 ghost use Rattle.pol_state.specs.Sound.{IsSound};
 
@@ -99,13 +99,13 @@ pub fn all_located(alloc: Global, texts: &[Text]) -> Result<Listed<Location>, St
 
 /// The catalogue is kept here.
 #[tactic(auto, unfolding(crate::specs::Rules::unsupported_type))]
-pub fn kept_here(external: bool) -> Result<(), Stop>
-    ensures { Judges (unsupported_type external) (λ _. ⊤) result }
+pub fn kept_here(external: bool) -> Result<(), Refusal>
+    ensures { Sees (unsupported_type external) (λ _. ⊤) result }
 {
     if external {
-        return Err(Stop::Refused(Refusal::Unsupported {
+        return Err(Refusal::Unsupported {
             name: OptionName::Type,
-        }));
+        });
     }
     Ok(())
 }

@@ -1,9 +1,9 @@
 ghost use Rattle.std.specs.Prelude.{◌≡◌, ◌+◌, ◌<◌, ◌≤◌, ◌^◌, []};
 ghost use Rattle.std.specs.Bool.{⊤};
-ghost use Rattle.pol_rules.specs.Judged.{Judges};
+ghost use Rattle.pol_rules.specs.Judged.{Sees};
 ghost use Rattle.pol_rules.specs.Rules.{above, over_limit, run_full, time_of, with_serial};
 ghost use Rattle.pol_state.specs.Sound.{IsSound};
-ghost use Rattle.pol_rules.specs.declared.rules.Stop.TheVariants.{OutOfMemory as Unallocated};
+ghost use Rattle.pol_rules.specs.declared.rules.Stop.TheVariants.{OutOfMemory as Unallocated, Refused as IsRefused};
 
 use pol_commands::{Answer, Command, Quantity, Refusal};
 use pol_content::Change;
@@ -31,6 +31,14 @@ pub const GRANTS: u64 = 100_000;
 pub enum Stop {
     Refused(Refusal),
     OutOfMemory,
+}
+
+impl From<Refusal> for Stop {
+    ghost from_gives = { λ why stop. stop ≡ IsRefused why };
+
+    fn from(why: Refusal) -> Self {
+        Stop::Refused(why)
+    }
 }
 
 impl From<OutOfMemory> for Stop {
@@ -66,13 +74,13 @@ pub struct Acted {
 
 /// The run has room for the charge.
 #[tactic(auto, unfolding(crate::specs::Rules::run_full))]
-pub fn run_open(state: &State, charge: u64) -> Result<(), Stop>
+pub fn run_open(state: &State, charge: u64) -> Result<(), Refusal>
     requires { IsSound state.now.rows }
-    ensures { Judges (run_full state.now.rows charge) (λ _. state.now.rows.charged + charge ≤ 2 ^ 30) result }
+    ensures { Sees (run_full state.now.rows charge) (λ _. state.now.rows.charged + charge ≤ 2 ^ 30) result }
 {
     let charged = state.charged();
     if charge > RUN_BOUND - charged {
-        return Err(Stop::Refused(Refusal::RunFull { charged, charge }));
+        return Err(Refusal::RunFull { charged, charge });
     }
     Ok(())
 }
@@ -96,20 +104,20 @@ pub fn unchanged(alloc: Global, answer: Answer) -> Acted
 }
 
 /// A number of a quantity is within its bound.
-pub fn within(quantity: Quantity, bound: u64, number: u64) -> Result<(), Stop>
-    ensures { Judges (above quantity bound number) (λ _. number ≤ bound) result }
+pub fn within(quantity: Quantity, bound: u64, number: u64) -> Result<(), Refusal>
+    ensures { Sees (above quantity bound number) (λ _. number ≤ bound) result }
 {
     if number > bound {
-        return Err(Stop::Refused(Refusal::Limit { quantity, bound }));
+        return Err(Refusal::Limit { quantity, bound });
     }
     Ok(())
 }
 
 /// The serial of the next session or token, which leaves a next one within the bound.
 #[tactic(auto, using(crate::proofs::LimitsLemmas::serial_limits))]
-pub fn serial_left(state: &State) -> Result<u64, Stop>
+pub fn serial_left(state: &State) -> Result<u64, Refusal>
     requires { IsSound state.now.rows }
-    ensures { Judges (over_limit (with_serial (state.now.rows.next_serial + 1) state.now.rows)) (λ serial. (serial ≡ state.now.rows.next_serial) × (serial < 2 ^ 62)) result }
+    ensures { Sees (over_limit (with_serial (state.now.rows.next_serial + 1) state.now.rows)) (λ serial. (serial ≡ state.now.rows.next_serial) × (serial < 2 ^ 62)) result }
 {
     let serial = state.next_serial();
     within(Quantity::NextSerial, COUNTER_BOUND, serial + 1)?;

@@ -1,7 +1,7 @@
 -- Changes applied to a state, and the room that they need.
 use Rattle.std.specs.Prelude.{ℕ, ◌+◌, ◌≤◌, List, [], ◌∷◌, count_by}
 use Rattle.std.specs.List.{fold}
-use Rattle.pol_access.specs.Access.{catalog_role_id, principal_id, principal_role_id}
+use Rattle.pol_access.specs.Access.{IsWithin, catalog_role_id, principal_id, principal_role_id}
 use Rattle.pol_access.specs.contracts.rows.GrantRow as grant
 use Rattle.pol_access.specs.contracts.rows.JoinRow as join
 use Rattle.pol_access.specs.contracts.rows.MemberRow as member
@@ -55,6 +55,13 @@ pub record HasRoom (changes : List Change) (room : Room) : Type 0 where
   pub joins : count_by (puts kind.Join) changes ≤ room.access.joins
   pub grants : count_by (puts kind.Grant) changes ≤ room.access.grants
   pub sessions : count_by (puts kind.Session) changes ≤ room.tokens.sessions
+
+-- no room is lost
+pub record KeepsRoom (old new : Room) : Type 0 where
+  pub access : IsWithin old.access new.access
+  pub catalogs : old.content.catalogs ≤ new.content.catalogs
+  pub namespaces : old.content.namespaces ≤ new.content.namespaces
+  pub sessions : old.tokens.sessions ≤ new.tokens.sessions
 
 -- a change takes room for the row that it puts, and no more
 pub record TakesRoom (change : Change) (old new : Room) : Type 0 where

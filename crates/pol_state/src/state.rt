@@ -1,7 +1,7 @@
 ghost use Rattle.std.specs.Prelude.{◌≡◌, ◌≤◌, ◌+◌, [], ◌∷◌, count_by, IfOk, IsOk, OnOk};
 ghost use Rattle.pol_content.specs.Change.{puts};
 ghost use Rattle.pol_content.specs.declared.change.RowKind.TheVariants as kind;
-ghost use Rattle.pol_state.specs.Applied.{applied, changed, HasRoom, TakesRoom};
+ghost use Rattle.pol_state.specs.Applied.{applied, changed, HasRoom, KeepsRoom, TakesRoom};
 ghost use Rattle.pol_state.specs.Rows.{fresh_state, root_row, service_admin_row};
 ghost use Rattle.pol_state.specs.Sound.{IsSound};
 
@@ -111,11 +111,13 @@ impl State {
         self.charged
     }
 
-    /// Makes room for the changes, so that applying them takes no memory.
+    /// Makes room for the changes, so that applying them takes no memory. The rows stay, and no room is lost, on an
+    /// error too.
     pub fn reserve(&mut self, changes: &[Change]) -> Result<(), OutOfMemory>
         ensures rows { self.new.rows ≡ self.old.rows }
         ensures reserved { OnOk result (HasRoom changes.now self.new.room) }
         ensures succeeds { HasRoom changes.now self.old.room → IsOk result }
+        ensures kept { KeepsRoom self.old.room self.new.room }
     {
         self.access.reserve(&access_room(changes))?;
         self.content
@@ -248,6 +250,7 @@ fn fresh_access(alloc: Global, root_secret: &str) -> Result<Access, OutOfMemory>
 }
 
 /// Principal `root` with this secret.
+#[tactic(auto, unfolding(pol_names::specs::Plain::plain_refusal))]
 fn root(alloc: Global, secret: &str) -> Result<PrincipalRow, OutOfMemory>
     ensures { IfOk result (λ row. row ≡ root_row secret.now) }
 {
@@ -260,6 +263,7 @@ fn root(alloc: Global, secret: &str) -> Result<PrincipalRow, OutOfMemory>
 }
 
 /// Principal role `service_admin`.
+#[tactic(auto, unfolding(pol_names::specs::Plain::plain_refusal))]
 fn service_admin(alloc: Global) -> Result<PrincipalRoleRow, OutOfMemory>
     ensures { IfOk result (λ row. row ≡ service_admin_row) }
 {

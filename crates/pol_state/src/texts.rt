@@ -1,9 +1,9 @@
 //! Texts and names of their own, and what is kept of a secret.
-ghost use Rattle.std.specs.Prelude.{◌≡◌, ◌≤◌, ◌+◌, [], ◌∷◌, IfOk};
-ghost use Rattle.std.specs.Bool.{⊤};
+ghost use Rattle.std.specs.Prelude.{◌≡◌, IfOk, None};
+ghost use Rattle.pol_names.specs.Plain.{plain_refusal};
 ghost use Rattle.pol_state.specs.Rows.{digest_of};
 
-use pol_names::Plain;
+use pol_names::{NameRefused, Plain};
 use pol_types::{OutOfMemory, Text};
 use sha2::{Digest, Sha256};
 use std::alloc::Global;
@@ -15,13 +15,20 @@ pub fn text(alloc: Global, source: &str) -> Result<Text, OutOfMemory>
     Ok(Text::from(String::from_str(alloc, source)?))
 }
 
-/// The plain name of this text, which is known to be one: of any other text it tells want of memory.
+/// The plain name of this text, which is one.
 pub fn plain(alloc: Global, name: &str) -> Result<Plain, OutOfMemory>
+    requires { plain_refusal name.now ≡ None }
     ensures { IfOk result (λ plain. plain ≡ name.now) }
 {
     match Plain::new(alloc, name) {
         Ok(plain) => Ok(plain),
-        Err(_) => Err(OutOfMemory),
+        Err(NameRefused::OutOfMemory) => Err(OutOfMemory),
+        Err(
+            NameRefused::Empty
+            | NameRefused::Long
+            | NameRefused::ControlByte
+            | NameRefused::NotPlain,
+        ) => unreachable!(),
     }
 }
 

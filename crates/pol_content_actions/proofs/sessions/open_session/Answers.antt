@@ -1,9 +1,7 @@
-use Rattle.std.proofs.Common.{◌≡◌, ℕ, ◌+◌, ◌<◌, ◌^◌, ap, sym, ◌∙◌}
-use Rattle.pol_rules.specs.Rules.{over_limit, with_serial}
+use Rattle.std.proofs.Common.{ap, sym, ◌∙◌}
 use Rattle.pol_content_actions.specs.Sessions.{open_session}
 use Rattle.pol_commands.specs.declared.reply.Answer.TheVariants.{SessionOpened}
-use Rattle.pol_rules.proofs.JudgedLemmas.{acts-stopped}
-use Rattle.pol_content_actions.proofs.SessionsLemmas.{changes-acting, changes-made, limit-refused, none-refused}
+use Rattle.pol_content_actions.proofs.SessionsLemmas.{acts-refused, changes-acting, changes-made, limit-refused, none-refused}
 use Rattle.pol_content_actions.proofs.sessions.open_session.Goals as goal
 
 pub returns-in_err-serial : goal.returns-in_err-serial
@@ -15,8 +13,9 @@ returns-in_err-serial c =
     let scopes = c.args.scopes.now in
     let action = open_session s command client_id secret scopes in
     let judged = rw (c.as_str.ensures, c.as_str-2.ensures) at c.in_ok-principal.ensures in
-    let first = limit-refused s command scopes client_id secret c.in_ok-principal.field-0.now judged.0 judged.1 in
-    acts-stopped {T = ℕ} s command action.rules action.after action.answer (over_limit (with_serial (s.next_serial + 1) s)) (λ serial. (serial ≡ s.next_serial) × (serial < 2 ^ 62)) c.in_err-serial.field-0.0 c.from_residual-in_err-serial.result c.from_residual-in_err-serial.ensures.1 (λ refusal. first refusal c.in_ok-scope.ensures.0) c.in_err-serial.ensures
+    let why = c.in_err-serial.field-0.0 in
+    let first = limit-refused s command scopes client_id secret c.in_ok-principal.field-0.now judged.0 judged.1 why c.in_ok-scopes_there.ensures.0 c.in_err-serial.ensures in
+    acts-refused s command action.rules action.after action.answer why c.from_residual-in_err-serial.result c.from_residual-in_err-serial.ensures.1 first
 
 pub returns : goal.returns
 returns c =
@@ -26,9 +25,9 @@ returns c =
     let principal = c.in_ok-principal.field-0.now in
     let judged = rw (c.as_str.ensures, c.as_str-2.ensures) at c.in_ok-principal.ensures in
     let time_is = c.time_of-time.ensures in (
-      none-refused s command scopes c.args.client_id.now c.args.secret.now principal judged.0 judged.1 c.in_ok-scope.ensures.0 c.in_ok-serial.ensures.0,
+      none-refused s command scopes c.args.client_id.now c.args.secret.now principal judged.0 judged.1 c.in_ok-scopes_there.ensures.0 c.in_ok-serial.ensures.0,
       ap (λ serial. SessionOpened serial command.words.a command.words.b) c.in_ok-serial.ensures.1.0,
       c.from.ensures ∙ c.in_ok-vec.ensures.items
-          ∙ changes-made s command scopes principal c.in_ok-serial.serial c.in_ok-scope.scope c.time_of-time.result c.in_ok-serial.ensures.1.0 c.in_ok-scope.ensures.1 time_is
+          ∙ changes-made s command scopes principal c.in_ok-serial.serial c.in_ok-scope.scope c.time_of-time.result c.in_ok-serial.ensures.1.0 c.in_ok-scope.ensures time_is
           ∙ sym (changes-acting s command scopes c.args.client_id.now c.args.secret.now principal judged.0 judged.1 c.requires.sound),
     )

@@ -1,24 +1,46 @@
-use Rattle.std.proofs.Common.{ap, sym, ◌∙◌}
+use Rattle.std.proofs.Common.{◌≡◌, None, Some, ap, sym, ◌∙◌}
 use Rattle.pol_state.specs.Changes.{changes_between}
 use Rattle.pol_commands.specs.declared.reply.Reply.TheVariants.{Answered}
+use Rattle.pol_rules.specs.Rules.{first_refusal}
+use Rattle.pol_rules.proofs.RulesLemmas.{refusal-past, refusal-stops}
+use Rattle.pol_machine.specs.Machine.{rules_of}
 use Rattle.pol_machine.proofs.DecisionLemmas.{changes-refused, next-answered, reply-answered, reply-refused}
 use Rattle.pol_machine.proofs.decision.decide.Goals as goal
 
+pub returns-in-Err-clause-reply : goal.returns-in-Err-clause-reply
+returns-in-Err-clause-reply c =
+    c.refused.ensures.reply ∙ sym (reply-refused c.args.state.now.rows c.args.command.now c.in-Err.why (refusal-stops _ c.in-Err.why _ c.in-Err.ensures))
+
+pub returns-in-Err-clause-changes : goal.returns-in-Err-clause-changes
+returns-in-Err-clause-changes c =
+    c.refused.ensures.changes ∙ sym (changes-refused c.args.state.now.rows c.args.command.now c.in-Err.why (refusal-stops _ c.in-Err.why _ c.in-Err.ensures))
+
 pub returns-in-Ok-clause-reply : goal.returns-in-Ok-clause-reply
 returns-in-Ok-clause-reply c =
-    ap Answered c.in-Ok.ensures.1 ∙ sym (reply-answered c.args.state.now.rows c.args.command.now c.in-Ok.ensures.0)
+    let s = c.args.state.now.rows in
+    let command = c.args.command.now in
+    let passed : first_refusal (rules_of s command) ≡ None = refusal-past _ _ None c.in_default.ensures.0 c.in-Ok.ensures.0 in
+    ap Answered c.in-Ok.ensures.1 ∙ sym (reply-answered s command passed)
 
 pub returns-in-Ok-clause-changes : goal.returns-in-Ok-clause-changes
 returns-in-Ok-clause-changes c =
     let s = c.args.state.now.rows in
-    c.in-Ok.ensures.2 ∙ ap (changes_between s) (sym (next-answered s c.args.command.now c.in-Ok.ensures.0))
+    let command = c.args.command.now in
+    let passed : first_refusal (rules_of s command) ≡ None = refusal-past _ _ None c.in_default.ensures.0 c.in-Ok.ensures.0 in
+    c.in-Ok.ensures.2 ∙ ap (changes_between s) (sym (next-answered s command passed))
 
 pub returns-in-Err-Refused-clause-reply : goal.returns-in-Err-Refused-clause-reply
 returns-in-Err-Refused-clause-reply c =
+    let s = c.args.state.now.rows in
+    let command = c.args.command.now in
     let refused = rw c.in-Err-Refused.field-0-is at c.in-Err-Refused.ensures in
-    sym (reply-refused c.args.state.now.rows c.args.command.now c.in-Err-Refused.why refused)
+    let fails : first_refusal (rules_of s command) ≡ Some c.in-Err-Refused.why = refusal-past _ _ (Some c.in-Err-Refused.why) c.in_default.ensures.0 refused in
+    c.refused-in-Err-Refused.ensures.reply ∙ sym (reply-refused s command c.in-Err-Refused.why fails)
 
 pub returns-in-Err-Refused-clause-changes : goal.returns-in-Err-Refused-clause-changes
 returns-in-Err-Refused-clause-changes c =
+    let s = c.args.state.now.rows in
+    let command = c.args.command.now in
     let refused = rw c.in-Err-Refused.field-0-is at c.in-Err-Refused.ensures in
-    c.from.ensures ∙ c.new.ensures.items ∙ sym (changes-refused c.args.state.now.rows c.args.command.now c.in-Err-Refused.why refused)
+    let fails : first_refusal (rules_of s command) ≡ Some c.in-Err-Refused.why = refusal-past _ _ (Some c.in-Err-Refused.why) c.in_default.ensures.0 refused in
+    c.refused-in-Err-Refused.ensures.changes ∙ sym (changes-refused s command c.in-Err-Refused.why fails)

@@ -2,7 +2,7 @@ use Rattle.std.proofs.Common.{◌≡◌, true, false}
 use Rattle.std.specs.List.{list_all}
 use Rattle.pol_rules.specs.Rules.{is_scope}
 use Rattle.pol_content_actions.proofs.ScopesLemmas.{scopes-passed, scopes-refused}
-use Rattle.pol_content_actions.proofs.scopes.scope_there.Goals as goal
+use Rattle.pol_content_actions.proofs.scopes.scopes_there.Goals as goal
 
 pub returns-then-not-are_scopes : goal.returns-then-not-are_scopes
 returns-then-not-are_scopes c =
@@ -12,4 +12,4 @@ returns-then-not-are_scopes c =
 pub returns : goal.returns
 returns c =
     let passed : list_all (is_scope c.args.state.now.rows.access c.args.principal) c.args.scopes.now ≡ true = cc in
-    (scopes-passed c.args.state.now.rows c.args.principal c.args.scopes.now passed, c.in_ok-scope.ensures)
+    (scopes-passed c.args.state.now.rows c.args.principal c.args.scopes.now passed, tt)
