@@ -204,21 +204,6 @@ impl Namespace {
         other.levels.len() == self.levels.len() + 1
             && other.levels.as_slice().starts_with(self.levels.as_slice())
     }
-
-    /// The namespace with one more level. It is `TooDeep` where there are 16 already.
-    pub fn child(&self, alloc: Global, level: &Name) -> Result<Namespace, NamespaceRefused>
-        ensures value { IfOk result (λ child. child ≡ self.now ++ level.now ∷ []) }
-        ensures named { OnOk result (IsNamespace (self.now ++ level.now ∷ [])) }
-        ensures refused { IfErr result (IsNamespaceRefusal (self.now ++ level.now ∷ [])) }
-    {
-        let depth = self.levels.len() + 1;
-        judge_depth(depth)?;
-        let mut levels = Vec::from_clones(alloc, self.levels.as_slice())?;
-        levels.push(level.clone()?)?;
-        Ok(Namespace {
-            levels: Listed::from(levels),
-        })
-    }
 }
 
 impl fmt::Display for Namespace {

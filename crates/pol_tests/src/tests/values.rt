@@ -1,6 +1,8 @@
-//! Texts, bytes and lists give back what they are made of, and want of memory is told.
+//! Texts, bytes, lists and scopes give back what they are made of, and want of memory is told.
 ghost use Rattle.std.specs.Prelude.{◌≡◌, ◌∷◌, [], IfOk};
+ghost use Rattle.pol_names.specs.declared.scope.Scope.TheVariants.{Roles};
 
+use pol_names::Scope;
 use pol_types::{Bytes, Listed, OutOfMemory, Text};
 use std::alloc::{AllocError, Global};
 use std::test::Fail;
@@ -41,9 +43,17 @@ fn given_list(alloc: Global) -> Result<Vec<Text>, AllocError> {
     Ok(one.clone()?.into())
 }
 
+fn role_scope(alloc: Global) -> Result<Scope, AllocError>
+    ensures { IfOk result (λ scope. scope ≡ Roles (2 ∷ 3 ∷ [])) }
+{
+    Ok(Scope::Roles(Listed::from(Vec::from_slice(alloc, &[2, 3])?)))
+}
+
 #[test]
 fn values_are_given_back(rt: HostRuntime) -> Result<(), Fail> {
     let alloc = rt.alloc();
+    let scope = role_scope(alloc)?;
+    assert!(rt; scope.clone()? == scope && scope != Scope::All);
     assert_eq!(rt; given_text(alloc)?.as_str(), "é");
     assert_eq!(rt; given_bytes(alloc)?.as_slice(), [1, 2].as_slice());
     assert_eq!(rt; given_list(alloc)?.as_slice(), list(alloc, "a")?.as_slice());
