@@ -103,21 +103,10 @@ class RandomRequests:
     def content_of(self, action):
         if action == "open_session":
             return self.form()
-        bodies = {
-            "create_namespace": self.new_namespace,
-            "update_properties": self.property_updates,
-            "create_catalog": self.new_catalog,
-            "create_principal": lambda: {"principal": {"name": self.name("principal"), "type": "SERVICE"}},
-            "create_principal_role": lambda: {"principalRole": {"name": self.name("role")}},
-            "add_member": lambda: {"principalRole": {"name": self.name("role")}},
-            "create_catalog_role": lambda: {"catalogRole": {"name": self.name("catalog_role")}},
-            "add_join": lambda: {"catalogRole": {"name": self.name("catalog_role")}},
-            "add_grant": self.grant,
-            "revoke": self.grant,
-        }
-        if action not in bodies:
+        body = getattr(self, f"{action}_body", None)
+        if body is None:
             return b"xx" if self.seldom() else b""
-        return self.printed(self.altered(bodies[action]()))
+        return self.printed(self.altered(body()))
 
     def form(self):
         client_id = self.random.choice(list(self.secrets))
@@ -145,17 +134,19 @@ class RandomRequests:
     def location(self):
         return self.pick(LOCATIONS, ODD_LOCATIONS + LONG_LOCATIONS, 0.1)
 
-    def new_namespace(self):
+    # The body of each action that has one, before it is altered
+
+    def create_namespace_body(self):
         body = {"namespace": self.levels(), "properties": self.texts()}
         if self.seldom(0.2):
             del body["properties"]
         return body
 
-    def property_updates(self):
+    def update_properties_body(self):
         removals = [self.random.choice([*KEYS, "zz"]) for _ in range(self.random.randrange(4))]
         return {"removals": removals, "updates": self.texts()}
 
-    def new_catalog(self):
+    def create_catalog_body(self):
         catalog = {
             "name": self.name("catalog"),
             "type": self.pick(["INTERNAL"], ["EXTERNAL", "internal"], 0.15),
@@ -167,7 +158,22 @@ class RandomRequests:
                 del catalog[key]
         return {"catalog": catalog}
 
-    def grant(self):
+    def create_principal_body(self):
+        return {"principal": {"name": self.name("principal"), "type": "SERVICE"}}
+
+    def create_principal_role_body(self):
+        return {"principalRole": {"name": self.name("role")}}
+
+    def add_member_body(self):
+        return self.create_principal_role_body()
+
+    def create_catalog_role_body(self):
+        return {"catalogRole": {"name": self.name("catalog_role")}}
+
+    def add_join_body(self):
+        return self.create_catalog_role_body()
+
+    def add_grant_body(self):
         kind = self.random.choice(["catalog", "namespace", "namespace", "table", "view"])
         grant = {"type": kind, "privilege": self.pick(sorted(GRANTABLE[kind]), PRIVILEGES)}
         if kind != "catalog":
@@ -175,6 +181,9 @@ class RandomRequests:
         if kind in ("table", "view"):
             grant[f"{kind}Name"] = self.pick(["t"], ["", "t\n"], 0.1)
         return {"grant": grant}
+
+    def revoke_body(self):
+        return self.add_grant_body()
 
     def altered(self, body):
         """A body with, at times, one place of it left out or made another value."""
