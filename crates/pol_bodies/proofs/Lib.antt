@@ -1,3 +1,2 @@
-pub mod BodyLemmas
-pub mod ManagementBodyLemmas
+pub mod GrantLemmas
 pub mod UnreadLemmas

@@ -1,38 +1,33 @@
--- The bodies of requests: what a value of JSON stands for, and the grammars of the same.
-use Rattle.std.specs.Prelude.{ℕ, Bool, false, not, List, [], map, is_none, Option, Some, None, Ok, codes}
+-- The bodies of requests, each as one shape: what a value of JSON stands for, and the grammar of the same.
+use Rattle.std.specs.Prelude.{ℕ, Bool, false, not, List, [], map, is_none, Option, Some, None, unwrap_or}
 use Rattle.std.specs.Str.{bytes_eq}
-use Rattle.serde_json.specs.Data.{Data}
 use Rattle.pol_names.specs.Namespace.{namespace_refusal}
 use Rattle.pol_names.specs.Plain.{plain_refusal}
 use Rattle.pol_properties.specs.Properties.{of_pairs, value_of, without_key}
 use Rattle.pol_properties.specs.declared.property.Property.{Property}
-use Rattle.pol_readers.specs.Forms.{holds, is_object, text, list, entries, field, optional, whole}
-use Rattle.pol_readers.specs.Reading.{Reading, ◌>>=◌, found, under}
-use Rattle.pol_readers.specs.declared.path.Step.TheVariants.{Key}
+use Rattle.pol_readers.specs.Shape.{Shape, ◌>>=◌, an_object, done, entries, field, found_at, list, optional, rule, text, whole}
 use Rattle.pol_requests.specs.Keys.{base_key}
 use Rattle.pol_bodies.specs.declared.bodies.BasedProperties.{BasedProperties}
 use Rattle.pol_bodies.specs.declared.bodies.CatalogBody.{CatalogBody}
-use Rattle.pol_bodies.specs.declared.bodies.Levels.{Levels}
 use Rattle.pol_bodies.specs.declared.bodies.NewCatalog.{NewCatalog}
 use Rattle.pol_bodies.specs.declared.bodies.NewNamespace.{NewNamespace}
-use Rattle.pol_bodies.specs.declared.bodies.PlainText.{PlainText}
 use Rattle.pol_bodies.specs.declared.bodies.PropertyUpdates.{PropertyUpdates}
 use Rattle.pol_bodies.specs.declared.bodies.Storage.{Storage}
-use Rattle.pol_bodies.specs.declared.bodies.TextMap.{TextMap}
+use Rattle.pol_bodies.specs.declared.keys.TheConstants.{ALLOWED_LOCATIONS, CATALOG, INTERNAL, NAME, NAMESPACE, PROPERTIES, REMOVALS, STORAGE_CONFIG_INFO, TYPE, UPDATES}
 
 -- a plain name
-unfoldable pub plain_name : Data → Reading PlainText
-plain_name d = do
-  name ← text d
-  _ ← holds (is_none (plain_refusal name))
-  Ok (record { name = name })
+unfoldable pub plain_name : Shape (List ℕ)
+plain_name = do
+  name ← text
+  _ ← rule (is_none (plain_refusal name))
+  done name
 
 -- a namespace, as the list of its levels, into which no path goes
-unfoldable pub levels : Data → Reading Levels
-levels d = do
-  texts ← whole (list text) d
-  _ ← holds (is_none (namespace_refusal texts))
-  Ok (record { namespace = texts })
+unfoldable pub levels : Shape (List (List ℕ))
+levels = do
+  texts ← whole (list text)
+  _ ← rule (is_none (namespace_refusal texts))
+  done texts
 
 -- the properties that entries make
 abbrev pub property_of : List ℕ × List ℕ → Property
@@ -42,55 +37,45 @@ abbrev pub properties_of : List (List ℕ × List ℕ) → List Property
 properties_of pairs = of_pairs (map property_of pairs)
 
 -- an object of texts
-unfoldable pub text_map : Data → Reading TextMap
-text_map d = do
-  pairs ← entries text d
-  Ok (record { properties = properties_of pairs })
-
--- no properties stand for absent ones
-abbrev pub given : Option TextMap → List Property
-given None = []
-given (Some texts) = texts.properties
-
--- no texts stand for absent ones
-abbrev pub listed : Option (List (List ℕ)) → List (List ℕ)
-listed None = []
-listed (Some texts) = texts
+unfoldable pub text_map : Shape (List Property)
+text_map = do
+  pairs ← entries text
+  done (properties_of pairs)
 
 -- a new namespace (Iceberg REST OpenAPI, CreateNamespaceRequest)
-unfoldable pub new_namespace : Data → Reading NewNamespace
-new_namespace d = do
-  _ ← is_object d
-  named ← field (codes "namespace") levels d
-  properties ← optional (codes "properties") text_map d
-  Ok (record { namespace = named.namespace; properties = given properties })
+unfoldable pub new_namespace : Shape NewNamespace
+new_namespace = do
+  _ ← an_object
+  named ← field NAMESPACE.now levels
+  given ← optional PROPERTIES.now text_map
+  done (record { namespace = named; properties = unwrap_or given [] })
 
 -- changes of properties (Iceberg REST OpenAPI, UpdateNamespacePropertiesRequest)
-unfoldable pub property_updates : Data → Reading PropertyUpdates
-property_updates d = do
-  _ ← is_object d
-  removals ← optional (codes "removals") (list text) d
-  updates ← optional (codes "updates") text_map d
-  Ok (record { removals = listed removals; updates = given updates })
+unfoldable pub property_updates : Shape PropertyUpdates
+property_updates = do
+  _ ← an_object
+  removed ← optional REMOVALS.now (list text)
+  updated ← optional UPDATES.now text_map
+  done (record { removals = unwrap_or removed []; updates = unwrap_or updated [] })
 
 -- the properties of a new catalogue: its base, which must be among them, and the others
-unfoldable pub based_properties : Data → Reading BasedProperties
-based_properties d = do
-  all ← text_map d
-  base ← under (Key base_key) (found (value_of base_key all.properties))
-  Ok (record { base = base; properties = without_key base_key all.properties })
+unfoldable pub based_properties : Shape BasedProperties
+based_properties = do
+  all ← text_map
+  base ← found_at base_key (value_of base_key all)
+  done (record { base = base; properties = without_key base_key all })
 
 -- the storage of a new catalogue
-unfoldable pub storage : Data → Reading Storage
-storage d = do
-  _ ← is_object d
-  allowed ← optional (codes "allowedLocations") (list text) d
-  Ok (record { allowed = listed allowed })
+unfoldable pub storage : Shape Storage
+storage = do
+  _ ← an_object
+  given ← optional ALLOWED_LOCATIONS.now (list text)
+  done (record { allowed = unwrap_or given [] })
 
 -- a catalogue is external where it has a type that isn't that of internal ones
 abbrev pub is_external : Option (List ℕ) → Bool
 is_external None = false
-is_external (Some type) = not (bytes_eq type (codes "INTERNAL"))
+is_external (Some type) = not (bytes_eq type INTERNAL.now)
 
 -- no locations are allowed beside the base where no storage is given
 abbrev pub allowed_by : Option Storage → List (List ℕ)
@@ -98,15 +83,15 @@ allowed_by None = []
 allowed_by (Some found) = found.allowed
 
 -- a new catalogue (Apache Polaris Management Service, Catalog)
-unfoldable pub new_catalog : Data → Reading NewCatalog
-new_catalog d = do
-  _ ← is_object d
-  named ← field (codes "name") plain_name d
-  type ← optional (codes "type") text d
-  based ← field (codes "properties") based_properties d
-  stored ← optional (codes "storageConfigInfo") storage d
-  Ok (record {
-    name = named.name;
+unfoldable pub new_catalog : Shape NewCatalog
+new_catalog = do
+  _ ← an_object
+  named ← field NAME.now plain_name
+  type ← optional TYPE.now text
+  based ← field PROPERTIES.now based_properties
+  stored ← optional STORAGE_CONFIG_INFO.now storage
+  done (record {
+    name = named;
     external = is_external type;
     base = based.base;
     properties = based.properties;
@@ -114,8 +99,8 @@ new_catalog d = do
   })
 
 -- the body that creates a catalogue (Apache Polaris Management Service, CreateCatalogRequest)
-unfoldable pub catalog_body : Data → Reading CatalogBody
-catalog_body d = do
-  _ ← is_object d
-  catalog ← field (codes "catalog") new_catalog d
-  Ok (record { catalog = catalog })
+unfoldable pub catalog_body : Shape CatalogBody
+catalog_body = do
+  _ ← an_object
+  new ← field CATALOG.now new_catalog
+  done (record { catalog = new })

@@ -1,29 +1,10 @@
 -- Laws of bodies.
-use Rattle.pol_readers.specs.Forms.{body}
-use Rattle.pol_readers.specs.Grammar.{Exact, IsBody}
-use Rattle.pol_bodies.specs.Bodies.{catalog_body, new_namespace, property_updates}
-use Rattle.pol_bodies.specs.BodyGrammars.{IsCatalogBody, IsNewNamespace, IsPropertyUpdates}
-use Rattle.pol_bodies.specs.ManagementBodies.{catalog_role_body, grant_body, principal_body, principal_role_body}
-use Rattle.pol_bodies.specs.ManagementGrammars.{IsCatalogRoleBody, IsGrantBody, IsPrincipalBody, IsPrincipalRoleBody}
+use Rattle.std.specs.Prelude.{◌≡◌, ℕ, List, Ok}
+use Rattle.pol_commands.specs.Proper.{IsGrantable}
+use Rattle.pol_readers.specs.Shape.{body}
+use Rattle.pol_bodies.specs.ManagementBodies.{grant_body}
+use Rattle.pol_bodies.specs.declared.management_bodies.GrantBody.{GrantBody}
 
--- each body is read exactly where it is of its grammar
-abbrev pub CatalogBodiesAreExact : Type 0
-CatalogBodiesAreExact = Exact (body catalog_body) (IsBody IsCatalogBody)
-
-abbrev pub NewNamespacesAreExact : Type 0
-NewNamespacesAreExact = Exact (body new_namespace) (IsBody IsNewNamespace)
-
-abbrev pub PropertyUpdatesAreExact : Type 0
-PropertyUpdatesAreExact = Exact (body property_updates) (IsBody IsPropertyUpdates)
-
-abbrev pub PrincipalBodiesAreExact : Type 0
-PrincipalBodiesAreExact = Exact (body principal_body) (IsBody IsPrincipalBody)
-
-abbrev pub PrincipalRoleBodiesAreExact : Type 0
-PrincipalRoleBodiesAreExact = Exact (body principal_role_body) (IsBody IsPrincipalRoleBody)
-
-abbrev pub CatalogRoleBodiesAreExact : Type 0
-CatalogRoleBodiesAreExact = Exact (body catalog_role_body) (IsBody IsCatalogRoleBody)
-
-abbrev pub GrantBodiesAreExact : Type 0
-GrantBodiesAreExact = Exact (body grant_body) (IsBody IsGrantBody)
+-- a grant that is read of a body has a privilege that may be granted on what it is on
+abbrev pub GrantsMayBeGranted : Type 0
+GrantsMayBeGranted = (bytes : List ℕ) (read : GrantBody) → body grant_body bytes ≡ Ok read → IsGrantable read.grant

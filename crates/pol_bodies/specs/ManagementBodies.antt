@@ -1,75 +1,79 @@
--- The bodies of management requests (Apache Polaris Management Service): what a value of JSON stands for.
-use Rattle.std.specs.Prelude.{ℕ, List, [], ◌∷◌, find, is_none, Ok, codes}
+-- The bodies of management requests (Apache Polaris Management Service), each as one shape.
+use Rattle.std.specs.Prelude.{ℕ, List, [], ◌∷◌, find, is_none, Option}
 use Rattle.std.specs.Str.{bytes_eq}
-use Rattle.serde_json.specs.Data.{Data}
-use Rattle.pol_access.specs.Privilege.{grantable, privileges, text_of}
+use Rattle.pol_access.specs.Privilege as privilege
+use Rattle.pol_access.specs.Privilege.{grantable, privileges}
+use Rattle.pol_access.specs.declared.privilege.Privilege.{Privilege}
 use Rattle.pol_access.specs.declared.securable.SecurableKind.{SecurableKind}
 use Rattle.pol_access.specs.declared.securable.SecurableKind.TheVariants as kind
+use Rattle.pol_commands.specs.declared.grants.Grant.{Grant}
 use Rattle.pol_commands.specs.declared.grants.GrantedOn.{GrantedOn}
 use Rattle.pol_commands.specs.declared.grants.GrantedOn.TheVariants as on
 use Rattle.pol_names.specs.Name.{name_refusal}
 use Rattle.pol_names.specs.declared.identifier.Identifier.{Identifier}
-use Rattle.pol_readers.specs.Forms.{holds, is_object, text, one_of, field}
-use Rattle.pol_readers.specs.Reading.{Reading, ◌>>=◌, found, under}
-use Rattle.pol_readers.specs.declared.path.Step.TheVariants.{Key}
+use Rattle.pol_readers.specs.Shape.{Shape, ◌>>=◌, an_object, done, field, holds_at, one_of, rule, text, text_of}
 use Rattle.pol_bodies.specs.Bodies.{levels, plain_name}
+use Rattle.pol_bodies.specs.declared.keys.TheConstants.{CATALOG, CATALOG_ROLE, GRANT, NAME, NAMESPACE, PRINCIPAL, PRINCIPAL_ROLE, PRIVILEGE, TABLE, TABLE_NAME, TYPE, VIEW, VIEW_NAME}
 use Rattle.pol_bodies.specs.declared.management_bodies.CatalogRoleBody.{CatalogRoleBody}
 use Rattle.pol_bodies.specs.declared.management_bodies.GrantBody.{GrantBody}
-use Rattle.pol_bodies.specs.declared.management_bodies.GrantObject.{GrantObject}
 use Rattle.pol_bodies.specs.declared.management_bodies.GrantType.{GrantType}
 use Rattle.pol_bodies.specs.declared.management_bodies.GrantType.TheVariants.{Catalog, Namespace, Table, View}
-use Rattle.pol_bodies.specs.declared.management_bodies.NameText.{NameText}
 use Rattle.pol_bodies.specs.declared.management_bodies.Named.{Named}
 use Rattle.pol_bodies.specs.declared.management_bodies.PrincipalBody.{PrincipalBody}
 use Rattle.pol_bodies.specs.declared.management_bodies.PrincipalRoleBody.{PrincipalRoleBody}
-use Rattle.pol_bodies.specs.declared.management_bodies.PrivilegeText.{PrivilegeText}
 
 -- an object with a plain name
-unfoldable pub named : Data → Reading Named
-named d = do
-  _ ← is_object d
-  read ← field (codes "name") plain_name d
-  Ok (record { name = read.name })
+unfoldable pub named : Shape Named
+named = do
+  _ ← an_object
+  given ← field NAME.now plain_name
+  done (record { name = given })
 
--- the body that creates a principal
-unfoldable pub principal_body : Data → Reading PrincipalBody
-principal_body d = do
-  _ ← is_object d
-  read ← field (codes "principal") named d
-  Ok (record { name = read.name })
+-- an object that has a named one under a key: the name
+unfoldable pub name_under : List ℕ → Shape (List ℕ)
+name_under key = do
+  _ ← an_object
+  held ← field key named
+  done held.name
 
--- the body that names a principal role, to create it or to give it to a principal
-unfoldable pub principal_role_body : Data → Reading PrincipalRoleBody
-principal_role_body d = do
-  _ ← is_object d
-  read ← field (codes "principalRole") named d
-  Ok (record { name = read.name })
+-- the body that creates a principal (CreatePrincipalRequest)
+unfoldable pub principal_body : Shape PrincipalBody
+principal_body = do
+  given ← name_under PRINCIPAL.now
+  done (record { name = given })
 
--- the body that names a role of a catalogue, to create it or to join a principal role to it
-unfoldable pub catalog_role_body : Data → Reading CatalogRoleBody
-catalog_role_body d = do
-  _ ← is_object d
-  read ← field (codes "catalogRole") named d
-  Ok (record { name = read.name })
+-- the body that names a principal role (CreatePrincipalRoleRequest, GrantPrincipalRoleRequest)
+unfoldable pub principal_role_body : Shape PrincipalRoleBody
+principal_role_body = do
+  given ← name_under PRINCIPAL_ROLE.now
+  done (record { name = given })
+
+-- the body that names a role of a catalogue (CreateCatalogRoleRequest, GrantCatalogRoleRequest)
+unfoldable pub catalog_role_body : Shape CatalogRoleBody
+catalog_role_body = do
+  given ← name_under CATALOG_ROLE.now
+  done (record { name = given })
 
 -- a name
-unfoldable pub name_text : Data → Reading NameText
-name_text d = do
-  name ← text d
-  _ ← holds (is_none (name_refusal name))
-  Ok (record { name = name })
+unfoldable pub name_text : Shape (List ℕ)
+name_text = do
+  name ← text
+  _ ← rule (is_none (name_refusal name))
+  done name
 
 -- a privilege, by its text
-unfoldable pub privilege_text : Data → Reading PrivilegeText
-privilege_text d = do
-  word ← text d
-  privilege ← found (find (λ privilege. bytes_eq (text_of privilege) word) privileges)
-  Ok (record { privilege = privilege })
+abbrev pub privilege_of : List ℕ → Option Privilege
+privilege_of word = find (λ one. bytes_eq (privilege.text_of one) word) privileges
+
+unfoldable pub privilege_text : Shape Privilege
+privilege_text = text_of privilege_of
 
 -- the types of grants
 abbrev pub type_words : List (List ℕ × GrantType)
-type_words =
-    (codes "catalog", Catalog) ∷ (codes "namespace", Namespace) ∷ (codes "table", Table) ∷ (codes "view", View) ∷ []
+type_words = (CATALOG.now, Catalog) ∷ (NAMESPACE.now, Namespace) ∷ (TABLE.now, Table) ∷ (VIEW.now, View) ∷ []
+
+unfoldable pub grant_type : Shape GrantType
+grant_type = one_of type_words
 
 -- the kind of what a grant of a type is on
 abbrev pub kind_of_type : GrantType → SecurableKind
@@ -78,39 +82,39 @@ kind_of_type Namespace = kind.Namespace
 kind_of_type Table = kind.Table
 kind_of_type View = kind.View
 
--- the full name of a table or a view, which is called so
-unfoldable pub identifier : List ℕ → Data → Reading Identifier
-identifier key d = do
-  within ← field (codes "namespace") levels d
-  read ← field key name_text d
-  Ok (record { namespace = within.namespace; name = read.name })
+-- the full name of a table or a view, whose own name stands under that key
+unfoldable pub identifier : List ℕ → Shape Identifier
+identifier key = do
+  within ← field NAMESPACE.now levels
+  called ← field key name_text
+  done (record { namespace = within; name = called })
 
 -- what a grant of a type is on
-unfoldable pub granted_on : GrantType → Data → Reading GrantedOn
-granted_on Catalog d = Ok on.Catalog
-granted_on Namespace d = do
-  within ← field (codes "namespace") levels d
-  Ok (on.Namespace within.namespace)
-granted_on Table d = do
-  table ← identifier (codes "tableName") d
-  Ok (on.Table table)
-granted_on View d = do
-  view ← identifier (codes "viewName") d
-  Ok (on.View view)
+unfoldable pub granted_on : GrantType → Shape GrantedOn
+granted_on Catalog = done on.Catalog
+granted_on Namespace = do
+  within ← field NAMESPACE.now levels
+  done (on.Namespace within)
+granted_on Table = do
+  table ← identifier TABLE_NAME.now
+  done (on.Table table)
+granted_on View = do
+  view ← identifier VIEW_NAME.now
+  done (on.View view)
 
--- a grant, whose privilege may be granted on what it is on
-unfoldable pub grant_object : Data → Reading GrantObject
-grant_object d = do
-  _ ← is_object d
-  type ← field (codes "type") (one_of type_words) d
-  read ← field (codes "privilege") privilege_text d
-  _ ← under (Key (codes "privilege")) (holds (grantable read.privilege (kind_of_type type)))
-  granted ← granted_on type d
-  Ok (record { grant = record { privilege = read.privilege; on = granted } })
+-- a grant, whose privilege may be granted on what it is on (GrantResource)
+unfoldable pub grant : Shape Grant
+grant = do
+  _ ← an_object
+  type ← field TYPE.now grant_type
+  given ← field PRIVILEGE.now privilege_text
+  _ ← holds_at PRIVILEGE.now (grantable given (kind_of_type type))
+  granted ← granted_on type
+  done (record { privilege = given; on = granted })
 
--- the body that adds or revokes a grant
-unfoldable pub grant_body : Data → Reading GrantBody
-grant_body d = do
-  _ ← is_object d
-  read ← field (codes "grant") grant_object d
-  Ok (record { grant = read.grant })
+-- the body that adds or revokes a grant (AddGrantRequest, RevokeGrantRequest)
+unfoldable pub grant_body : Shape GrantBody
+grant_body = do
+  _ ← an_object
+  given ← field GRANT.now grant
+  done (record { grant = given })

@@ -1,12 +1,12 @@
 //! The bodies of requests, each as a form.
-ghost use Rattle.std.specs.Prelude.{◌≡◌, map, IfOk};
-ghost use Rattle.pol_names.specs.Namespace.{namespace_refusal};
-ghost use Rattle.pol_names.specs.Plain.{plain_refusal};
+ghost use Rattle.std.specs.Prelude.{◌≡◌, [], IfOk, unwrap_or};
 ghost use Rattle.pol_properties.specs.Properties.{value_of, without_key};
 ghost use Rattle.pol_readers.specs.Reading.{Gives, found};
 ghost use Rattle.pol_requests.specs.Keys.{base_key};
 ghost use Rattle.pol_bodies.specs.Bodies as spec;
 
+use crate::held::Held;
+use crate::keys;
 use pol_names::{NameRefused, Namespace, NamespaceRefused, Plain};
 use pol_properties::{Properties, Property};
 use pol_readers::{Entries, Form, ReadError, field, object, optional, under_key, whole};
@@ -16,19 +16,14 @@ use serde_json::Value;
 use std::alloc::Global;
 
 /// A plain name, which is bad as a whole where it is none.
-#[derive(Debug, Drop)]
-pub(crate) struct PlainText {
-    pub name: Plain,
-}
-
 #[tactic(auto, unfolding(crate::specs::Bodies::plain_name, pol_readers::specs::Forms::holds))]
-impl Form for PlainText {
-    ghost form = { spec.plain_name };
+impl Form for Held<Plain> {
+    ghost shape = { spec.plain_name };
 
     fn read(alloc: Global, value: &Value) -> Result<Self, ReadError> {
         let text = Text::read(alloc, value)?;
         match Plain::new(alloc, text.as_str()) {
-            Ok(name) => Ok(PlainText { name }),
+            Ok(name) => Ok(Held::new(name)),
             Err(NameRefused::OutOfMemory) => Err(ReadError::OutOfMemory),
             Err(_) => Err(ReadError::here(alloc)),
         }
@@ -36,19 +31,14 @@ impl Form for PlainText {
 }
 
 /// A namespace, as the list of its levels. It is one field, into which no path goes.
-#[derive(Debug, Drop)]
-pub(crate) struct Levels {
-    pub namespace: Namespace,
-}
-
 #[tactic(auto, unfolding(crate::specs::Bodies::levels, pol_readers::specs::Forms::holds))]
-impl Form for Levels {
-    ghost form = { spec.levels };
+impl Form for Held<Namespace> {
+    ghost shape = { spec.levels };
 
     fn read(alloc: Global, value: &Value) -> Result<Self, ReadError> {
         let levels: Listed<Text> = whole(alloc, value)?;
         match Namespace::from_levels(alloc, levels.as_slice()) {
-            Ok(namespace) => Ok(Levels { namespace }),
+            Ok(namespace) => Ok(Held::new(namespace)),
             Err(NamespaceRefused::OutOfMemory) => Err(ReadError::OutOfMemory),
             Err(_) => Err(ReadError::here(alloc)),
         }
@@ -56,19 +46,14 @@ impl Form for Levels {
 }
 
 /// An object of texts.
-#[derive(Debug, Drop)]
-pub(crate) struct TextMap {
-    pub properties: Properties,
-}
-
 #[tactic(auto, unfolding(crate::specs::Bodies::text_map))]
-impl Form for TextMap {
-    ghost form = { spec.text_map };
+impl Form for Held<Properties> {
+    ghost shape = { spec.text_map };
 
     fn read(alloc: Global, value: &Value) -> Result<Self, ReadError> {
         let entries: Entries<Text> = Entries::read(alloc, value)?;
         let properties = properties_of(alloc, entries)?;
-        Ok(TextMap { properties })
+        Ok(Held::new(properties))
     }
 }
 
@@ -85,18 +70,18 @@ fn properties_of(alloc: Global, entries: Entries<Text>) -> Result<Properties, Ou
 }
 
 /// The properties of a field that may be absent.
-fn given(alloc: Global, texts: Option<TextMap>) -> Properties
-    ensures { result ≡ spec.given texts }
+fn given(alloc: Global, properties: Option<Held<Properties>>) -> Properties
+    ensures { result ≡ unwrap_or properties [] }
 {
-    match texts {
-        Some(texts) => texts.properties,
+    match properties {
+        Some(properties) => properties.into_value(),
         None => Properties::new(alloc),
     }
 }
 
 /// The texts of a field that may be absent.
 fn listed(alloc: Global, texts: Option<Listed<Text>>) -> Listed<Text>
-    ensures { result ≡ spec.listed texts }
+    ensures { result ≡ unwrap_or texts [] }
 {
     match texts {
         Some(texts) => texts,
@@ -113,14 +98,14 @@ pub struct NewNamespace {
 
 #[tactic(auto, unfolding(crate::specs::Bodies::new_namespace))]
 impl Form for NewNamespace {
-    ghost form = { spec.new_namespace };
+    ghost shape = { spec.new_namespace };
 
     fn read(alloc: Global, value: &Value) -> Result<Self, ReadError> {
         object(alloc, value)?;
-        let named: Levels = field(alloc, value, "namespace")?;
-        let properties = optional(alloc, value, "properties")?;
+        let named: Held<Namespace> = field(alloc, value, keys::NAMESPACE)?;
+        let properties = optional(alloc, value, keys::PROPERTIES)?;
         Ok(NewNamespace {
-            namespace: named.namespace,
+            namespace: named.into_value(),
             properties: given(alloc, properties),
         })
     }
@@ -135,12 +120,12 @@ pub struct PropertyUpdates {
 
 #[tactic(auto, unfolding(crate::specs::Bodies::property_updates))]
 impl Form for PropertyUpdates {
-    ghost form = { spec.property_updates };
+    ghost shape = { spec.property_updates };
 
     fn read(alloc: Global, value: &Value) -> Result<Self, ReadError> {
         object(alloc, value)?;
-        let removals = optional(alloc, value, "removals")?;
-        let updates = optional(alloc, value, "updates")?;
+        let removals = optional(alloc, value, keys::REMOVALS)?;
+        let updates = optional(alloc, value, keys::UPDATES)?;
         Ok(PropertyUpdates {
             removals: listed(alloc, removals),
             updates: given(alloc, updates),
@@ -157,11 +142,11 @@ pub(crate) struct BasedProperties {
 
 #[tactic(auto, unfolding(crate::specs::Bodies::based_properties))]
 impl Form for BasedProperties {
-    ghost form = { spec.based_properties };
+    ghost shape = { spec.based_properties };
 
     fn read(alloc: Global, value: &Value) -> Result<Self, ReadError> {
-        let texts = TextMap::read(alloc, value)?;
-        let mut properties = texts.properties;
+        let texts: Held<Properties> = Held::read(alloc, value)?;
+        let mut properties = texts.into_value();
         let outcome = take_base(alloc, &mut properties);
         let base = under_key(alloc, BASE_KEY, outcome)?;
         Ok(BasedProperties { base, properties })
@@ -187,11 +172,11 @@ pub(crate) struct Storage {
 
 #[tactic(auto, unfolding(crate::specs::Bodies::storage))]
 impl Form for Storage {
-    ghost form = { spec.storage };
+    ghost shape = { spec.storage };
 
     fn read(alloc: Global, value: &Value) -> Result<Self, ReadError> {
         object(alloc, value)?;
-        let allowed = optional(alloc, value, "allowedLocations")?;
+        let allowed = optional(alloc, value, keys::ALLOWED_LOCATIONS)?;
         Ok(Storage {
             allowed: listed(alloc, allowed),
         })
@@ -210,16 +195,16 @@ pub struct NewCatalog {
 
 #[tactic(auto, unfolding(crate::specs::Bodies::new_catalog))]
 impl Form for NewCatalog {
-    ghost form = { spec.new_catalog };
+    ghost shape = { spec.new_catalog };
 
     fn read(alloc: Global, value: &Value) -> Result<Self, ReadError> {
         object(alloc, value)?;
-        let named: PlainText = field(alloc, value, "name")?;
-        let kind: Option<Text> = optional(alloc, value, "type")?;
-        let based: BasedProperties = field(alloc, value, "properties")?;
-        let stored = optional(alloc, value, "storageConfigInfo")?;
+        let named: Held<Plain> = field(alloc, value, keys::NAME)?;
+        let kind: Option<Text> = optional(alloc, value, keys::TYPE)?;
+        let based: BasedProperties = field(alloc, value, keys::PROPERTIES)?;
+        let stored = optional(alloc, value, keys::STORAGE_CONFIG_INFO)?;
         Ok(NewCatalog {
-            name: named.name,
+            name: named.into_value(),
             external: is_external(kind),
             base: based.base,
             properties: based.properties,
@@ -233,7 +218,7 @@ fn is_external(kind: Option<Text>) -> bool
     ensures { result ≡ spec.is_external kind }
 {
     match kind {
-        Some(kind) => kind.as_str() != "INTERNAL",
+        Some(kind) => kind.as_str() != keys::INTERNAL,
         None => false,
     }
 }
@@ -256,11 +241,11 @@ pub struct CatalogBody {
 
 #[tactic(auto, unfolding(crate::specs::Bodies::catalog_body))]
 impl Form for CatalogBody {
-    ghost form = { spec.catalog_body };
+    ghost shape = { spec.catalog_body };
 
     fn read(alloc: Global, value: &Value) -> Result<Self, ReadError> {
         object(alloc, value)?;
-        let catalog = field(alloc, value, "catalog")?;
+        let catalog = field(alloc, value, keys::CATALOG)?;
         Ok(CatalogBody { catalog })
     }
 }

@@ -1,5 +1,5 @@
 //! Bodies as requests read them.
-ghost use Rattle.pol_readers.specs.Forms.{body};
+ghost use Rattle.pol_readers.specs.Shape.{body};
 ghost use Rattle.pol_requests.specs.Refused.{Gives};
 ghost use Rattle.pol_bodies.specs.Body as spec;
 
@@ -11,7 +11,7 @@ use std::alloc::Global;
 /// What a body is read as. Its first bad field is told by its path.
 #[tactic(auto, using(crate::proofs::UnreadLemmas::read_body, crate::proofs::UnreadLemmas::unread_body))]
 pub fn body_of<F: Form>(alloc: Global, bytes: &[u8]) -> Result<F, RouteRefused>
-    ensures { Gives (spec.body_of (body F.form bytes.now)) result }
+    ensures { Gives (spec.body_of (body F.shape bytes.now)) result }
 {
     match read_body(alloc, bytes) {
         Ok(read) => Ok(read),

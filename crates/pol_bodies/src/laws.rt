@@ -1,37 +1,39 @@
 //! Laws of bodies: theorems over the definitions in `specs/`. Their bodies are empty.
-ghost use Rattle.pol_bodies.specs.Laws.{CatalogBodiesAreExact, CatalogRoleBodiesAreExact, GrantBodiesAreExact, NewNamespacesAreExact, PrincipalBodiesAreExact, PrincipalRoleBodiesAreExact, PropertyUpdatesAreExact};
+ghost use Rattle.std.specs.Prelude.{◌≡◌, codes};
+ghost use Rattle.pol_requests.specs.Keys.{base_key};
+ghost use Rattle.pol_bodies.specs.Laws.{GrantsMayBeGranted};
 
-/// A body creates a catalogue exactly where its grammar says so, the one that is read.
-pub fn catalog_bodies_are_exact()
-    ensures { CatalogBodiesAreExact }
+use crate::keys::{
+    ALLOWED_LOCATIONS, CATALOG, CATALOG_ROLE, GRANT, INTERNAL, NAME, NAMESPACE, PRINCIPAL,
+    PRINCIPAL_ROLE, PRIVILEGE, PROPERTIES, REMOVALS, STORAGE_CONFIG_INFO, TABLE, TABLE_NAME, TYPE,
+    UPDATES, VIEW, VIEW_NAME,
+};
+
+/// The keys and the words are those of the Iceberg REST OpenAPI and of the Apache Polaris Management Service.
+pub fn keys_are_those()
+    ensures allowed_locations { ALLOWED_LOCATIONS.now ≡ codes "allowedLocations" }
+    ensures base { base_key ≡ codes "default-base-location" }
+    ensures catalog { CATALOG.now ≡ codes "catalog" }
+    ensures catalog_role { CATALOG_ROLE.now ≡ codes "catalogRole" }
+    ensures grant { GRANT.now ≡ codes "grant" }
+    ensures internal { INTERNAL.now ≡ codes "INTERNAL" }
+    ensures name { NAME.now ≡ codes "name" }
+    ensures namespace { NAMESPACE.now ≡ codes "namespace" }
+    ensures principal { PRINCIPAL.now ≡ codes "principal" }
+    ensures principal_role { PRINCIPAL_ROLE.now ≡ codes "principalRole" }
+    ensures privilege { PRIVILEGE.now ≡ codes "privilege" }
+    ensures properties { PROPERTIES.now ≡ codes "properties" }
+    ensures removals { REMOVALS.now ≡ codes "removals" }
+    ensures storage { STORAGE_CONFIG_INFO.now ≡ codes "storageConfigInfo" }
+    ensures table { TABLE.now ≡ codes "table" }
+    ensures table_name { TABLE_NAME.now ≡ codes "tableName" }
+    ensures kind { TYPE.now ≡ codes "type" }
+    ensures updates { UPDATES.now ≡ codes "updates" }
+    ensures view { VIEW.now ≡ codes "view" }
+    ensures view_name { VIEW_NAME.now ≡ codes "viewName" }
 {}
 
-/// A body creates a namespace exactly where its grammar says so, the one that is read.
-pub fn new_namespaces_are_exact()
-    ensures { NewNamespacesAreExact }
-{}
-
-/// A body changes properties exactly where its grammar says so, as it is read.
-pub fn property_updates_are_exact()
-    ensures { PropertyUpdatesAreExact }
-{}
-
-/// A body creates a principal exactly where its grammar says so, the one that is read.
-pub fn principal_bodies_are_exact()
-    ensures { PrincipalBodiesAreExact }
-{}
-
-/// A body names a principal role exactly where its grammar says so, the one that is read.
-pub fn principal_role_bodies_are_exact()
-    ensures { PrincipalRoleBodiesAreExact }
-{}
-
-/// A body names a role of a catalogue exactly where its grammar says so, the one that is read.
-pub fn catalog_role_bodies_are_exact()
-    ensures { CatalogRoleBodiesAreExact }
-{}
-
-/// A body tells a grant exactly where its grammar says so, the one that is read.
-pub fn grant_bodies_are_exact()
-    ensures { GrantBodiesAreExact }
+/// A grant that is read of a body may be granted: its privilege, on the kind of what it is on.
+pub fn grants_may_be_granted()
+    ensures { GrantsMayBeGranted }
 {}

@@ -3,6 +3,8 @@
 
 mod bodies;
 mod body;
+mod held;
+pub mod keys;
 pub mod laws;
 mod management_bodies;
 

@@ -1,14 +1,14 @@
 //! The bodies of management requests (Apache Polaris Management Service), each as a form.
 ghost use Rattle.std.specs.Prelude.{◌≡◌};
 ghost use Rattle.serde_json.specs.View.{view};
-ghost use Rattle.pol_readers.specs.Forms as forms;
 ghost use Rattle.pol_readers.specs.Reading.{Gives};
 ghost use Rattle.pol_bodies.specs.ManagementBodies as spec;
 
-use crate::bodies::{Levels, PlainText};
+use crate::held::Held;
+use crate::keys;
 use pol_access::{Privilege, SecurableKind, grantable};
 use pol_commands::{Grant, GrantedOn};
-use pol_names::{Identifier, Name, NameRefused, Plain};
+use pol_names::{Identifier, Name, NameRefused, Namespace, Plain};
 use pol_readers::{Form, ReadError, Word, field, holds, object, one_of, under_key};
 use pol_types::Text;
 use serde_json::Value;
@@ -22,13 +22,25 @@ pub(crate) struct Named {
 
 #[tactic(auto, unfolding(crate::specs::ManagementBodies::named))]
 impl Form for Named {
-    ghost form = { spec.named };
+    ghost shape = { spec.named };
 
     fn read(alloc: Global, value: &Value) -> Result<Self, ReadError> {
         object(alloc, value)?;
-        let read: PlainText = field(alloc, value, "name")?;
-        Ok(Named { name: read.name })
+        let given: Held<Plain> = field(alloc, value, keys::NAME)?;
+        Ok(Named {
+            name: given.into_value(),
+        })
     }
+}
+
+/// An object that has a named one under a key: the name.
+#[tactic(auto, unfolding(crate::specs::ManagementBodies::name_under))]
+fn name_under(alloc: Global, value: &Value, key: &str) -> Result<Plain, ReadError>
+    ensures { Gives result ((spec.name_under key.now).read (view value.now)) }
+{
+    object(alloc, value)?;
+    let held: Named = field(alloc, value, key)?;
+    Ok(held.name)
 }
 
 /// The body that creates a principal (CreatePrincipalRequest).
@@ -39,12 +51,11 @@ pub struct PrincipalBody {
 
 #[tactic(auto, unfolding(crate::specs::ManagementBodies::principal_body))]
 impl Form for PrincipalBody {
-    ghost form = { spec.principal_body };
+    ghost shape = { spec.principal_body };
 
     fn read(alloc: Global, value: &Value) -> Result<Self, ReadError> {
-        object(alloc, value)?;
-        let read: Named = field(alloc, value, "principal")?;
-        Ok(PrincipalBody { name: read.name })
+        let name = name_under(alloc, value, keys::PRINCIPAL)?;
+        Ok(PrincipalBody { name })
     }
 }
 
@@ -56,12 +67,11 @@ pub struct PrincipalRoleBody {
 
 #[tactic(auto, unfolding(crate::specs::ManagementBodies::principal_role_body))]
 impl Form for PrincipalRoleBody {
-    ghost form = { spec.principal_role_body };
+    ghost shape = { spec.principal_role_body };
 
     fn read(alloc: Global, value: &Value) -> Result<Self, ReadError> {
-        object(alloc, value)?;
-        let read: Named = field(alloc, value, "principalRole")?;
-        Ok(PrincipalRoleBody { name: read.name })
+        let name = name_under(alloc, value, keys::PRINCIPAL_ROLE)?;
+        Ok(PrincipalRoleBody { name })
     }
 }
 
@@ -73,29 +83,23 @@ pub struct CatalogRoleBody {
 
 #[tactic(auto, unfolding(crate::specs::ManagementBodies::catalog_role_body))]
 impl Form for CatalogRoleBody {
-    ghost form = { spec.catalog_role_body };
+    ghost shape = { spec.catalog_role_body };
 
     fn read(alloc: Global, value: &Value) -> Result<Self, ReadError> {
-        object(alloc, value)?;
-        let read: Named = field(alloc, value, "catalogRole")?;
-        Ok(CatalogRoleBody { name: read.name })
+        let name = name_under(alloc, value, keys::CATALOG_ROLE)?;
+        Ok(CatalogRoleBody { name })
     }
 }
 
 /// A name, which is bad as a whole where it is none.
-#[derive(Debug, Drop)]
-pub(crate) struct NameText {
-    pub name: Name,
-}
-
 #[tactic(auto, unfolding(crate::specs::ManagementBodies::name_text, pol_readers::specs::Forms::holds))]
-impl Form for NameText {
-    ghost form = { spec.name_text };
+impl Form for Held<Name> {
+    ghost shape = { spec.name_text };
 
     fn read(alloc: Global, value: &Value) -> Result<Self, ReadError> {
         let text = Text::read(alloc, value)?;
         match Name::new(alloc, text.as_str()) {
-            Ok(name) => Ok(NameText { name }),
+            Ok(name) => Ok(Held::new(name)),
             Err(NameRefused::OutOfMemory) => Err(ReadError::OutOfMemory),
             Err(_) => Err(ReadError::here(alloc)),
         }
@@ -103,19 +107,14 @@ impl Form for NameText {
 }
 
 /// The text of a privilege.
-#[derive(Debug, Drop)]
-pub(crate) struct PrivilegeText {
-    pub privilege: Privilege,
-}
-
-#[tactic(auto, unfolding(crate::specs::ManagementBodies::privilege_text))]
-impl Form for PrivilegeText {
-    ghost form = { spec.privilege_text };
+#[tactic(auto, unfolding(crate::specs::ManagementBodies::privilege_text, pol_readers::specs::Forms::text))]
+impl Form for Held<Privilege> {
+    ghost shape = { spec.privilege_text };
 
     fn read(alloc: Global, value: &Value) -> Result<Self, ReadError> {
         let text = Text::read(alloc, value)?;
         match Privilege::from_text(text.as_str()) {
-            Some(privilege) => Ok(PrivilegeText { privilege }),
+            Some(privilege) => Ok(Held::new(privilege)),
             None => Err(ReadError::here(alloc)),
         }
     }
@@ -148,17 +147,18 @@ impl Word for GrantType {
 
     fn of_word(word: &str) -> Option<Self> {
         match word {
-            "catalog" => Some(GrantType::Catalog),
-            "namespace" => Some(GrantType::Namespace),
-            "table" => Some(GrantType::Table),
-            "view" => Some(GrantType::View),
+            keys::CATALOG => Some(GrantType::Catalog),
+            keys::NAMESPACE => Some(GrantType::Namespace),
+            keys::TABLE => Some(GrantType::Table),
+            keys::VIEW => Some(GrantType::View),
             _ => None,
         }
     }
 }
 
+#[tactic(auto, unfolding(crate::specs::ManagementBodies::grant_type))]
 impl Form for GrantType {
-    ghost form = { forms.one_of spec.type_words };
+    ghost shape = { spec.grant_type };
 
     fn read(alloc: Global, value: &Value) -> Result<Self, ReadError> {
         one_of(alloc, value)
@@ -166,48 +166,39 @@ impl Form for GrantType {
 }
 
 /// A grant, whose privilege may be granted on what it is on (GrantResource).
-#[derive(Debug, Drop)]
-pub(crate) struct GrantObject {
-    pub grant: Grant,
-}
-
-#[tactic(auto, unfolding(crate::specs::ManagementBodies::grant_object))]
-impl Form for GrantObject {
-    ghost form = { spec.grant_object };
+#[tactic(auto, unfolding(crate::specs::ManagementBodies::grant))]
+impl Form for Held<Grant> {
+    ghost shape = { spec.grant };
 
     fn read(alloc: Global, value: &Value) -> Result<Self, ReadError> {
         object(alloc, value)?;
-        let kind: GrantType = field(alloc, value, "type")?;
-        let read: PrivilegeText = field(alloc, value, "privilege")?;
-        let may = holds(alloc, grantable(read.privilege, kind.kind()));
-        under_key(alloc, "privilege", may)?;
+        let kind: GrantType = field(alloc, value, keys::TYPE)?;
+        let given: Held<Privilege> = field(alloc, value, keys::PRIVILEGE)?;
+        let privilege = given.into_value();
+        let may = holds(alloc, grantable(privilege, kind.kind()));
+        under_key(alloc, keys::PRIVILEGE, may)?;
         let on = granted_on(alloc, value, kind)?;
-        Ok(GrantObject {
-            grant: Grant {
-                privilege: read.privilege,
-                on,
-            },
-        })
+        Ok(Held::new(Grant { privilege, on }))
     }
 }
 
 /// What a grant of a type is on.
 #[tactic(auto, unfolding(crate::specs::ManagementBodies::granted_on))]
 fn granted_on(alloc: Global, value: &Value, kind: GrantType) -> Result<GrantedOn, ReadError>
-    ensures { Gives result (spec.granted_on kind (view value.now)) }
+    ensures { Gives result ((spec.granted_on kind).read (view value.now)) }
 {
     match kind {
         GrantType::Catalog => Ok(GrantedOn::Catalog),
         GrantType::Namespace => {
-            let within: Levels = field(alloc, value, "namespace")?;
-            Ok(GrantedOn::Namespace(within.namespace))
+            let within: Held<Namespace> = field(alloc, value, keys::NAMESPACE)?;
+            Ok(GrantedOn::Namespace(within.into_value()))
         }
         GrantType::Table => {
-            let table = identifier(alloc, value, "tableName")?;
+            let table = identifier(alloc, value, keys::TABLE_NAME)?;
             Ok(GrantedOn::Table(table))
         }
         GrantType::View => {
-            let view = identifier(alloc, value, "viewName")?;
+            let view = identifier(alloc, value, keys::VIEW_NAME)?;
             Ok(GrantedOn::View(view))
         }
     }
@@ -216,13 +207,13 @@ fn granted_on(alloc: Global, value: &Value, kind: GrantType) -> Result<GrantedOn
 /// The full name of a table or a view, whose own name stands under that key.
 #[tactic(auto, unfolding(crate::specs::ManagementBodies::identifier))]
 fn identifier(alloc: Global, value: &Value, key: &str) -> Result<Identifier, ReadError>
-    ensures { Gives result (spec.identifier key.now (view value.now)) }
+    ensures { Gives result ((spec.identifier key.now).read (view value.now)) }
 {
-    let within: Levels = field(alloc, value, "namespace")?;
-    let read: NameText = field(alloc, value, key)?;
+    let within: Held<Namespace> = field(alloc, value, keys::NAMESPACE)?;
+    let called: Held<Name> = field(alloc, value, key)?;
     Ok(Identifier {
-        namespace: within.namespace,
-        name: read.name,
+        namespace: within.into_value(),
+        name: called.into_value(),
     })
 }
 
@@ -234,11 +225,13 @@ pub struct GrantBody {
 
 #[tactic(auto, unfolding(crate::specs::ManagementBodies::grant_body))]
 impl Form for GrantBody {
-    ghost form = { spec.grant_body };
+    ghost shape = { spec.grant_body };
 
     fn read(alloc: Global, value: &Value) -> Result<Self, ReadError> {
         object(alloc, value)?;
-        let read: GrantObject = field(alloc, value, "grant")?;
-        Ok(GrantBody { grant: read.grant })
+        let given: Held<Grant> = field(alloc, value, keys::GRANT)?;
+        Ok(GrantBody {
+            grant: given.into_value(),
+        })
     }
 }

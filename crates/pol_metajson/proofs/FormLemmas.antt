@@ -15,8 +15,8 @@ use Rattle.pol_meta.specs.declared.column.Kind.{Kind}
 use Rattle.pol_meta.specs.declared.column.Kind.TheVariants as kind
 use Rattle.pol_meta.specs.declared.column.Part.{Part}
 use Rattle.pol_meta.specs.declared.column.Part.TheVariants.{Field, Element, Key, Value}
+use Rattle.pol_readers.specs.Shape.{Shape}
 use Rattle.pol_metajson.specs.Schema.{columns_form, form_of, fresh_id, inner_columns, inner_form, is_name_among, is_named, is_seen, kind_form, list_form, map_form, nested_form, next_field, plain_form, schema, struct_field, struct_fields, struct_form}
-use Rattle.pol_metajson.specs.Shape.{Shape}
 use Rattle.pol_metajson.specs.Chain.{AreChained}
 use Rattle.pol_metajson.specs.declared.columns.Inner.{Inner}
 use Rattle.pol_metajson.specs.declared.columns.Nested.{Nested}

@@ -1,14 +1,12 @@
--- Readings one after another, and members of a list that are read one after another.
-use Rattle.std.specs.Prelude.{◌≡◌, ℕ, suc, List, [], ◌++◌, Ok, Err, refl}
+-- Members of a list that are read one after another.
+use Rattle.std.specs.Prelude.{◌≡◌, ℕ, suc, List, [], ◌++◌, Ok, refl}
 use Rattle.serde_json.specs.Data.{Data, null, boolean, number, string, array, object, Items, no_items, item}
 use Rattle.serde_json.specs.Find.{as_array}
+use Rattle.pol_readers.specs.Exactness.{next_ok, under_ok}
 use Rattle.pol_readers.specs.Grammar.{Exact}
 use Rattle.pol_readers.specs.Reading.{Reading, ◌>>=◌, found, under}
-use Rattle.pol_readers.specs.declared.path.Step.{Step}
+use Rattle.pol_readers.specs.Shape.{Shape}
 use Rattle.pol_readers.specs.declared.path.Step.TheVariants.{Place}
-
-abbrev pub chain : {S A B : Type 0} → (S → Reading A) → (A → S → Reading B) → S → Reading B
-chain first next s = first s >>= (λ found. next found s)
 
 -- the members of a list, from a place on: each is read by what those before it made, and adds what it makes
 abbrev pub chained_items : {A : Type 0} → (List A → Data → Reading (List A)) → ℕ → List A → Items → Reading (List A)
@@ -29,15 +27,6 @@ AreChained {A} grammar made (item d ds) all = (more : List A) × grammar made d 
 
 abbrev pub IsChained : {A : Type 0} → (List A → Data → List A → Type 0) → Data → List A → Type 0
 IsChained grammar d all = (ds : Items) × (d ≡ array ds) × AreChained grammar [] ds all
-
-next_ok : {A B : Type 0} (reading : Reading A) (next : A → Reading B) (value : B) → (reading >>= next) ≡ Ok value
-    → (first : A) × (reading ≡ Ok first) × (next first ≡ Ok value)
-next_ok (Ok first) next value is = (first, refl, is)
-next_ok (Err path) next value is = absurd (cc)
-
-under_ok : {A : Type 0} (step : Step) (reading : Reading A) (value : A) → under step reading ≡ Ok value → reading ≡ Ok value
-under_ok step (Ok other) value is = is
-under_ok step (Err path) value is = cc
 
 module _ {A : Type 0} {next : List A → Data → Reading (List A)} {P : List A → Data → List A → Type 0} (exact : (made : List A) → Exact (next made) (P made)) where
   items_sound : (place : ℕ) (made : List A) (ds : Items) (all : List A) → chained_items next place made ds ≡ Ok all → AreChained P made ds all
@@ -67,3 +56,11 @@ module _ {A : Type 0} {next : List A → Data → Reading (List A)} {P : List A 
 
   pub chained_exact : Exact (chained next) (IsChained P)
   chained_exact = record { sound = sound; complete = complete }
+
+-- the members of a list, each read by what those before it made
+abbrev pub in_turn : {A : Type 0} → (List A → Shape (List A)) → Shape (List A)
+in_turn next = record {
+  read = chained (λ made. (next made).read);
+  stands = IsChained (λ made. (next made).stands);
+  exact = chained_exact (λ made. (next made).exact);
+}

@@ -1,6 +1,6 @@
 -- Ids and what of an object is read for its form alone.
 use Rattle.std.specs.Prelude.{ℕ}
-use Rattle.pol_metajson.specs.Shape.{Shape, whole_number}
+use Rattle.pol_readers.specs.Shape.{Shape, whole_number}
 
 -- ids of columns; of schemas, specs and orders; and of partition fields (Iceberg table spec, Reserved Field IDs and
 -- Partition Evolution)

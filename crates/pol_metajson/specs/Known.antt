@@ -1,10 +1,12 @@
 -- Ids that must be known, each at its place.
-use Rattle.std.specs.Prelude.{◌≡◌, ℕ, suc, Bool, true, false, ◌&&◌, List, [], ◌∷◌, Ok, Err, ⊤, refl}
+use Rattle.std.specs.Prelude.{◌≡◌, ℕ, suc, Bool, true, false, ◌&&◌, List, [], ◌∷◌, Ok, ⊤, refl}
 use Rattle.std.specs.List.{list_all}
 use Rattle.serde_json.specs.Data.{Data}
+use Rattle.pol_readers.specs.Exactness.{under_ok}
 use Rattle.pol_readers.specs.Forms.{holds}
 use Rattle.pol_readers.specs.Grammar.{Exact}
 use Rattle.pol_readers.specs.Reading.{Reading, ◌>>=◌, under}
+use Rattle.pol_readers.specs.Shape.{Shape}
 use Rattle.pol_readers.specs.declared.path.Step.{Step}
 use Rattle.pol_readers.specs.declared.path.Step.TheVariants.{Key, Place}
 
@@ -42,13 +44,17 @@ from_complete test place (id ∷ ids) nothing so =
     step_complete (Place place) (test id) (list_all test ids) (known_from test (suc place) ids) nothing
     (from_complete test (suc place) ids nothing) so
 
-under_ok : (step : Step) (reading : Reading ⊤) (nothing : ⊤) → under step reading ≡ Ok nothing → reading ≡ Ok nothing
-under_ok step (Ok other) nothing is = is
-under_ok step (Err path) nothing is = cc
-
 -- all ids are known exactly where each passes the test
 pub all_known_exact : (key : List ℕ) (test : ℕ → Bool) (ids : List ℕ) → Exact {S = Data} (λ d. all_known key test ids) (λ d nothing. list_all test ids ≡ true)
 all_known_exact key test ids = record {
   sound = λ d nothing is. from_sound test 0 ids nothing (under_ok (Key key) (known_from test 0 ids) nothing is);
   complete = λ d nothing so. rw (from_complete test 0 ids nothing so) refl;
+}
+
+-- ids of the member of a key that must all pass a test
+abbrev pub known_at : List ℕ → (ℕ → Bool) → List ℕ → Shape ⊤
+known_at key test ids = record {
+  read = λ d. all_known key test ids;
+  stands = λ d nothing. list_all test ids ≡ true;
+  exact = all_known_exact key test ids;
 }

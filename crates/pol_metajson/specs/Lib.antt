@@ -8,6 +8,5 @@ pub mod Numeral
 pub mod Order
 pub mod Partition
 pub mod Schema
-pub mod Shape
 pub mod Table
 pub mod Transform

@@ -6,8 +6,8 @@ use Rattle.pol_meta.specs.declared.sort.NullOrder.{NullOrder}
 use Rattle.pol_meta.specs.declared.sort.NullOrder.TheVariants.{NullsFirst, NullsLast}
 use Rattle.pol_meta.specs.declared.sort.SortField.{SortField}
 use Rattle.pol_meta.specs.declared.sort.UnboundOrder.{UnboundOrder}
+use Rattle.pol_readers.specs.Shape.{Shape, ◌>>=◌, an_object, done, field, list, one_of, optional}
 use Rattle.pol_metajson.specs.Ids.{column_id, id}
-use Rattle.pol_metajson.specs.Shape.{Shape, ◌>>=◌, an_object, done, field, list, one_of, optional}
 use Rattle.pol_metajson.specs.Transform.{transform}
 use Rattle.pol_metajson.specs.declared.keys.TheConstants.{ASC, DESC, DIRECTION, FIELDS, NULL_ORDER, NULLS_FIRST, NULLS_LAST, ORDER_ID, SOURCE_ID, TRANSFORM}
 

@@ -1,8 +1,8 @@
 -- Partition specs that are asked for (Iceberg table spec, Partition Specs).
 use Rattle.pol_meta.specs.declared.partition.UnboundField.{UnboundField}
 use Rattle.pol_meta.specs.declared.partition.UnboundSpec.{UnboundSpec}
+use Rattle.pol_readers.specs.Shape.{Shape, ◌>>=◌, an_object, done, field, list, optional, text}
 use Rattle.pol_metajson.specs.Ids.{column_id, field_id, id}
-use Rattle.pol_metajson.specs.Shape.{Shape, ◌>>=◌, an_object, done, field, list, optional, text}
 use Rattle.pol_metajson.specs.Transform.{transform}
 use Rattle.pol_metajson.specs.declared.keys.TheConstants.{FIELD_ID, FIELDS, NAME, SOURCE_ID, SPEC_ID, TRANSFORM}
 

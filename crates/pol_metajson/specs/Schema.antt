@@ -10,9 +10,11 @@ use Rattle.pol_meta.specs.declared.column.Part.{Part}
 use Rattle.pol_meta.specs.declared.column.Part.TheVariants.{Field, Element, Key, Value}
 use Rattle.pol_meta.specs.declared.column.Kind.TheVariants as kind
 use Rattle.pol_meta.specs.declared.schema.Schema.{Schema}
+use Rattle.pol_readers.specs.Shape.{Shape, ◌>>=◌, an_object, done, field, fixed, holds_at, list, one_of, optional, text, text_of, text_or, truth}
+use Rattle.pol_metajson.specs.Chain.{in_turn}
 use Rattle.pol_metajson.specs.Ids.{column_id, id}
 use Rattle.pol_metajson.specs.Kind.{kind_of}
-use Rattle.pol_metajson.specs.Shape.{Shape, ◌>>=◌, an_object, done, field, fixed, holds_at, in_turn, known_at, list, one_of, optional, text, text_of, text_or, truth}
+use Rattle.pol_metajson.specs.Known.{known_at}
 use Rattle.pol_metajson.specs.declared.columns.Inner.{Inner}
 use Rattle.pol_metajson.specs.declared.columns.Nested.{Nested}
 use Rattle.pol_metajson.specs.declared.columns.Nested.TheVariants as nested

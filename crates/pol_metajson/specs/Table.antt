@@ -7,10 +7,10 @@ use Rattle.pol_meta.specs.Creation.{IsAskedFor}
 use Rattle.pol_meta.specs.Valid.{IsLong}
 use Rattle.pol_meta.specs.declared.partition.UnboundSpec.{UnboundSpec}
 use Rattle.pol_meta.specs.declared.sort.UnboundOrder.{UnboundOrder}
+use Rattle.pol_readers.specs.Shape.{Shape, ◌>>=◌, an_object, done, entries, field, optional, rule, text, truth}
 use Rattle.pol_metajson.specs.Order.{unbound_order}
 use Rattle.pol_metajson.specs.Partition.{unbound_spec}
 use Rattle.pol_metajson.specs.Schema.{schema}
-use Rattle.pol_metajson.specs.Shape.{Shape, ◌>>=◌, an_object, done, entries, field, optional, rule, text, truth}
 use Rattle.pol_metajson.specs.declared.keys.TheConstants.{LOCATION, NAME, PARTITION_SPEC, PROPERTIES, SCHEMA, STAGE_CREATE, WRITE_ORDER}
 use Rattle.pol_metajson.specs.declared.table.TableRequest.{TableRequest}
 

@@ -4,8 +4,8 @@ use Rattle.std.specs.Option.{option_or}
 use Rattle.pol_readers.specs.Forms.{meaning}
 use Rattle.pol_meta.specs.declared.transform.Transform.{Transform}
 use Rattle.pol_meta.specs.declared.transform.Transform.TheVariants.{Identity, Void, Year, Month, Day, Hour, Bucket, Truncate}
+use Rattle.pol_readers.specs.Shape.{Shape, text_of}
 use Rattle.pol_metajson.specs.Brackets.{sized}
-use Rattle.pol_metajson.specs.Shape.{Shape, text_of}
 
 -- those without a number
 abbrev pub plain_transforms : List (List ℕ × Transform)

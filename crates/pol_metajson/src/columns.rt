@@ -41,7 +41,7 @@ impl Word for Nested {
 
 #[tactic(auto, unfolding(crate::specs::Schema::nested_kind))]
 impl Form for Nested {
-    ghost form = { spec.nested_kind.read };
+    ghost shape = { spec.nested_kind };
 
     fn read(alloc: Global, value: &Value) -> Result<Self, ReadError> {
         one_of(alloc, value)

@@ -23,7 +23,7 @@ impl Word for Body<Direction> {
 
 #[tactic(auto, unfolding(crate::specs::Order::direction))]
 impl Form for Body<Direction> {
-    ghost form = { spec.direction.read };
+    ghost shape = { spec.direction };
 
     fn read(alloc: Global, value: &Value) -> Result<Self, ReadError> {
         one_of(alloc, value)
@@ -44,7 +44,7 @@ impl Word for Body<NullOrder> {
 
 #[tactic(auto, unfolding(crate::specs::Order::null_order))]
 impl Form for Body<NullOrder> {
-    ghost form = { spec.null_order.read };
+    ghost shape = { spec.null_order };
 
     fn read(alloc: Global, value: &Value) -> Result<Self, ReadError> {
         one_of(alloc, value)
@@ -53,7 +53,7 @@ impl Form for Body<NullOrder> {
 
 #[tactic(auto, unfolding(crate::specs::Order::sort_field))]
 impl Form for Body<SortField> {
-    ghost form = { spec.sort_field.read };
+    ghost shape = { spec.sort_field };
 
     fn read(alloc: Global, value: &Value) -> Result<Self, ReadError> {
         object(alloc, value)?;
@@ -72,7 +72,7 @@ impl Form for Body<SortField> {
 
 #[tactic(auto, unfolding(crate::specs::Order::unbound_order))]
 impl Form for Body<UnboundOrder> {
-    ghost form = { spec.unbound_order.read };
+    ghost shape = { spec.unbound_order };
 
     fn read(alloc: Global, value: &Value) -> Result<Self, ReadError> {
         object(alloc, value)?;

@@ -12,7 +12,7 @@ use std::alloc::Global;
 
 #[tactic(auto, unfolding(crate::specs::Partition::unbound_field))]
 impl Form for Body<UnboundField> {
-    ghost form = { spec.unbound_field.read };
+    ghost shape = { spec.unbound_field };
 
     fn read(alloc: Global, value: &Value) -> Result<Self, ReadError> {
         object(alloc, value)?;
@@ -41,7 +41,7 @@ fn given_id(given: Option<FieldId>) -> Option<u32>
 
 #[tactic(auto, unfolding(crate::specs::Partition::unbound_spec))]
 impl Form for Body<UnboundSpec> {
-    ghost form = { spec.unbound_spec.read };
+    ghost shape = { spec.unbound_spec };
 
     fn read(alloc: Global, value: &Value) -> Result<Self, ReadError> {
         object(alloc, value)?;

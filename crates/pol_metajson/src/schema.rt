@@ -19,7 +19,7 @@ const NESTING: u32 = 32;
 
 #[tactic(auto, unfolding(crate::specs::Schema::columns_form))]
 impl Form for Body<Listed<Column>> {
-    ghost form = { spec.columns_form.read };
+    ghost shape = { spec.columns_form };
 
     fn read(alloc: Global, value: &Value) -> Result<Self, ReadError> {
         let mut seen = Vec::new(alloc);
@@ -30,7 +30,7 @@ impl Form for Body<Listed<Column>> {
 
 #[tactic(auto, unfolding(crate::specs::Schema::schema))]
 impl Form for Body<Schema> {
-    ghost form = { spec.schema.read };
+    ghost shape = { spec.schema };
 
     fn read(alloc: Global, value: &Value) -> Result<Self, ReadError> {
         object(alloc, value)?;

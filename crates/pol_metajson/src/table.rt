@@ -38,7 +38,7 @@ pub fn read_create_table(alloc: Global, body: &[u8]) -> Result<Body<TableRequest
 
 #[tactic(auto, unfolding(crate::specs::Table::table_name, pol_readers::specs::Forms::holds))]
 impl Form for Body<Name> {
-    ghost form = { spec.table_name.read };
+    ghost shape = { spec.table_name };
 
     fn read(alloc: Global, value: &Value) -> Result<Self, ReadError> {
         let text = Text::read(alloc, value)?;
@@ -52,7 +52,7 @@ impl Form for Body<Name> {
 
 #[tactic(auto, unfolding(crate::specs::Table::text_map))]
 impl Form for Body<Properties> {
-    ghost form = { spec.text_map.read };
+    ghost shape = { spec.text_map };
 
     fn read(alloc: Global, value: &Value) -> Result<Self, ReadError> {
         let entries: Entries<Text> = Entries::read(alloc, value)?;
@@ -75,7 +75,7 @@ fn properties_of(alloc: Global, entries: Entries<Text>) -> Result<Properties, Ou
 
 #[tactic(auto, unfolding(crate::specs::Table::table_request))]
 impl Form for Body<TableRequest> {
-    ghost form = { spec.table_request.read };
+    ghost shape = { spec.table_request };
 
     fn read(alloc: Global, value: &Value) -> Result<Self, ReadError> {
         object(alloc, value)?;

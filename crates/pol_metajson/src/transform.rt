@@ -10,7 +10,7 @@ use std::alloc::Global;
 
 #[tactic(auto, unfolding(crate::specs::Transform::transform, pol_readers::specs::Forms::text))]
 impl Form for Body<Transform> {
-    ghost form = { spec.transform.read };
+    ghost shape = { spec.transform };
 
     fn read(alloc: Global, value: &Value) -> Result<Self, ReadError> {
         match value.as_str().and_then(|word| transform_of(word)) {

@@ -20,7 +20,7 @@ found_ok : {A : Type 0} (o : Option A) (value : A) → found o ≡ Ok value → 
 found_ok None value is = cc
 found_ok (Some other) value is = cc
 
-under_ok : {A : Type 0} (step : Step) (reading : Reading A) (value : A) → under step reading ≡ Ok value → reading ≡ Ok value
+pub under_ok : {A : Type 0} (step : Step) (reading : Reading A) (value : A) → under step reading ≡ Ok value → reading ≡ Ok value
 under_ok step (Ok other) value is = is
 under_ok step (Err path) value is = cc
 
@@ -28,7 +28,7 @@ as_one_ok : {A : Type 0} (reading : Reading A) (value : A) → as_one reading �
 as_one_ok (Ok other) value is = is
 as_one_ok (Err path) value is = cc
 
-next_ok : {A B : Type 0} (reading : Reading A) (next : A → Reading B) (value : B) → (reading >>= next) ≡ Ok value → (first : A) × (reading ≡ Ok first) × (next first ≡ Ok value)
+pub next_ok : {A B : Type 0} (reading : Reading A) (next : A → Reading B) (value : B) → (reading >>= next) ≡ Ok value → (first : A) × (reading ≡ Ok first) × (next first ≡ Ok value)
 next_ok (Ok first) next value is = (first, refl, is)
 next_ok (Err path) next value is = absurd (cc)
 
@@ -73,6 +73,16 @@ pub rules_under_exact : {S : Type 0} (step : Step) (rule : Bool) → Exact {S = 
 rules_under_exact step rule = record {
   sound = λ s nothing is. rule_sound rule nothing (under_ok step (form.holds rule) nothing is);
   complete = λ s nothing so. rw (rule_complete rule nothing so) refl;
+}
+
+-- a value that there must be, told at the value itself or at a step
+pub found_exact : {S A : Type 0} (wanted : Option A) → Exact {S = S} (λ s. found wanted) (λ s value. wanted ≡ Some value)
+found_exact wanted = record { sound = λ s value. found_ok wanted value; complete = λ s value is. rw is refl }
+
+pub found_under_exact : {S A : Type 0} (step : Step) (wanted : Option A) → Exact {S = S} (λ s. under step (found wanted)) (λ s value. wanted ≡ Some value)
+found_under_exact step wanted = record {
+  sound = λ s value is. found_ok wanted value (under_ok step (found wanted) value is);
+  complete = λ s value is. rw is refl;
 }
 
 object_sound : (d : Data) (nothing : Unit {0}) → form.is_object d ≡ Ok nothing → IsObject d nothing

@@ -5,3 +5,4 @@ pub mod Grammar
 pub mod Laws
 pub mod Path
 pub mod Reading
+pub mod Shape

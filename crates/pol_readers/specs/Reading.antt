@@ -13,6 +13,10 @@ abbrev pub ◌>>=◌ : {A B : Type 0} → Reading A → (A → Reading B) → Re
 Ok value >>= next = next value
 Err path >>= next = Err path
 
+-- the same, where both read one value
+abbrev pub chain : {S A B : Type 0} → (S → Reading A) → (A → S → Reading B) → S → Reading B
+chain first next s = first s >>= (λ found. next found s)
+
 -- the value itself is bad
 abbrev pub bad : {A : Type 0} → Reading A
 bad = Err []

@@ -13,7 +13,7 @@ use std::alloc::Global;
 /// names a cause.
 #[tactic(auto, unfolding(crate::specs::Forms::body))]
 pub fn read_body<F: Form>(alloc: Global, bytes: &[u8]) -> Result<F, ReadError>
-    ensures { Gives result (spec.body F.form bytes.now) }
+    ensures { Gives result (spec.body F.shape.read bytes.now) }
 {
     let value = parsed(alloc, bytes)?;
     object(alloc, &value)?;

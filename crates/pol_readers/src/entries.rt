@@ -3,10 +3,10 @@ ghost use Rattle.serde_json.specs.View.{members_view};
 ghost use Rattle.pol_readers.specs.Entries.{KeysRise};
 ghost use Rattle.pol_readers.specs.Forms as spec;
 ghost use Rattle.pol_readers.specs.Reading.{Gives};
+ghost use Rattle.pol_readers.specs.Shape as shapes;
 
 use crate::error::ReadError;
 use crate::form::{Form, under_key};
-use crate::grammar::Exactly;
 use pol_types::Text;
 use serde_json::{Map, Value};
 use std::alloc::Global;
@@ -54,7 +54,7 @@ impl<F> From<Entries<F>> for Vec<(Text, F)> {
 /// An object whose values are of one form. They are tested by rising keys, and a bad one's path begins with its key.
 #[tactic(auto, unfolding(crate::specs::Forms::entries))]
 impl<F: Form> Form for Entries<F> {
-    ghost form = { spec.entries F.form };
+    ghost shape = { shapes.entries F.shape };
 
     fn read(alloc: Global, value: &Value) -> Result<Self, ReadError> {
         match value.as_object() {
@@ -64,21 +64,12 @@ impl<F: Form> Form for Entries<F> {
     }
 }
 
-impl<F: Exactly> Exactly for Entries<F> {
-    ghost use Rattle.pol_readers.specs.Exactness.{entries_exact};
-    ghost use Rattle.pol_readers.specs.Grammar.{HasEntries};
-
-    ghost grammar = { HasEntries F.grammar };
-
-    ghost exact = { entries_exact F.exact };
-}
-
 /// Reads the members of an object.
 fn read_members<F: Form>(
     alloc: Global,
     members: &Map<String, Value>,
 ) -> Result<Entries<F>, ReadError>
-    ensures { Gives result (spec.members F.form (members_view members.now.entries)) }
+    ensures { Gives result (spec.members F.shape.read (members_view members.now.entries)) }
 {
     let mut entries = Vec::with_capacity(alloc, members.len())?;
     for (key, member) in members.iter() {

@@ -11,21 +11,21 @@ use pol_types::{OutOfMemory, Text};
 use serde_json::Value;
 use std::alloc::Global;
 
-/// A type whose values stand in JSON (RFC 8259). Its form says what a value of JSON stands for, or the path to its
-/// first bad field.
+/// A type whose values stand in JSON (RFC 8259). Its shape says what a value of JSON stands for, or the path to its
+/// first bad field, and the grammar of the same, with the proof that the two agree.
 ///
-/// The form of an object is a chain: `object`, and then one part for each rule, in the order in which they are tested
+/// The shape of an object is a chain: `object`, and then one part for each rule, in the order in which they are tested
 /// (`field`, `optional`, `fixed`, `holds`). Its code is the chain of the calls of these names, each with `?`. Keys that
 /// no part names are ignored.
 pub trait Form: Drop {
-    ghost use Rattle.serde_json.specs.Data.{Data};
+    ghost use Rattle.pol_readers.specs.Shape.{Shape};
 
-    /// What a value of JSON stands for.
-    ghost form: { Data → Reading Self };
+    /// What a value of JSON stands for, and the grammar of the same.
+    ghost shape: { Shape Self };
 
     /// Reads a value of JSON. An error is the first bad field, or want of memory, for which no clause names a cause.
     fn read(alloc: Global, value: &Value) -> Result<Self, ReadError>
-        ensures { Gives result (form (view value.now)) };
+        ensures { Gives result (shape.read (view value.now)) };
 }
 
 /// What was read of the member of that key, seen from the object: a bad field's path begins with the key. Want of
@@ -85,7 +85,7 @@ pub fn object(alloc: Global, value: &Value) -> Result<(), ReadError>
 /// A field that must be there: an absent one is bad. A null is tested by the field's own form.
 #[tactic(auto, unfolding(crate::specs::Forms::field))]
 pub fn field<F: Form>(alloc: Global, value: &Value, key: &str) -> Result<F, ReadError>
-    ensures { Gives result (spec.field key.now F.form (view value.now)) }
+    ensures { Gives result (spec.field key.now F.shape.read (view value.now)) }
 {
     let outcome = match value.get(key) {
         Some(member) => F::read(alloc, member),
@@ -97,7 +97,7 @@ pub fn field<F: Form>(alloc: Global, value: &Value, key: &str) -> Result<F, Read
 /// A field that may be absent: a null stands for an absent one.
 #[tactic(auto, unfolding(crate::specs::Forms::optional))]
 pub fn optional<F: Form>(alloc: Global, value: &Value, key: &str) -> Result<Option<F>, ReadError>
-    ensures { Gives result (spec.optional key.now F.form (view value.now)) }
+    ensures { Gives result (spec.optional key.now F.shape.read (view value.now)) }
 {
     match value.get(key) {
         Some(member) if !member.is_null() => {
@@ -134,7 +134,7 @@ fn read_fixed(alloc: Global, value: &Value, word: &str) -> Result<(), ReadError>
 /// Reads a value as one field, into which no path goes: whatever is bad in it, the value itself is.
 #[tactic(auto, unfolding(crate::specs::Forms::whole))]
 pub fn whole<F: Form>(alloc: Global, value: &Value) -> Result<F, ReadError>
-    ensures { Gives result (spec.whole F.form (view value.now)) }
+    ensures { Gives result (spec.whole F.shape.read (view value.now)) }
 {
     match F::read(alloc, value) {
         Err(ReadError::Field(_)) => Err(ReadError::here(alloc)),

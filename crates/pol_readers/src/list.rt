@@ -1,10 +1,10 @@
 ghost use Rattle.serde_json.specs.View.{items_view};
 ghost use Rattle.pol_readers.specs.Forms as spec;
 ghost use Rattle.pol_readers.specs.Reading.{Gives};
+ghost use Rattle.pol_readers.specs.Shape as shapes;
 
 use crate::error::ReadError;
 use crate::form::{Form, under_place};
-use crate::grammar::Exactly;
 use pol_types::Listed;
 use serde_json::Value;
 use std::alloc::Global;
@@ -13,7 +13,7 @@ use std::alloc::Global;
 /// which is counted from 0.
 #[tactic(auto, unfolding(crate::specs::Forms::list))]
 impl<F: Form> Form for Listed<F> {
-    ghost form = { spec.list F.form };
+    ghost shape = { shapes.list F.shape };
 
     fn read(alloc: Global, value: &Value) -> Result<Self, ReadError> {
         match value.as_array() {
@@ -23,18 +23,9 @@ impl<F: Form> Form for Listed<F> {
     }
 }
 
-impl<F: Exactly> Exactly for Listed<F> {
-    ghost use Rattle.pol_readers.specs.Exactness.{lists_exact};
-    ghost use Rattle.pol_readers.specs.Grammar.{IsList};
-
-    ghost grammar = { IsList F.grammar };
-
-    ghost exact = { lists_exact F.exact };
-}
-
 /// Reads the members of a list.
 fn read_items<F: Form>(alloc: Global, items: &Vec<Value>) -> Result<Listed<F>, ReadError>
-    ensures { Gives result (spec.items F.form 0 (items_view items.now.items)) }
+    ensures { Gives result (spec.items F.shape.read 0 (items_view items.now.items)) }
 {
     let mut read = Vec::with_capacity(alloc, items.len())?;
     for (place, item) in items.iter().enumerate() {

@@ -1,8 +1,7 @@
-ghost use Rattle.pol_readers.specs.Forms as spec;
+ghost use Rattle.pol_readers.specs.Shape as shapes;
 
 use crate::error::ReadError;
 use crate::form::Form;
-use crate::grammar::Exactly;
 use serde_json::Value;
 use std::alloc::Global;
 
@@ -15,7 +14,7 @@ pub enum OrMinusOne<F> {
 
 #[tactic(auto, unfolding(crate::specs::Forms::or_minus_one))]
 impl<F: Form> Form for OrMinusOne<F> {
-    ghost form = { spec.or_minus_one F.form };
+    ghost shape = { shapes.or_minus_one F.shape };
 
     fn read(alloc: Global, value: &Value) -> Result<Self, ReadError> {
         match value.as_i64() {
@@ -23,13 +22,4 @@ impl<F: Form> Form for OrMinusOne<F> {
             _ => Ok(OrMinusOne::Other(F::read(alloc, value)?)),
         }
     }
-}
-
-impl<F: Exactly> Exactly for OrMinusOne<F> {
-    ghost use Rattle.pol_readers.specs.Exactness.{numbers_or_minus_one_exact};
-    ghost use Rattle.pol_readers.specs.Grammar.{IsOrMinusOne};
-
-    ghost grammar = { IsOrMinusOne F.grammar };
-
-    ghost exact = { numbers_or_minus_one_exact F.exact };
 }

@@ -1,9 +1,8 @@
 ghost use Rattle.std.specs.Prelude.{◌≡◌, ◌≤◌};
-ghost use Rattle.pol_readers.specs.Forms as spec;
+ghost use Rattle.pol_readers.specs.Shape as shapes;
 
 use crate::error::ReadError;
 use crate::form::Form;
-use crate::grammar::Exactly;
 use serde_json::Value;
 use std::alloc::Global;
 use std::marker::Model;
@@ -40,7 +39,7 @@ impl<const LOW: u64, const HIGH: u64> Ranged<LOW, HIGH> {
 
 #[tactic(auto, unfolding(crate::specs::Forms::whole_number))]
 impl<const LOW: u64, const HIGH: u64> Form for Ranged<LOW, HIGH> {
-    ghost form = { spec.whole_number LOW HIGH };
+    ghost shape = { shapes.whole_number LOW HIGH };
 
     fn read(alloc: Global, value: &Value) -> Result<Self, ReadError> {
         match value.as_u64() {
@@ -48,13 +47,4 @@ impl<const LOW: u64, const HIGH: u64> Form for Ranged<LOW, HIGH> {
             _ => Err(ReadError::here(alloc)),
         }
     }
-}
-
-impl<const LOW: u64, const HIGH: u64> Exactly for Ranged<LOW, HIGH> {
-    ghost use Rattle.pol_readers.specs.Exactness.{numbers_exact};
-    ghost use Rattle.pol_readers.specs.Grammar.{IsWhole};
-
-    ghost grammar = { IsWhole LOW HIGH };
-
-    ghost exact = { numbers_exact LOW HIGH };
 }

@@ -2,19 +2,19 @@
 mod change;
 
 ghost use Rattle.std.specs.Prelude.{◌≡◌, Err, IfOk, List, string_bytes};
-ghost use Rattle.pol_readers.specs.Forms as spec;
 ghost use Rattle.pol_readers.specs.Laws.{BodiesAreExact};
 ghost use Rattle.pol_readers.specs.Path.{path_text};
+ghost use Rattle.pol_readers.specs.Shape as spec;
 ghost use Rattle.pol_readers.specs.declared.path.Step.{Step};
 
 use change::{Action, Body, Update};
-use pol_readers::{Exactly, Form, OrMinusOne, ReadError, laws, read_body};
+use pol_readers::{Form, OrMinusOne, ReadError, laws, read_body};
 use std::alloc::{AllocError, Global};
 use std::fmt::Write;
 
 /// What is told of a body: what was read of it, or the path to its first bad field.
 fn told(alloc: Global, bytes: &[u8]) -> Result<String, AllocError>
-    ensures { (path : List Step) → spec.body ⟦<Body as Form>⟧.form bytes.now ≡ Err path
+    ensures { (path : List Step) → spec.body ⟦<Body as Form>⟧.shape bytes.now ≡ Err path
         → IfOk result (λ text. string_bytes text ≡ path_text path) }
 {
     match read_body::<Body>(alloc, bytes) {
@@ -137,7 +137,7 @@ fn bodies_are_read_or_their_first_bad_field_is_told(rt: HostRuntime) {
 
 /// The whole form is exact on its grammar.
 fn bodies_are_exact()
-    ensures { BodiesAreExact ⟦<Body as Form>⟧.form ⟦<Body as Exactly>⟧.grammar }
+    ensures { BodiesAreExact ⟦<Body as Form>⟧.shape.read ⟦<Body as Form>⟧.shape.stands }
 {
     laws::bodies_are_exact::<Body>()
 }

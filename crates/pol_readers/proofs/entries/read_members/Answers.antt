@@ -6,7 +6,7 @@ use Rattle.pol_readers.proofs.entries.read_members.Goals as goal
 
 pub loop-key-preserved : goal.loop-key-preserved
 loop-key-preserved g c =
-    let form = g.F.Form.form in
+    let form = g.F.Form.shape.read in
     let all = c.args.members.now.entries in
     let done = c.loop-key.entries.items in
     let e : Entry = (c.in-Some.key.now, c.in-Some.member.now) in
@@ -19,7 +19,7 @@ loop-key-preserved g c =
 
 pub invariant_of-result : goal.invariant_of-result
 invariant_of-result g c =
-    let form = g.F.Form.form in
+    let form = g.F.Form.shape.read in
     let all = c.args.members.now.entries in
     let done = c.loop-key.entries.items in
     read_all_rise form all done (subst (IsReadTo form all done) c.in-None.ensures.steps.0 c.loop-key.invariant)

@@ -6,5 +6,5 @@ use Rattle.pol_readers.proofs.list.read_items.Given as goal
 
 abbrev pub invariant-loop-place : goal.invariant-loop-place
 invariant-loop-place g l =
-    items g.F.Form.form 0 (items_view l.items.items)
-    ≡ after l.read.items (items g.F.Form.form l.place (items_view (drop l.place l.items.items)))
+    items g.F.Form.shape.read 0 (items_view l.items.items)
+    ≡ after l.read.items (items g.F.Form.shape.read l.place (items_view (drop l.place l.items.items)))

@@ -1,12 +1,11 @@
 //! The form: a name, an object of texts, and a list of updates with words and numbers.
-ghost use Rattle.std.specs.Prelude.{◌∷◌, [], codes, Ok, length, nat_le};
-ghost use Rattle.pol_readers.specs.declared.path.Step.TheVariants.{Key};
-ghost use Rattle.pol_readers.specs.Forms as spec;
-ghost use Rattle.pol_readers.specs.Reading.{◌>>=◌, under};
+ghost use Rattle.std.specs.Prelude.{◌∷◌, [], codes, length, nat_le};
+ghost use Rattle.pol_readers.specs.Shape as spec;
+ghost use Rattle.pol_readers.specs.Shape.{◌>>=◌};
 
 use pol_readers::{
-    Entries, Exactly, Form, OrMinusOne, Ranged, ReadError, Word, field, fixed, holds, object,
-    one_of, optional, under_key,
+    Entries, Form, OrMinusOne, Ranged, ReadError, Word, field, fixed, holds, object, one_of,
+    optional, under_key,
 };
 use pol_types::{Listed, Text};
 use serde_json::Value;
@@ -34,7 +33,7 @@ impl Word for Action {
 }
 
 impl Form for Action {
-    ghost form = { spec.one_of ⟦<Action as Word>⟧.words };
+    ghost shape = { spec.one_of ⟦<Action as Word>⟧.words };
 
     fn read(alloc: Global, value: &Value) -> Result<Self, ReadError> {
         one_of(alloc, value)
@@ -50,12 +49,12 @@ pub struct Update {
 }
 
 impl Form for Update {
-    ghost form = { λ d. spec.is_object d
-        >>= (λ nothing. spec.field (codes "kind") (spec.fixed (codes "update")) d
-        >>= (λ nothing. spec.field (codes "action") ⟦<Action as Form>⟧.form d
-        >>= (λ action. spec.field (codes "snapshot") (spec.whole_number 1 9223372036854775807) d
-        >>= (λ snapshot. spec.optional (codes "schema") (spec.or_minus_one (spec.whole_number 0 2147483647)) d
-        >>= (λ schema. Ok (record { action = action; snapshot = snapshot; schema = schema })))))) };
+    ghost shape = { spec.an_object
+        >>= (λ nothing. spec.field (codes "kind") (spec.fixed (codes "update"))
+        >>= (λ nothing. spec.field (codes "action") ⟦<Action as Form>⟧.shape
+        >>= (λ action. spec.field (codes "snapshot") (spec.whole_number 1 9223372036854775807)
+        >>= (λ snapshot. spec.optional (codes "schema") (spec.or_minus_one (spec.whole_number 0 2147483647))
+        >>= (λ schema. spec.done (record { action = action; snapshot = snapshot; schema = schema })))))) };
 
     fn read(alloc: Global, value: &Value) -> Result<Self, ReadError> {
         object(alloc, value)?;
@@ -71,26 +70,6 @@ impl Form for Update {
     }
 }
 
-impl Exactly for Update {
-    ghost use Rattle.std.specs.Prelude.{refl};
-    ghost use Rattle.pol_readers.specs.Exactness.{then_exact, done_exact, regrouped, objects_exact, fields_exact, optional_fields_exact, words_exact, fixed_words_exact, numbers_exact, numbers_or_minus_one_exact};
-    ghost use Rattle.pol_readers.specs.Grammar.{IsObject, HasField, MayHaveField, IsOneOf, IsFixed, IsWhole, IsOrMinusOne};
-
-    ghost grammar = { λ d value. IsObject d tt × HasField (codes "kind") (IsFixed (codes "update")) d tt
-        × HasField (codes "action") (IsOneOf ⟦<Action as Word>⟧.words) d value.action
-        × HasField (codes "snapshot") (IsWhole 1 9223372036854775807) d value.snapshot
-        × MayHaveField (codes "schema") (IsOrMinusOne (IsWhole 0 2147483647)) d value.schema };
-
-    ghost exact = { regrouped
-        (then_exact objects_exact (λ nothing. then_exact (fields_exact (fixed_words_exact (codes "update")) (codes "kind"))
-        (λ nothing. then_exact (fields_exact (words_exact ⟦<Action as Word>⟧.words) (codes "action"))
-        (λ action. then_exact (fields_exact (numbers_exact 1 9223372036854775807) (codes "snapshot"))
-        (λ snapshot. then_exact (optional_fields_exact (numbers_or_minus_one_exact (numbers_exact 0 2147483647)) (codes "schema"))
-        (λ schema. done_exact (record { action = action; snapshot = snapshot; schema = schema })))))))
-        (λ d value so. Prim.rw so.2.2.2.2.2 (so.1, so.2.1, so.2.2.1, so.2.2.2.1, so.2.2.2.2.1))
-        (λ d value so. (tt, so.0, (tt, so.1, (value.action, so.2, (value.snapshot, so.3, (value.schema, so.4, refl)))))) };
-}
-
 /// A change with updates of the form `U`, whose name isn't empty.
 #[derive(Debug, Drop)]
 pub struct Change<U> {
@@ -103,11 +82,11 @@ pub struct Change<U> {
 pub type Body = Change<Update>;
 
 impl<U: Form> Form for Change<U> {
-    ghost form = { λ d. spec.is_object d >>= (λ nothing. spec.field (codes "name") spec.text d
-        >>= (λ name. under (Key (codes "name")) (spec.holds (nat_le 1 (length name)))
-        >>= (λ nothing. spec.optional (codes "properties") (spec.entries spec.text) d
-        >>= (λ properties. spec.field (codes "updates") (spec.list U.form) d
-        >>= (λ updates. Ok (record { name = name; properties = properties; updates = updates })))))) };
+    ghost shape = { spec.an_object >>= (λ nothing. spec.field (codes "name") spec.text
+        >>= (λ name. spec.holds_at (codes "name") (nat_le 1 (length name))
+        >>= (λ nothing. spec.optional (codes "properties") (spec.entries spec.text)
+        >>= (λ properties. spec.field (codes "updates") (spec.list U.shape)
+        >>= (λ updates. spec.done (record { name = name; properties = properties; updates = updates })))))) };
 
     fn read(alloc: Global, value: &Value) -> Result<Self, ReadError> {
         object(alloc, value)?;
@@ -121,24 +100,4 @@ impl<U: Form> Form for Change<U> {
             updates,
         })
     }
-}
-
-impl<U: Exactly> Exactly for Change<U> {
-    ghost use Rattle.std.specs.Prelude.{◌≡◌, true, refl};
-    ghost use Rattle.pol_readers.specs.Exactness.{then_exact, done_exact, regrouped, objects_exact, fields_exact, optional_fields_exact, entries_exact, lists_exact, texts_exact, rules_under_exact};
-    ghost use Rattle.pol_readers.specs.Grammar.{IsObject, HasField, MayHaveField, HasEntries, IsList, IsText};
-
-    ghost grammar = { λ d value. IsObject d tt × HasField (codes "name") IsText d value.name
-        × (nat_le 1 (length value.name) ≡ true)
-        × MayHaveField (codes "properties") (HasEntries IsText) d value.properties
-        × HasField (codes "updates") (IsList U.grammar) d value.updates };
-
-    ghost exact = { regrouped
-        (then_exact objects_exact (λ nothing. then_exact (fields_exact texts_exact (codes "name"))
-        (λ name. then_exact (rules_under_exact (Key (codes "name")) (nat_le 1 (length name)))
-        (λ nothing. then_exact (optional_fields_exact (entries_exact texts_exact) (codes "properties"))
-        (λ properties. then_exact (fields_exact (lists_exact U.exact) (codes "updates"))
-        (λ updates. done_exact (record { name = name; properties = properties; updates = updates })))))))
-        (λ d value so. Prim.rw so.2.2.2.2.2 (so.1, so.2.1, so.2.2.1, so.2.2.2.1, so.2.2.2.2.1))
-        (λ d value so. (tt, so.0, (value.name, so.1, (tt, so.2, (value.properties, so.3, (value.updates, so.4, refl)))))) };
 }

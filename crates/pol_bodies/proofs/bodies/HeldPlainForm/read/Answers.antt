@@ -3,10 +3,10 @@ use Rattle.pol_names.proofs.Refusals.{plain_refusal-IsPlainName}
 use Rattle.pol_names.specs.Plain.{IsPlainName}
 use Rattle.pol_readers.specs.Forms.{holds}
 use Rattle.pol_bodies.specs.Bodies.{plain_name}
-use Rattle.pol_bodies.proofs.bodies.PlainTextForm.read.Goals as goal
+use Rattle.pol_bodies.proofs.bodies.HeldPlainForm.read.Goals as goal
 
 pub returns-in-Ok : goal.returns-in-Ok
 unfolding plain_name holds
 returns-in-Ok c =
     let named = subst IsPlainName c.as_str.ensures c.in-Ok.ensures.named in
-    rw (c.in_ok-text.ensures, plain_refusal-IsPlainName _ named) (ap (λ name. Ok (record { name = name })) (sym (c.in-Ok.ensures.value ∙ c.as_str.ensures)))
+    rw (c.in_ok-text.ensures, plain_refusal-IsPlainName _ named) (ap Ok (sym (c.new-in-Ok.ensures ∙ c.in-Ok.ensures.value ∙ c.as_str.ensures)))

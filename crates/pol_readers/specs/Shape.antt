@@ -1,26 +1,20 @@
 -- Forms written once: what a value of JSON (RFC 8259) is read as, the grammar of the same as a relation, and the proof
 -- that the two agree. A form of an object is a chain of its parts, in the order in which they are tested.
-use Rattle.std.specs.Prelude.{◌≡◌, ℕ, Bool, List, Option, None, Some, Ok, ⊤, false, is_some, if◌then◌else◌, MatchBool, true}
-use Rattle.std.specs.List.{list_all}
+use Rattle.std.specs.Prelude.{◌≡◌, ℕ, Bool, List, Option, Some, Ok, ⊤, is_some, if◌then◌else◌, MatchBool, true, false}
 use Rattle.serde_json.specs.Data.{Data}
 use Rattle.serde_json.specs.Find.{as_str}
+use Rattle.pol_readers.specs.declared.minus_one.OrMinusOne.{OrMinusOne}
+use Rattle.pol_readers.specs.declared.path.Step.TheVariants.{Key}
 use Rattle.pol_readers.specs.Exactness as exactness
 use Rattle.pol_readers.specs.Forms as form
 use Rattle.pol_readers.specs.Grammar as grammar
 use Rattle.pol_readers.specs.Grammar.{Exact, Then}
-use Rattle.pol_readers.specs.Reading.{Reading, found, under}
-use Rattle.pol_readers.specs.declared.path.Step.TheVariants.{Key}
-use Rattle.pol_metajson.specs.Known.{all_known, all_known_exact}
-use Rattle.pol_metajson.specs.Chain.{IsChained, chain, chained, chained_exact}
+use Rattle.pol_readers.specs.Reading.{Reading, chain, found, under}
 
 pub record Shape (A : Type 0) : Type 1 where
   pub read : Data → Reading A
   pub stands : Data → A → Type 0
   pub exact : Exact read stands
-
-pub found_exact : {A : Type 0} (wanted : Option A) → Exact {S = Data} (λ d. found wanted) (λ d value. wanted ≡ Some value)
-found_exact None = record { sound = λ d value is. cc; complete = λ d value so. cc }
-found_exact (Some held) = record { sound = λ d value is. cc; complete = λ d value so. cc }
 
 -- one part after another
 infixl 10 ◌>>=◌
@@ -41,14 +35,6 @@ an_object = record { read = form.is_object; stands = grammar.IsObject; exact = e
 abbrev pub text : Shape (List ℕ)
 text = record { read = form.text; stands = grammar.IsText; exact = exactness.texts_exact }
 
--- a value that there must be, whatever is read
-abbrev pub one_found : {A : Type 0} → Option A → Shape A
-one_found wanted = record {
-  read = λ d. found wanted;
-  stands = λ d value. wanted ≡ Some value;
-  exact = found_exact wanted;
-}
-
 abbrev pub truth : Shape Bool
 truth = record { read = form.truth; stands = grammar.IsTruth; exact = exactness.truth_values_exact }
 
@@ -59,15 +45,50 @@ whole_number low high = record {
   exact = exactness.numbers_exact low high;
 }
 
+abbrev pub or_minus_one : {A : Type 0} → Shape A → Shape (OrMinusOne A)
+or_minus_one shape = record {
+  read = form.or_minus_one shape.read;
+  stands = grammar.IsOrMinusOne shape.stands;
+  exact = exactness.numbers_or_minus_one_exact shape.exact;
+}
+
 abbrev pub one_of : {A : Type 0} → List (List ℕ × A) → Shape A
 one_of rows = record { read = form.one_of rows; stands = grammar.IsOneOf rows; exact = exactness.words_exact rows }
+
+abbrev pub fixed : List ℕ → Shape ⊤
+fixed word = record { read = form.fixed word; stands = grammar.IsFixed word; exact = exactness.fixed_words_exact word }
+
+-- a value that there must be, whatever is read
+abbrev pub one_found : {A : Type 0} → Option A → Shape A
+one_found wanted = record {
+  read = λ d. found wanted;
+  stands = λ d value. wanted ≡ Some value;
+  exact = exactness.found_exact wanted;
+}
+
+-- the same, where the member of a key is bad without it
+abbrev pub found_at : {A : Type 0} → List ℕ → Option A → Shape A
+found_at key wanted = record {
+  read = λ d. under (Key key) (found wanted);
+  stands = λ d value. wanted ≡ Some value;
+  exact = exactness.found_under_exact (Key key) wanted;
+}
 
 -- a text that names a value
 abbrev pub text_of : {A : Type 0} → (List ℕ → Option A) → Shape A
 text_of value_of = text >>= (λ word. one_found (value_of word))
 
-abbrev pub fixed : List ℕ → Shape ⊤
-fixed word = record { read = form.fixed word; stands = grammar.IsFixed word; exact = exactness.fixed_words_exact word }
+-- a rule that what was read must meet
+abbrev pub rule : Bool → Shape ⊤
+rule test = record { read = λ d. form.holds test; stands = λ d nothing. test ≡ true; exact = exactness.rules_exact test }
+
+-- a rule that the member of a key must meet
+abbrev pub holds_at : List ℕ → Bool → Shape ⊤
+holds_at key test = record {
+  read = λ d. under (Key key) (form.holds test);
+  stands = λ d nothing. test ≡ true;
+  exact = exactness.rules_under_exact (Key key) test;
+}
 
 abbrev pub field : {A : Type 0} → List ℕ → Shape A → Shape A
 field key shape = record {
@@ -93,33 +114,9 @@ entries shape = record {
   exact = exactness.entries_exact shape.exact;
 }
 
--- a rule that what was read must meet
-abbrev pub rule : Bool → Shape ⊤
-rule test = record { read = λ d. form.holds test; stands = λ d nothing. test ≡ true; exact = exactness.rules_exact test }
-
--- a rule that the member of a key must meet
-abbrev pub holds_at : List ℕ → Bool → Shape ⊤
-holds_at key rule = record {
-  read = λ d. under (Key key) (form.holds rule);
-  stands = λ d nothing. rule ≡ true;
-  exact = exactness.rules_under_exact (Key key) rule;
-}
-
--- ids of the member of a key that must all pass a test
-abbrev pub known_at : List ℕ → (ℕ → Bool) → List ℕ → Shape ⊤
-known_at key test ids = record {
-  read = λ d. all_known key test ids;
-  stands = λ d nothing. list_all test ids ≡ true;
-  exact = all_known_exact key test ids;
-}
-
--- the members of a list, each read by what those before it made
-abbrev pub in_turn : {A : Type 0} → (List A → Shape (List A)) → Shape (List A)
-in_turn next = record {
-  read = chained (λ made. (next made).read);
-  stands = IsChained (λ made. (next made).stands);
-  exact = chained_exact (λ made. (next made).exact);
-}
+-- a value as one field, into which no path goes
+abbrev pub whole : {A : Type 0} → Shape A → Shape A
+whole shape = record { read = form.whole shape.read; stands = shape.stands; exact = exactness.wholes_exact shape.exact }
 
 -- a text of one form, or another value of another form
 choice_sound : {A : Type 0} (first second : Shape A) (test : Bool) (d : Data) (value : A)
@@ -145,3 +142,7 @@ text_or first second = record {
   stands = λ d value. MatchBool (is_some (as_str d)) (first.stands d value) (second.stands d value);
   exact = choice_exact first second;
 }
+
+-- a body of that form, which must be an object
+abbrev pub body : {A : Type 0} → Shape A → List ℕ → Reading A
+body shape = form.body shape.read
