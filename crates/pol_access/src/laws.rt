@@ -1,5 +1,5 @@
 //! Theorems over the definitions of `specs/`: the clause of each function is the statement, and its body is empty.
-ghost use Rattle.pol_access.specs.Laws.{ImplicationIsReflexive, ImplicationIsTransitive, ListsAreInOrder, SearchTellsMay, TextsReadBack};
+ghost use Rattle.pol_access.specs.Laws.{FactsAreInOrder, ImplicationIsReflexive, ImplicationIsTransitive, ListsAreInOrder, SearchTellsMay, TextsReadBack};
 
 /// Each privilege is read back from its text.
 pub fn texts_read_back()
@@ -24,4 +24,11 @@ pub fn search_tells_may()
 /// Lists by name have the rows, and no row's name comes before that of the row in front.
 pub fn lists_are_in_order<R>()
     ensures { ListsAreInOrder R }
+{}
+
+/// Members, joins and grants in order are the rows, each as often, and where they differ they rise: members by
+/// principal and role, joins by principal role and catalogue role, and grants by role, privilege, kind of securable
+/// and its id.
+pub fn facts_are_in_order()
+    ensures { FactsAreInOrder }
 {}
