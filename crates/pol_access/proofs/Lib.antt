@@ -1,3 +1,4 @@
+mod FactOrderLemmas
 pub mod KeptLemmas
 pub mod MayLemmas
 pub mod NamesLemmas

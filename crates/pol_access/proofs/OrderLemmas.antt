@@ -32,6 +32,11 @@ module _ {X Y : Type 0} (f : Y → X) (less : X → X → Bool) where
   map-ordered [] = refl
   map-ordered (item ∷ items) = map-inserted item (ordered less_image items) ∙ ap (inserted less (f item)) (map-ordered items)
 
+-- an item that moves past the next one
+pub moved-past : {X : Type 0} (item next : X) (items moved : List X) → IsPermutation (item ∷ items) moved → IsPermutation (item ∷ next ∷ items) (next ∷ moved)
+moved-past item next items moved rest =
+    IsPermutation-trans (item ∷ next ∷ items) (next ∷ item ∷ items) (next ∷ moved) (IsPermutation-sym (next ∷ item ∷ items) (item ∷ next ∷ items) (IsPermutation-middle (next ∷ []) item items)) (IsPermutation-cons next (item ∷ items) moved rest)
+
 module _ {X : Type 0} (less : X → X → Bool) (weak : IsStrictWeakOrder less) where
   -- no item of a list is less than one
   abbrev NoneLess : X → List X → Type 0
@@ -90,10 +95,9 @@ module _ {X : Type 0} (less : X → X → Bool) (weak : IsStrictWeakOrder less) 
   unfolding inserted
   moved-inserted item [] = IsPermutation-refl (item ∷ [])
   moved-inserted item (next ∷ items) =
-      let rest = moved-inserted item items in
+      let rest = moved-past item next items (inserted less item items) (moved-inserted item items) in
       elim (less next item) as (λ b. IsPermutation (item ∷ next ∷ items) (cond b (next ∷ inserted less item items) (item ∷ next ∷ items))) [
-        | true ↦
-            IsPermutation-trans (item ∷ next ∷ items) (next ∷ item ∷ items) (next ∷ inserted less item items) (IsPermutation-sym (next ∷ item ∷ items) (item ∷ next ∷ items) (IsPermutation-middle (next ∷ []) item items)) (IsPermutation-cons next (item ∷ items) (inserted less item items) rest)
+        | true ↦ rest
         | false ↦ IsPermutation-refl (item ∷ next ∷ items)
       ]
 

@@ -1,5 +1,5 @@
 -- Sound rows stay sound once a row is put, replaced or dropped with what names it.
-use Rattle.std.proofs.Common.{◌≡◌, ℕ, ◌+◌, ◌<◌, ◌≤◌, Bool, true, false, not, cond, ◌&&◌, List, [], ◌∷◌, ◌++◌, map, filter, Some, is_some, nat_eq, refl, sym, ap, subst, ◌∙◌, arith, codes, ◌==◌, ◌||◌}
+use Rattle.std.proofs.Common.{◌≡◌, ◌≢◌, ℕ, ◌+◌, ◌<◌, ◌≤◌, Bool, true, false, not, cond, ◌&&◌, List, [], ◌∷◌, ◌++◌, map, filter, length, None, Some, is_some, nat_eq, refl, sym, ap, subst, ◌∙◌, arith, codes, ◌==◌, ◌||◌}
 use Rattle.std.specs.Cmp.{IsEquivalence, nat_eq_equiv}
 use Rattle.std.specs.Cmp.Lexicographic.{nat_list_eq_equiv, same_text}
 use Rattle.std.specs.List.{AllByRecursion, IsDistinct}
@@ -10,16 +10,15 @@ use Rattle.pol_tables.specs.Facts.{facts_with, facts_without, holds}
 use Rattle.pol_tables.specs.Numbered.{IsGiven}
 use Rattle.pol_tables.specs.Rising.{KeysBelow}
 use Rattle.pol_tables.specs.Same.{same}
-use Rattle.pol_tables.specs.Table.{has_id, knows, row_of, rows_without}
+use Rattle.pol_tables.specs.Table.{has_id, knows, row_of, rows_without, rows_with}
 use Rattle.pol_tables.proofs.ListLemmas.{each-all, each-filter, each-join, each-map, each-push, each-weaken}
 use Rattle.pol_tables.proofs.NamedLemmas.{each-own}
 use Rattle.pol_tables.proofs.NumberedLemmas.{AreNumbered-filter, AreNumbered-map, AreNumbered-more, AreNumbered-push, below-next}
 use Rattle.pol_tables.proofs.RisingLemmas.{IdsDiffer-rising, knows-below}
 use Rattle.pol_tables.proofs.SameLemmas.{same-differ}
 use Rattle.pol_tables.proofs.TableLemmas.{is_some-row_of, knows-map, rows_with-known, some_is}
-use Rattle.pol_access.specs.Access.{AccessRows, catalog_role_id, client_id_of, is_of_catalog, is_role_of, principal_id, principal_name, principal_role_id, principal_role_name}
-use Rattle.pol_access.specs.Laws.{DroppedCatalogRolesKeepSound, DroppedGrantsKeepSound, DroppedJoinKeepsSound, DroppedMemberKeepsSound, DroppedPrincipalKeepsSound, DroppedPrincipalRoleKeepsSound, MoreIdsKeepSound, NewRowsGoLast, PushedCatalogRoleKeepsSound, PushedPrincipalKeepsSound, PushedPrincipalRoleKeepsSound, PutGrantKeepsSound, PutJoinKeepsSound, PutMemberKeepsSound, ReplacedPrincipalKeepsSound}
-use Rattle.pol_access.specs.Names.{has_catalog_role_name, has_name, has_role_name, principal_named, principal_role_named, same_role_name}
+use Rattle.pol_access.specs.Access.{AccessRows, catalog_role_id, client_id_of, is_of_catalog, is_role_of, principal_id, principal_name, principal_role_id, principal_role_name, catalog_role_dropped, catalog_roles_dropped, grants_on_dropped, principal_dropped, principal_role_dropped}
+use Rattle.pol_access.specs.Names.{has_catalog_role_name, has_name, has_role_name, principal_named, principal_role_named, same_role_name, catalog_role_named, principal_of_client}
 use Rattle.pol_access.specs.Sound.{IsCatalogRoleOf, IsGrantOf, IsSecurableGiven, IsSoundAccess}
 use Rattle.pol_access.specs.contracts.rows.GrantRow as grant
 use Rattle.pol_access.specs.contracts.rows.JoinRow as join
@@ -62,7 +61,8 @@ grants_as : (next_id : ℕ) (a b : AccessRows) (rows : List GrantRow) → AllByR
 grants_as next_id a b rows there known =
     each-join (λ row. knows catalog_role_id row.catalog_role b.catalog_roles ≡ true) (IsGrantOf next_id a) (IsGrantOf next_id b) rows (λ row is was. record { role = is; securable = was.securable; allowed = was.allowed }) there known
 
-pub more_ids : MoreIdsKeepSound
+-- rows stay sound where more ids are given out
+pub more_ids : (low high : ℕ) (access : AccessRows) → low ≤ high → IsSoundAccess low access → IsSoundAccess high access
 more_ids low high access more sound = record {
   principals = AreNumbered-more principal_id low high more access.principals sound.principals;
   principal_roles = AreNumbered-more principal_role_id low high more access.principal_roles sound.principal_roles;
@@ -90,7 +90,11 @@ more_ids low high access more sound = record {
   grants_bound = sound.grants_bound;
 }
 
-pub new_rows_last : NewRowsGoLast
+-- a row with the next id goes last
+pub new_rows_last : (next_id : ℕ) (access : AccessRows) → IsSoundAccess next_id access
+    → ((row : PrincipalRow) → row.id ≡ next_id → rows_with principal_id row access.principals ≡ access.principals ++ row ∷ [])
+    × ((row : PrincipalRoleRow) → row.id ≡ next_id → rows_with principal_role_id row access.principal_roles ≡ access.principal_roles ++ row ∷ [])
+    × ((row : CatalogRoleRow) → row.id ≡ next_id → rows_with catalog_role_id row access.catalog_roles ≡ access.catalog_roles ++ row ∷ [])
 new_rows_last next_id access sound = (
   goes-last principal_id next_id access.principals sound.principals,
   goes-last principal_role_id next_id access.principal_roles sound.principal_roles,
@@ -104,7 +108,10 @@ one_more n = omega arith
 apart_from : {R : Type 0} (key : R → ℕ) (next_id id : ℕ) (row : R) → key row ≡ next_id → id < next_id → has_id key id row ≡ false
 apart_from key next_id id row is under = ne_eqb id (key row) (λ same. omega (arith, under, is, same))
 
-pub pushed_principal : PushedPrincipalKeepsSound
+-- a principal with the next id, a new name and a new client id may be pushed
+pub pushed_principal : (next_id : ℕ) (access : AccessRows) (row : PrincipalRow) → IsSoundAccess next_id access → 1 ≤ next_id → row.id ≡ next_id
+    → principal_named row.name access ≡ None → principal_of_client row.client_id access ≡ None → length access.principals < 10000
+    → IsSoundAccess (next_id + 1) (record access { principals = access.principals ++ row ∷ [] })
 pushed_principal next_id access row sound first is new_name new_client room =
     let later = more_ids next_id (next_id + 1) access (one_more next_id) sound in
     record {
@@ -134,7 +141,10 @@ pushed_principal next_id access row sound first is new_name new_client room =
       grants_bound = later.grants_bound;
     }
 
-pub pushed_principal_role : PushedPrincipalRoleKeepsSound
+-- a principal role with the next id and a new name may be pushed
+pub pushed_principal_role : (next_id : ℕ) (access : AccessRows) (row : PrincipalRoleRow) → IsSoundAccess next_id access → 1 ≤ next_id → row.id ≡ next_id
+    → principal_role_named row.name access ≡ None → length access.principal_roles < 10000
+    → IsSoundAccess (next_id + 1) (record access { principal_roles = access.principal_roles ++ row ∷ [] })
 pushed_principal_role next_id access row sound first is new_name room =
     let later = more_ids next_id (next_id + 1) access (one_more next_id) sound in
     record {
@@ -174,7 +184,10 @@ same_role_name-equiv = record {
     alike : (x y z : CatalogRoleRow) → (nat_eq y.catalog x.catalog ≡ true) × (bytes_eq x.name y.name ≡ true) → same_role_name x z ≡ same_role_name y z
     alike x y z both = λ i. nat_eq z.catalog (sym (eqb-true y.catalog x.catalog both.0) i) && nat_list_eq_equiv.congr x.name y.name z.name both.1 i
 
-pub pushed_catalog_role : PushedCatalogRoleKeepsSound
+-- a catalogue role with the next id, a catalogue whose id was given out, and a name that is new there may be pushed
+pub pushed_catalog_role : (next_id : ℕ) (access : AccessRows) (row : CatalogRoleRow) → IsSoundAccess next_id access → 1 ≤ next_id → row.id ≡ next_id
+    → IsGiven next_id row.catalog → catalog_role_named row.catalog row.name access ≡ None → length access.catalog_roles < 10000
+    → IsSoundAccess (next_id + 1) (record access { catalog_roles = access.catalog_roles ++ row ∷ [] })
 pushed_catalog_role next_id access row sound first is given new_name room =
     let later = more_ids next_id (next_id + 1) access (one_more next_id) sound in
     record {
@@ -255,7 +268,10 @@ module _ (row : PrincipalRow) where
         digest = row.digest;
       }
 
-pub replaced_principal : ReplacedPrincipalKeepsSound
+-- a principal may be replaced by a row of its id, name and client id
+pub replaced_principal : (next_id : ℕ) (access : AccessRows) (old row : PrincipalRow) → IsSoundAccess next_id access → row_of principal_id row.id access.principals ≡ Some old
+    → row.name ≡ old.name → row.client_id ≡ old.client_id
+    → IsSoundAccess next_id (record access { principals = rows_with principal_id row access.principals })
 replaced_principal next_id access old row sound found names clients =
     let rows = access.principals in
     let known : knows principal_id row.id rows ≡ true = sym (is_some-row_of principal_id row.id rows) ∙ ap is_some found in
@@ -460,7 +476,9 @@ module _ (next_id : ℕ) (access : AccessRows) (sound : IsSoundAccess next_id ac
 differ-test : (left right : ℕ) → (left ≡ right → ⊥) → not (nat_eq left right) ≡ true
 differ-test left right apart = ap not (ne_eqb left right apart)
 
-pub dropped_principal : DroppedPrincipalKeepsSound
+-- a principal that isn't `root` may be dropped with its memberships
+pub dropped_principal : (next_id : ℕ) (access : AccessRows) (row : PrincipalRow) → IsSoundAccess next_id access → row_of principal_id row.id access.principals ≡ Some row
+    → row.name ≢ codes "root" → IsSoundAccess next_id (principal_dropped row.id access)
 unfolding rows_without
 dropped_principal next_id access row sound found other =
     let apart = other_than_root next_id access sound row found other in
@@ -469,7 +487,9 @@ dropped_principal next_id access row sound found other =
     principals_kept next_id (record access { members = without }) (λ kept. not (has_id principal_id row.id kept)) cut (differ-test row.id cut.root_chain.root.id (apart cut.root_chain.root cut.root_chain.root_there))
     (each-stays (λ kept. knows principal_id kept.principal access.principals ≡ true) (λ kept. knows principal_id kept.principal (filter (λ one. not (has_id principal_id row.id one)) access.principals) ≡ true) (λ kept. not (kept.principal == row.id)) access.members (λ kept there stays. knows-others principal_id kept.principal row.id access.principals stays there) sound.member_principals)
 
-pub dropped_principal_role : DroppedPrincipalRoleKeepsSound
+-- a principal role that isn't `service_admin` may be dropped with its members and joins
+pub dropped_principal_role : (next_id : ℕ) (access : AccessRows) (row : PrincipalRoleRow) → IsSoundAccess next_id access → row_of principal_role_id row.id access.principal_roles ≡ Some row
+    → row.name ≢ codes "service_admin" → IsSoundAccess next_id (principal_role_dropped row.id access)
 unfolding rows_without
 dropped_principal_role next_id access row sound found other =
     let apart = other_than_admin next_id access sound row found other in
@@ -501,14 +521,19 @@ roles_gone next_id access gone keep sound agree =
     still id there stays =
         knows-kept catalog_role_id id keep access.catalog_roles (each-weaken (λ row. gone row.id ≡ false → keep row ≡ true) (λ row. catalog_role_id row ≡ id → keep row ≡ true) access.catalog_roles (λ row keeps is. keeps (ap gone is ∙ not-true (gone id) stays)) agree) there
 
-pub dropped_catalog_roles : DroppedCatalogRolesKeepSound
+-- a catalogue role may be dropped with its joins and grants, and so may all roles of a catalogue
+pub dropped_catalog_roles : (next_id id : ℕ) (access : AccessRows) → IsSoundAccess next_id access
+    → IsSoundAccess next_id (catalog_role_dropped id access) × IsSoundAccess next_id (catalog_roles_dropped id access)
 unfolding rows_without
 dropped_catalog_roles next_id id access sound = (
   roles_gone next_id access (λ role. role == id) (λ row. not (has_id catalog_role_id id row)) sound (each-all (λ row. nat_eq row.id id ≡ false → not (nat_eq id row.id) ≡ true) access.catalog_roles (λ row apart. ap not (nat_eq_equiv.symm id row.id ∙ apart))),
   roles_gone next_id access (is_role_of access.catalog_roles id) (λ row. not (row.catalog == id)) sound (each-weaken (λ row. row_of catalog_role_id row.id access.catalog_roles ≡ Some row) (λ row. is_role_of access.catalog_roles id row.id ≡ false → not (row.catalog == id) ≡ true) access.catalog_roles (λ row own apart. ap not (sym (ap (is_of_catalog id) own) ∙ apart)) (each-own catalog_role_id access.catalog_roles (IdsDiffer-rising catalog_role_id access.catalog_roles sound.catalog_roles.rise))),
 )
 
-pub put_member : PutMemberKeepsSound
+-- a member may be put where its principal and its role are there
+pub put_member : (next_id : ℕ) (access : AccessRows) (row : MemberRow) → IsSoundAccess next_id access → knows principal_id row.principal access.principals ≡ true
+    → knows principal_role_id row.role access.principal_roles ≡ true → length (facts_with member.the_row.coded row access.members) ≤ 100000
+    → IsSoundAccess next_id (record access { members = facts_with member.the_row.coded row access.members })
 put_member next_id access row sound principal role room = record {
   principals = sound.principals;
   principal_roles = sound.principal_roles;
@@ -536,7 +561,11 @@ put_member next_id access row sound principal role room = record {
   grants_bound = sound.grants_bound;
 }
 
-pub dropped_member : DroppedMemberKeepsSound
+-- a member may be dropped that isn't `root` in `service_admin`
+pub dropped_member : (next_id : ℕ) (access : AccessRows) (principal : PrincipalRow) (role : PrincipalRoleRow) → IsSoundAccess next_id access
+    → row_of principal_id principal.id access.principals ≡ Some principal → row_of principal_role_id role.id access.principal_roles ≡ Some role
+    → (principal.name ≡ codes "root" → role.name ≢ codes "service_admin")
+    → IsSoundAccess next_id (record access { members = facts_without member.the_row.coded (record { principal = principal.id; role = role.id }) access.members })
 unfolding facts_without
 dropped_member next_id access principal role sound found there other =
     let gone : MemberRow = record { principal = principal.id; role = role.id } in
@@ -544,7 +573,10 @@ dropped_member next_id access principal role sound found there other =
     members_kept next_id access (λ one. not (same member.the_row.coded gone one)) sound
     (ap not (same-differ member.the_row.coded gone kept (λ is. other_than_root next_id access sound principal found (λ named. other_than_admin next_id access sound role there (other named) sound.root_chain.admin sound.root_chain.admin_there (ap (λ (one : MemberRow). one.role) is)) sound.root_chain.root sound.root_chain.root_there (ap (λ (one : MemberRow). one.principal) is))))
 
-pub put_join : PutJoinKeepsSound
+-- a join may be put where its roles are there, and any may be dropped
+pub put_join : (next_id : ℕ) (access : AccessRows) (row : JoinRow) → IsSoundAccess next_id access → knows principal_role_id row.principal_role access.principal_roles ≡ true
+    → knows catalog_role_id row.catalog_role access.catalog_roles ≡ true → length (facts_with join.the_row.coded row access.joins) ≤ 100000
+    → IsSoundAccess next_id (record access { joins = facts_with join.the_row.coded row access.joins })
 put_join next_id access row sound principal_role catalog_role room = record {
   principals = sound.principals;
   principal_roles = sound.principal_roles;
@@ -572,11 +604,16 @@ put_join next_id access row sound principal_role catalog_role room = record {
   grants_bound = sound.grants_bound;
 }
 
-pub dropped_join : DroppedJoinKeepsSound
+pub dropped_join : (next_id : ℕ) (access : AccessRows) (row : JoinRow) → IsSoundAccess next_id access
+    → IsSoundAccess next_id (record access { joins = facts_without join.the_row.coded row access.joins })
 unfolding facts_without
 dropped_join next_id access row sound = joins_kept next_id access (λ kept. not (same join.the_row.coded row kept)) sound
 
-pub put_grant : PutGrantKeepsSound
+-- a grant may be put where its role is there, its privilege is allowed and its securable's id was given out, and any may
+-- be dropped, also all that are on a securable
+pub put_grant : (next_id : ℕ) (access : AccessRows) (row : GrantRow) → IsSoundAccess next_id access → IsGrantOf next_id access row
+    → length (facts_with grant.the_row.coded row access.grants) ≤ 100000
+    → IsSoundAccess next_id (record access { grants = facts_with grant.the_row.coded row access.grants })
 put_grant next_id access row sound known room = record {
   principals = sound.principals;
   principal_roles = sound.principal_roles;
@@ -604,7 +641,9 @@ put_grant next_id access row sound known room = record {
   grants_bound = room;
 }
 
-pub dropped_grants : DroppedGrantsKeepSound
+pub dropped_grants : (next_id : ℕ) (access : AccessRows) → IsSoundAccess next_id access
+    → ((row : GrantRow) → IsSoundAccess next_id (record access { grants = facts_without grant.the_row.coded row access.grants }))
+    × ((gone : Securable) → IsSoundAccess next_id (grants_on_dropped gone access))
 unfolding facts_without
 dropped_grants next_id access sound = (
   λ row. grants_kept next_id access (λ kept. not (same grant.the_row.coded row kept)) sound,

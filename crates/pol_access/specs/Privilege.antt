@@ -8,13 +8,42 @@ use Rattle.pol_access.specs.declared.privilege.Privilege.TheVariants.{NamespaceC
 use Rattle.pol_access.specs.declared.securable.SecurableKind.{SecurableKind}
 use Rattle.pol_access.specs.declared.securable.SecurableKind.TheVariants as kind
 
--- all privileges, in their numbered order
+-- all privileges, in the order of their numbers
 abbrev pub privileges : List Privilege
 privileges =
     NamespaceCreate ∷ NamespaceDrop ∷ NamespaceList ∷ NamespaceReadProperties ∷ NamespaceWriteProperties ∷ NamespaceFullMetadata
     ∷ TableCreate ∷ TableDrop ∷ TableList ∷ TableReadProperties ∷ TableWriteProperties ∷ TableFullMetadata
     ∷ ViewCreate ∷ ViewDrop ∷ ViewList ∷ ViewReadProperties ∷ ViewWriteProperties ∷ ViewFullMetadata
     ∷ TableReadData ∷ TableWriteData ∷ CatalogManageAccess ∷ CatalogManageContent ∷ CatalogManageMetadata ∷ CatalogReadProperties ∷ CatalogWriteProperties ∷ ServiceManageAccess ∷ []
+
+-- the number of a privilege
+abbrev pub privilege_number : Privilege → ℕ
+privilege_number NamespaceCreate = 0
+privilege_number NamespaceDrop = 1
+privilege_number NamespaceList = 2
+privilege_number NamespaceReadProperties = 3
+privilege_number NamespaceWriteProperties = 4
+privilege_number NamespaceFullMetadata = 5
+privilege_number TableCreate = 6
+privilege_number TableDrop = 7
+privilege_number TableList = 8
+privilege_number TableReadProperties = 9
+privilege_number TableWriteProperties = 10
+privilege_number TableFullMetadata = 11
+privilege_number ViewCreate = 12
+privilege_number ViewDrop = 13
+privilege_number ViewList = 14
+privilege_number ViewReadProperties = 15
+privilege_number ViewWriteProperties = 16
+privilege_number ViewFullMetadata = 17
+privilege_number TableReadData = 18
+privilege_number TableWriteData = 19
+privilege_number CatalogManageAccess = 20
+privilege_number CatalogManageContent = 21
+privilege_number CatalogManageMetadata = 22
+privilege_number CatalogReadProperties = 23
+privilege_number CatalogWriteProperties = 24
+privilege_number ServiceManageAccess = 25
 
 -- whether two privileges are one
 abbrev pub same_privilege : Privilege → Privilege → Bool

@@ -15,4 +15,7 @@ kind_of (View id) = kind.View
 -- whether it is the realm
 abbrev pub is_realm : Securable → Bool
 is_realm Realm = true
-is_realm other = false
+is_realm (Catalog id) = false
+is_realm (Namespace id) = false
+is_realm (Table id) = false
+is_realm (View id) = false

@@ -1,5 +1,5 @@
 //! Theorems over the definitions of `specs/`: the clause of each function is the statement, and its body is empty.
-ghost use Rattle.pol_access.specs.Laws.{DroppedCatalogRolesKeepSound, DroppedGrantsKeepSound, DroppedJoinKeepsSound, DroppedMemberKeepsSound, DroppedPrincipalKeepsSound, DroppedPrincipalRoleKeepsSound, ImplicationIsReflexive, ImplicationIsTransitive, ListsAreInOrder, MoreIdsKeepSound, NewRowsGoLast, PushedCatalogRoleKeepsSound, PushedPrincipalKeepsSound, PushedPrincipalRoleKeepsSound, PutGrantKeepsSound, PutJoinKeepsSound, PutMemberKeepsSound, ReplacedPrincipalKeepsSound, SearchTellsMay, TextsReadBack, WhatNamesIsDropped};
+ghost use Rattle.pol_access.specs.Laws.{FactsAreInOrder, ImplicationIsReflexive, ImplicationIsTransitive, ListsAreInOrder, SearchTellsMay, TextsReadBack};
 
 /// Each privilege is read back from its text.
 pub fn texts_read_back()
@@ -26,82 +26,9 @@ pub fn lists_are_in_order<R>()
     ensures { ListsAreInOrder R }
 {}
 
-/// Rows stay sound where more ids are given out.
-pub fn more_ids_keep_sound()
-    ensures { MoreIdsKeepSound }
-{}
-
-/// A row with the next id goes last.
-pub fn new_rows_go_last()
-    ensures { NewRowsGoLast }
-{}
-
-/// A principal with the next id, a new name and a new client id may be pushed.
-pub fn pushed_principal_keeps_sound()
-    ensures { PushedPrincipalKeepsSound }
-{}
-
-/// A principal may be replaced by a row of its id, name and client id.
-pub fn replaced_principal_keeps_sound()
-    ensures { ReplacedPrincipalKeepsSound }
-{}
-
-/// A principal that isn't `root` may be dropped with its memberships.
-pub fn dropped_principal_keeps_sound()
-    ensures { DroppedPrincipalKeepsSound }
-{}
-
-/// A principal role with the next id and a new name may be pushed.
-pub fn pushed_principal_role_keeps_sound()
-    ensures { PushedPrincipalRoleKeepsSound }
-{}
-
-/// A principal role that isn't `service_admin` may be dropped with its members and joins.
-pub fn dropped_principal_role_keeps_sound()
-    ensures { DroppedPrincipalRoleKeepsSound }
-{}
-
-/// A catalogue role with the next id and a name that is new in its catalogue may be pushed.
-pub fn pushed_catalog_role_keeps_sound()
-    ensures { PushedCatalogRoleKeepsSound }
-{}
-
-/// A catalogue role may be dropped with its joins and grants, and so may all roles of a catalogue.
-pub fn dropped_catalog_roles_keep_sound()
-    ensures { DroppedCatalogRolesKeepSound }
-{}
-
-/// A member may be put where its principal and its role are there.
-pub fn put_member_keeps_sound()
-    ensures { PutMemberKeepsSound }
-{}
-
-/// A member may be dropped that isn't `root` in `service_admin`.
-pub fn dropped_member_keeps_sound()
-    ensures { DroppedMemberKeepsSound }
-{}
-
-/// A join may be put where its roles are there.
-pub fn put_join_keeps_sound()
-    ensures { PutJoinKeepsSound }
-{}
-
-/// Any join may be dropped.
-pub fn dropped_join_keeps_sound()
-    ensures { DroppedJoinKeepsSound }
-{}
-
-/// A grant may be put where its role is there and its privilege is allowed on its securable.
-pub fn put_grant_keeps_sound()
-    ensures { PutGrantKeepsSound }
-{}
-
-/// Any grant may be dropped, and so may all that are on a securable.
-pub fn dropped_grants_keep_sound()
-    ensures { DroppedGrantsKeepSound }
-{}
-
-/// Between the rows and those without what names a referent, the changes are drops of what names it, in rising order.
-pub fn what_names_is_dropped<C>()
-    ensures { WhatNamesIsDropped C }
+/// Members, joins and grants in order are the rows, each as often, and where they differ they rise: members by
+/// principal and role, joins by principal role and catalogue role, and grants by role, privilege, kind of securable
+/// and its id.
+pub fn facts_are_in_order()
+    ensures { FactsAreInOrder }
 {}

@@ -13,6 +13,7 @@ use std::alloc::{AllocError, Global};
 
 impl Access {
     /// The members that name a referent, in rising order.
+    #[tactic(auto, using(crate::proofs::FactOrderLemmas::members_sorted))]
     pub fn members_of(
         &self,
         alloc: Global,
@@ -24,6 +25,7 @@ impl Access {
     }
 
     /// The joins that name a referent, in rising order.
+    #[tactic(auto, using(crate::proofs::FactOrderLemmas::joins_sorted))]
     pub fn joins_of(&self, alloc: Global, referent: Referent) -> Result<Vec<JoinRow>, OutOfMemory>
         ensures { IfOk result (λ rows. rows.items ≡ joins_in_order (filter (join_names self.now.rows.catalog_roles referent) self.now.rows.joins)) }
     {
@@ -31,6 +33,7 @@ impl Access {
     }
 
     /// The grants that name a referent, in rising order.
+    #[tactic(auto, using(crate::proofs::FactOrderLemmas::grants_sorted))]
     pub fn grants_of(&self, alloc: Global, referent: Referent) -> Result<Vec<GrantRow>, OutOfMemory>
         ensures { IfOk result (λ rows. rows.items ≡ grants_in_order (filter (grant_names self.now.rows.catalog_roles referent) self.now.rows.grants)) }
     {

@@ -2,7 +2,6 @@
 use Rattle.std.proofs.Common.{◌≡◌, ℕ, ◌+◌, ◌-◌, ◌<◌, ◌≤◌, Bool, true, false, not, cond, ◌&&◌, ◌||◌, List, [], ◌∷◌, ◌++◌, map, filter, take, length, Option, Some, None, is_none, is_some, nat_eq, nat_lt, refl, sym, ap, subst, ◌∙◌, inl, inr, true≢false, arith, length-append, length-take-le, suc, zero}
 use Rattle.std.specs.Cmp.{IsEquivalence, and_equiv, nat_eq_equiv, on_equiv}
 use Rattle.std.specs.Cmp.Lexicographic.{lists_equiv, nat_list_eq_equiv, same_text}
-use Rattle.std.specs.Str.{bytes_eq}
 use Rattle.std.specs.List.{find, list_any, range_with_len, AllByRecursion, IsDistinct}
 use Rattle.std.proofs.lemmas.Bool.{and_from, and_parts, cases_Bool, eq-eqb, eqb-true, lt-ltb, ltb-true, ne_eqb}
 use Rattle.std.proofs.lemmas.List.{take_all}
@@ -15,9 +14,8 @@ use Rattle.pol_tables.proofs.ListLemmas.{each-all, each-filter, each-join, each-
 use Rattle.pol_tables.proofs.NamedLemmas.{each-own}
 use Rattle.pol_tables.proofs.NumberedLemmas.{AreNumbered-filter, AreNumbered-map, AreNumbered-more, AreNumbered-push, below-next}
 use Rattle.pol_tables.proofs.RisingLemmas.{IdsDiffer-rising, knows-below}
-use Rattle.pol_tables.proofs.TableLemmas.{is_some-row_of, knows-map, rows_with-known, rows_with-new, some_is}
-use Rattle.pol_content.specs.Content.{catalog_id, first_missing, is_catalog_named, is_missing, is_namespace_named, ContentRows, lies_below, namespace_id, none_below, same_levels}
-use Rattle.pol_content.specs.Laws.{AlteredCatalogsKeepSound, AlteredNamespacesKeepSound, DroppedCatalogKeepsSound, DroppedNamespaceKeepsSound, MoreIdsKeepSound, NewRowsGoLast, PushedCatalogKeepsSound, PushedNamespaceKeepsSound, ReplacedNamespaceKeepsSound, WholePathsHaveParents}
+use Rattle.pol_tables.proofs.TableLemmas.{is_some-row_of, rows_with-known, rows_with-new, some_is}
+use Rattle.pol_content.specs.Content.{catalog_id, first_missing, is_catalog_named, is_missing, is_namespace_named, ContentRows, lies_below, namespace_id, none_below, same_levels, catalog_is_empty, catalog_named, is_empty, namespace_named}
 use Rattle.pol_content.specs.Sound.{HasParent, IsParentThere, IsSmallCatalog, IsSmallNamespace, IsSoundContent}
 use Rattle.pol_content.specs.declared.rows.CatalogRow.{CatalogRow}
 use Rattle.pol_content.specs.declared.rows.NamespaceRow.{NamespaceRow}
@@ -131,7 +129,8 @@ not-true : (b : Bool) → not b ≡ true → b ≡ false
 not-true true is = sym is
 not-true false is = refl
 
-pub more_ids : MoreIdsKeepSound
+-- rows stay sound where more ids are given out
+pub more_ids : (low high : ℕ) (content : ContentRows) → low ≤ high → IsSoundContent low content → IsSoundContent high content
 more_ids low high content within sound = record {
   catalogs = AreNumbered-more catalog_id low high within content.catalogs sound.catalogs;
   namespaces = AreNumbered-more namespace_id low high within content.namespaces sound.namespaces;
@@ -149,7 +148,10 @@ more_ids low high content within sound = record {
 one_more : (n : ℕ) → n ≤ n + 1
 one_more n = omega arith
 
-pub pushed_catalog : PushedCatalogKeepsSound
+-- a catalogue with the next id and a new name may be pushed
+pub pushed_catalog : (next_id : ℕ) (content : ContentRows) (row : CatalogRow) → IsSoundContent next_id content → 1 ≤ next_id → row.id ≡ next_id
+    → catalog_named row.name content ≡ None → length content.catalogs < 1000 → IsSmallCatalog row
+    → IsSoundContent (next_id + 1) (record content { catalogs = content.catalogs ++ row ∷ [] })
 pushed_catalog next_id content row sound first is new room small = record {
   catalogs = AreNumbered-push catalog_id next_id row content.catalogs first is sound.catalogs;
   namespaces = AreNumbered-more namespace_id next_id (next_id + 1) (one_more next_id) content.namespaces sound.namespaces;
@@ -171,7 +173,11 @@ parent-push : (row : NamespaceRow) (rows : List NamespaceRow) (catalog : ℕ) (p
 parent-push row rows catalog None there = tt
 parent-push row rows catalog (Some parent) there = any-push (is_namespace_named catalog parent) rows row there
 
-pub pushed_namespace : PushedNamespaceKeepsSound
+-- a namespace with the next id, new levels, a catalogue and a parent may be pushed
+pub pushed_namespace : (next_id : ℕ) (content : ContentRows) (row : NamespaceRow) → IsSoundContent next_id content → 1 ≤ next_id → row.id ≡ next_id
+    → knows catalog_id row.catalog content.catalogs ≡ true → HasParent content.namespaces row
+    → namespace_named row.catalog row.levels content ≡ None → length content.namespaces < 100000 → IsSmallNamespace row
+    → IsSoundContent (next_id + 1) (record content { namespaces = content.namespaces ++ row ∷ [] })
 pushed_namespace next_id content row sound first is there parent new room small = record {
   catalogs = AreNumbered-more catalog_id next_id (next_id + 1) (one_more next_id) content.catalogs sound.catalogs;
   namespaces = AreNumbered-push namespace_id next_id row content.namespaces first is sound.namespaces;
@@ -186,27 +192,15 @@ pushed_namespace next_id content row sound first is there parent new room small 
   namespaces_small = each-push IsSmallNamespace content.namespaces row sound.namespaces_small small;
 }
 
-pub altered_catalogs : AlteredCatalogsKeepSound
-altered_catalogs next_id content alter ids names smalls sound = record {
-  catalogs = AreNumbered-map catalog_id next_id alter ids content.catalogs sound.catalogs;
-  namespaces = sound.namespaces;
-  ids_differ = each-weaken (λ kept. knows catalog_id kept.id content.catalogs ≡ false) (λ kept. knows catalog_id kept.id (map alter content.catalogs) ≡ false) content.namespaces (λ kept unknown. knows-map catalog_id alter ids kept.id content.catalogs ∙ unknown) sound.ids_differ;
-  catalog_names_differ = distinct-map same_catalog alter (λ left right i. bytes_eq (names left i) (names right i)) content.catalogs sound.catalog_names_differ;
-  namespace_names_differ = sound.namespace_names_differ;
-  namespace_catalogs = each-weaken (λ kept. knows catalog_id kept.catalog content.catalogs ≡ true) (λ kept. knows catalog_id kept.catalog (map alter content.catalogs) ≡ true) content.namespaces (λ kept there. knows-map catalog_id alter ids kept.catalog content.catalogs ∙ there) sound.namespace_catalogs;
-  namespace_parents = sound.namespace_parents;
-  catalogs_bound = subst (λ n. n ≤ 1000) (sym (length-map alter content.catalogs)) sound.catalogs_bound;
-  namespaces_bound = sound.namespaces_bound;
-  catalogs_small = each-map IsSmallCatalog alter content.catalogs (each-weaken IsSmallCatalog (λ row. IsSmallCatalog (alter row)) content.catalogs smalls sound.catalogs_small);
-  namespaces_small = sound.namespaces_small;
-}
-
 parent-map : (alter : NamespaceRow → NamespaceRow) → ((row : NamespaceRow) → (alter row).catalog ≡ row.catalog) → ((row : NamespaceRow) → (alter row).levels ≡ row.levels) → (rows : List NamespaceRow) (catalog : ℕ) (parent : Option (List (List ℕ))) → IsParentThere rows catalog parent → IsParentThere (map alter rows) catalog parent
 parent-map alter catalogs levels rows catalog None there = tt
 parent-map alter catalogs levels rows catalog (Some parent) there =
     any-alike (is_namespace_named catalog parent) alter (λ row i. nat_eq catalog (catalogs row i) && same_levels parent (levels row i)) rows ∙ there
 
-pub altered_namespaces : AlteredNamespacesKeepSound
+-- namespaces may be altered where they keep their ids, catalogues and levels and stay small
+pub altered_namespaces : (next_id : ℕ) (content : ContentRows) (alter : NamespaceRow → NamespaceRow) → ((row : NamespaceRow) → (alter row).id ≡ row.id) → ((row : NamespaceRow) → (alter row).catalog ≡ row.catalog) → ((row : NamespaceRow) → (alter row).levels ≡ row.levels)
+    → ((row : NamespaceRow) → IsSmallNamespace row → IsSmallNamespace (alter row)) → IsSoundContent next_id content
+    → IsSoundContent next_id (record content { namespaces = map alter content.namespaces })
 altered_namespaces next_id content alter ids catalogs levels smalls sound = record {
   catalogs = sound.catalogs;
   namespaces = AreNumbered-map namespace_id next_id alter ids content.namespaces sound.namespaces;
@@ -260,7 +254,10 @@ module _ (row : NamespaceRow) where
         properties = row.properties;
       }
 
-pub replaced_namespace : ReplacedNamespaceKeepsSound
+-- one namespace may be replaced by a row of its id, catalogue and levels that is small
+pub replaced_namespace : (next_id : ℕ) (content : ContentRows) (old row : NamespaceRow) → IsSoundContent next_id content → row_of namespace_id row.id content.namespaces ≡ Some old
+    → row.catalog ≡ old.catalog → row.levels ≡ old.levels → IsSmallNamespace row
+    → IsSoundContent next_id (record content { namespaces = rows_with namespace_id row content.namespaces })
 replaced_namespace next_id content old row sound found catalogs levels small =
     let rows = content.namespaces in
     let known : knows namespace_id row.id rows ≡ true = sym (is_some-row_of namespace_id row.id rows) ∙ ap is_some found in
@@ -272,7 +269,10 @@ goes_last : {R : Type 0} (key : R → ℕ) (next_id : ℕ) (rows : List R) → A
 goes_last key next_id rows numbered row is =
     rows_with-new key row rows (ap (λ id. knows key id rows) is ∙ knows-below key next_id rows (below-next key next_id rows numbered))
 
-pub new_rows_last : NewRowsGoLast
+-- a row with the next id goes last
+pub new_rows_last : (next_id : ℕ) (content : ContentRows) → IsSoundContent next_id content
+    → ((row : CatalogRow) → row.id ≡ next_id → rows_with catalog_id row content.catalogs ≡ content.catalogs ++ row ∷ [])
+    × ((row : NamespaceRow) → row.id ≡ next_id → rows_with namespace_id row content.namespaces ≡ content.namespaces ++ row ∷ [])
 new_rows_last next_id content sound =
     (goes_last catalog_id next_id content.catalogs sound.catalogs, goes_last namespace_id next_id content.namespaces sound.namespaces)
 
@@ -325,7 +325,9 @@ path_there catalog path content filled none =
     let whole : take (1 + (length path - 1)) path ≡ path = take_all (1 + (length path - 1)) path (omega (arith, filled)) in
     any-found (is_namespace_named catalog path) content.namespaces (ap (is_missing catalog content) (sym whole) ∙ last)
 
-pub whole_path : WholePathsHaveParents
+-- a namespace has its parent where none is missing on the way to that one
+pub whole_path : (content : ContentRows) (row : NamespaceRow) → ((parent : List (List ℕ)) → parent_of row.levels ≡ Some parent → first_missing row.catalog parent content ≡ None)
+    → HasParent content.namespaces row
 whole_path content row whole = by (parent_of row.levels) refl
   where
     by : (parent : Option (List (List ℕ))) → parent_of row.levels ≡ parent → IsParentThere content.namespaces row.catalog parent
@@ -337,7 +339,9 @@ whole_path content row whole = by (parent_of row.levels) refl
 fewer : {X : Type 0} (keep : X → Bool) (xs : List X) (bound : ℕ) → length xs ≤ bound → length (filter keep xs) ≤ bound
 fewer keep xs bound within = omega (arith, length-filter keep xs)
 
-pub dropped_catalog : DroppedCatalogKeepsSound
+-- a catalogue without namespaces may be taken away
+pub dropped_catalog : (next_id id : ℕ) (content : ContentRows) → IsSoundContent next_id content → catalog_is_empty id content ≡ true
+    → IsSoundContent next_id (record content { catalogs = rows_without catalog_id id content.catalogs })
 unfolding rows_without
 dropped_catalog next_id id content sound empty = record {
   catalogs = AreNumbered-filter catalog_id next_id (λ row. not (has_id catalog_id id row)) content.catalogs sound.catalogs;
@@ -399,7 +403,9 @@ module _ (id : ℕ) (rows : List NamespaceRow) (differ : IdsDiffer namespace_id 
   none_lies_below (Some upper) empty =
       each-weaken (λ kept. lies_below upper kept ≡ false) (λ kept. (row : NamespaceRow) → Some upper ≡ Some row → lies_below row kept ≡ false) rows (λ kept apart row is. ap (λ other. lies_below other kept) (sym (some_is upper row is)) ∙ apart) (each-fails (lies_below upper) rows (not-true (list_any (lies_below upper) rows) empty))
 
-pub dropped_namespace : DroppedNamespaceKeepsSound
+-- a namespace without deeper ones may be taken away
+pub dropped_namespace : (next_id id : ℕ) (content : ContentRows) → IsSoundContent next_id content → is_empty id content ≡ true
+    → IsSoundContent next_id (record content { namespaces = rows_without namespace_id id content.namespaces })
 unfolding rows_without
 dropped_namespace next_id id content sound empty =
     let differ = IdsDiffer-rising namespace_id content.namespaces sound.namespaces.rise in

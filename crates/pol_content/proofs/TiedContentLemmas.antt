@@ -1,5 +1,5 @@
 -- Rows that are tied stay so once a catalogue, a namespace or a catalogue role is put or dropped.
-use Rattle.std.proofs.Common.{◌≡◌, ℕ, ◌+◌, Bool, true, false, not, ◌&&◌, ◌||◌, List, [], ◌∷◌, ◌++◌, Some, None, is_some, option_map, nat_eq, refl, sym, ap, ◌∙◌, true≢false, arith, codes}
+use Rattle.std.proofs.Common.{◌≡◌, ◌≢◌, ℕ, ◌+◌, Bool, true, false, not, ◌&&◌, ◌||◌, List, [], ◌∷◌, ◌++◌, Some, None, is_some, option_map, nat_eq, refl, sym, ap, ◌∙◌, true≢false, arith, codes}
 use Rattle.std.specs.Cmp.{nat_eq_equiv}
 use Rattle.std.specs.Cmp.Lexicographic.{nat_list_eq_equiv}
 use Rattle.std.specs.List.{find, list_any, AllByRecursion}
@@ -7,7 +7,7 @@ use Rattle.std.specs.Str.{bytes_eq}
 use Rattle.std.proofs.lemmas.Bool.{and_from, eq-eqb, eqb-true, ne_eqb}
 use Rattle.std.proofs.lemmas.List.{append_assoc}
 use Rattle.pol_access.specs.Access.{AccessRows, catalog_role_dropped, catalog_role_id, catalog_roles_dropped, grants_on_dropped, is_of_catalog, is_role_of}
-use Rattle.pol_access.specs.Names.{has_catalog_role_name}
+use Rattle.pol_access.specs.Names.{has_catalog_role_name, principal_role_named}
 use Rattle.pol_access.specs.contracts.rows.GrantRow as grant
 use Rattle.pol_access.specs.contracts.rows.JoinRow as join
 use Rattle.pol_access.specs.contracts.securable.Securable.{the_row}
@@ -20,19 +20,19 @@ use Rattle.pol_access.specs.declared.securable.Securable.{Securable}
 use Rattle.pol_access.specs.declared.securable.Securable.TheVariants.{Realm, Catalog, Namespace, Table, View}
 use Rattle.pol_tables.specs.Facts.{facts_with, holds}
 use Rattle.pol_tables.specs.Same.{same}
-use Rattle.pol_tables.specs.Table.{has_id, knows, row_of, rows_with, rows_without}
+use Rattle.pol_tables.specs.Table.{has_id, knows, row_of, rows_with, rows_without, IdsDiffer}
 use Rattle.pol_tables.proofs.FactsLemmas.{facts_with-new}
 use Rattle.pol_tables.proofs.ListLemmas.{each-push, each-weaken}
 use Rattle.pol_tables.proofs.NamedLemmas.{each-rows_with, each-rows_without, find-none}
 use Rattle.pol_tables.proofs.SameLemmas.{same-differ, same-refl}
 use Rattle.pol_tables.proofs.TableLemmas.{is_some-row_of, key-row_of, rows_with-new}
 use Rattle.pol_content.specs.Content.{catalog_id, namespace_id, ContentRows}
-use Rattle.pol_content.specs.Laws.{AdminRowsGoLast, CreatedCatalogKeepsTies, DroppedCatalogKeepsTies, DroppedCatalogRoleKeepsTies, DroppedNamespaceKeepsTies, PushedCatalogRoleKeepsTies, PutNamespaceKeepsTies}
-use Rattle.pol_content.specs.Ties.{admin_grant, admin_join, admin_of, catalog_of, is_access_id, with_admin, HasAdmin, IdsApart, IsGrantWithin}
+use Rattle.pol_content.specs.Ties.{admin_grant, admin_join, admin_of, catalog_of, is_access_id, with_admin, HasAdmin, IdsApart, IsGrantWithin, IsAdminNew, AreTied, is_content_id, with_admin_last}
 use Rattle.pol_content.specs.declared.rows.CatalogRow.{CatalogRow}
 use Rattle.pol_content.specs.declared.rows.NamespaceRow.{NamespaceRow}
 use Rattle.pol_content.proofs.SoundLemmas.{any-fewer, each-fails}
 use Rattle.pol_content.proofs.TiesLemmas.{apart-fewer, apart-put, each-facts_with, each-kept, each-within, find-kept, find-new, find-pushed, find-without, found-own, found-passes, holds-kept, holds-put, holds-with, knows-put, knows-without, mapped-kept, not-is, or-parts, other-id, role-name, row_of-new, row_of-other, row_of-put, unknown-from, unknown-parts, unknown-put, unknown-without, within-roles, IsUnknown}
+use Rattle.pol_access.specs.declared.rows.PrincipalRoleRow.{PrincipalRoleRow}
 
 -- where each item fails none passes, and one more that fails leaves it so
 any-none : {X : Type 0} (test : X → Bool) (xs : List X) → AllByRecursion (λ x. test x ≡ false) xs → list_any test xs ≡ false
@@ -46,7 +46,9 @@ none-push test xs x none fails = any-none test (xs ++ x ∷ []) (each-push (λ o
 abbrev is_admin : ℕ → CatalogRoleRow → Bool
 is_admin catalog = has_catalog_role_name catalog (codes "catalog_admin")
 
-pub pushed_catalog_role : PushedCatalogRoleKeepsTies
+-- a new role of a catalogue that is there may be pushed, whose id is no catalogue's and no namespace's
+pub pushed_catalog_role : (access : AccessRows) (content : ContentRows) → AreTied access content → (row : CatalogRoleRow) → knows catalog_role_id row.id access.catalog_roles ≡ false → is_content_id row.id content ≡ false
+    → knows catalog_id row.catalog content.catalogs ≡ true → AreTied (record access { catalog_roles = rows_with catalog_role_id row access.catalog_roles }) content
 pushed_catalog_role access content tied row new none there =
     let after : AccessRows = record access { catalog_roles = rows_with catalog_role_id row access.catalog_roles } in
     record {
@@ -64,7 +66,9 @@ pushed_catalog_role access content tied row new none there =
       ids_apart = apart-put access after content tied.ids_apart row.id none (λ id unknown other. record { principals = unknown.principals; principal_roles = unknown.principal_roles; catalog_roles = unknown-put catalog_role_id id row access.catalog_roles unknown.catalog_roles other });
     }
 
-pub dropped_catalog_role : DroppedCatalogRoleKeepsTies
+-- a catalogue role other than a `catalog_admin` may be dropped
+pub dropped_catalog_role : (access : AccessRows) (content : ContentRows) → AreTied access content → (row : CatalogRoleRow) → IdsDiffer catalog_role_id access.catalog_roles → row_of catalog_role_id row.id access.catalog_roles ≡ Some row
+    → row.name ≢ codes "catalog_admin" → AreTied (catalog_role_dropped row.id access) content
 unfolding rows_without
 dropped_catalog_role access content tied row differ there named =
     let after : AccessRows = catalog_role_dropped row.id access in
@@ -105,7 +109,9 @@ module _ (content after : ContentRows) (catalog : ℕ)
   lies-kept (Table id) namespaces lies = lies
   lies-kept (View id) namespaces lies = lies
 
-pub put_namespace : PutNamespaceKeepsTies
+-- a namespace may be put, a new one or one that stays in its catalogue, whose id is no principal's and no role's
+pub put_namespace : (access : AccessRows) (content : ContentRows) → AreTied access content → (row : NamespaceRow) → ((old : NamespaceRow) → row_of namespace_id row.id content.namespaces ≡ Some old → row.catalog ≡ old.catalog)
+    → is_access_id row.id access ≡ false → AreTied access (record content { namespaces = rows_with namespace_id row content.namespaces })
 put_namespace access content tied row same_catalog none =
     let after : ContentRows = record content { namespaces = rows_with namespace_id row content.namespaces } in
     record {
@@ -127,7 +133,8 @@ put_namespace access content tied row same_catalog none =
     lies id kept catalog found in_ false is =
         ap (option_map (λ (other : NamespaceRow). other.catalog)) (row_of-other namespace_id id row content.namespaces is ∙ found) ∙ ap Some in_
 
-pub dropped_namespace : DroppedNamespaceKeepsTies
+-- a namespace may be dropped with the grants on it
+pub dropped_namespace : (access : AccessRows) (content : ContentRows) → AreTied access content → (id : ℕ) → AreTied (grants_on_dropped (Namespace id) access) (record content { namespaces = rows_without namespace_id id content.namespaces })
 dropped_namespace access content tied gone =
     let after : ContentRows = record content { namespaces = rows_without namespace_id gone content.namespaces } in
     let roles : AccessRows = grants_on_dropped (Namespace gone) access in
@@ -158,7 +165,9 @@ dropped_namespace access content tied gone =
         let other : nat_eq gone kept.id ≡ false = ne_eqb gone kept.id (λ is. true≢false (sym (ap (λ n. same the_row.coded (Namespace id) (Namespace n)) (is ∙ sym (key-row_of namespace_id id kept content.namespaces found)) ∙ same-refl the_row.coded (Namespace id)) ∙ apart)) in
         ap (option_map (λ (one : NamespaceRow). one.catalog)) (find-without namespace_id (has_id namespace_id id) gone kept content.namespaces found other) ∙ ap Some in_
 
-pub dropped_catalog : DroppedCatalogKeepsTies
+-- a catalogue may be dropped with its roles
+pub dropped_catalog : (access : AccessRows) (content : ContentRows) → AreTied access content → (id : ℕ) → IdsDiffer catalog_role_id access.catalog_roles
+    → AreTied (catalog_roles_dropped id access) (record content { catalogs = rows_without catalog_id id content.catalogs })
 unfolding rows_without
 dropped_catalog access content tied gone differ =
     let after : ContentRows = record content { catalogs = rows_without catalog_id gone content.catalogs } in
@@ -200,7 +209,10 @@ dropped_catalog access content tied gone differ =
           manages_content = holds-kept grant.the_row.coded (λ kept. not (is_role_of access.catalog_roles gone kept.catalog_role)) (record { catalog_role = has.role.id; privilege = CatalogManageContent; securable = Catalog one.id }) access.grants has.manages_content stays;
         }
 
-pub created_catalog : CreatedCatalogKeepsTies
+-- a catalogue may be created, with its `catalog_admin`, where its id and the one after it are new
+pub created_catalog : (access : AccessRows) (content : ContentRows) → AreTied access content → (row : CatalogRow) (service : PrincipalRoleRow) → principal_role_named (codes "service_admin") access ≡ Some service
+    → is_content_id row.id content ≡ false → is_content_id (row.id + 1) content ≡ false → is_access_id row.id access ≡ false → is_access_id (row.id + 1) access ≡ false
+    → AreTied (with_admin row.id service.id access) (record content { catalogs = rows_with catalog_id row content.catalogs })
 created_catalog access content tied row service service_there none none_after unknown unknown_after =
     record {
       role_catalogs = each-rows_with catalog_role_id (λ one. knows catalog_id one.catalog content.catalogs ≡ true) (λ one. knows catalog_id one.catalog after.catalogs ≡ true) (admin_of row.id) access.catalog_roles tied.role_catalogs (λ one known other. knows-put catalog_id one.catalog row content.catalogs known) catalog_there;
@@ -281,7 +293,11 @@ created_catalog access content tied row service service_there none none_after un
       manages_content = holds-put grant.the_row.coded (admin_grant CatalogManageContent row.id) (facts_with grant.the_row.coded (admin_grant CatalogManageAccess row.id) access.grants);
     }
 
-pub admin_rows_last : AdminRowsGoLast
+-- the rows of a created catalogue's `catalog_admin` are new, and go last, where its id is new and the roles of joins
+-- are there
+pub admin_rows_last : (access : AccessRows) (content : ContentRows) → AreTied access content → (catalog service : ℕ) → is_access_id (catalog + 1) access ≡ false
+    → AllByRecursion (λ row. knows catalog_role_id row.catalog_role access.catalog_roles ≡ true) access.joins
+    → IsAdminNew catalog service access × (with_admin catalog service access ≡ with_admin_last catalog service access)
 admin_rows_last access content tied catalog service unknown joins_there = (
   record { role = new_role; joined = new_join; manages_access = new_grant CatalogManageAccess; manages_content = new_grant CatalogManageContent },
   λ i. record access { catalog_roles = rows_with-new catalog_role_id (admin_of catalog) access.catalog_roles new_role i; joins = facts_with-new join.the_row.coded (admin_join service catalog) access.joins new_join i; grants = grants_last i },

@@ -1,5 +1,5 @@
 -- Rows that are tied stay so once a row is put or dropped.
-use Rattle.std.proofs.Common.{◌≡◌, ◌≢◌, ℕ, Bool, true, false, not, cond, ◌||◌, List, [], ◌∷◌, ◌++◌, map, filter, Option, Some, None, option_map, nat_eq, refl, sym, ap, subst, ◌∙◌, inl, inr, true≢false, codes}
+use Rattle.std.proofs.Common.{◌≡◌, ◌≢◌, ◌≤◌, ℕ, Bool, true, false, not, cond, ◌||◌, List, [], ◌∷◌, ◌++◌, map, filter, Option, Some, None, option_map, nat_eq, refl, sym, ap, subst, ◌∙◌, inl, inr, true≢false, codes}
 use Rattle.std.specs.Cmp.{nat_eq_equiv}
 use Rattle.std.specs.Cmp.Lexicographic.{same_text}
 use Rattle.std.specs.Coded.{Coded}
@@ -29,10 +29,12 @@ use Rattle.pol_tables.proofs.RisingLemmas.{key-replaced, knows-below, KeysBelow-
 use Rattle.pol_tables.proofs.SameLemmas.{same-differ, same-refl, same-true}
 use Rattle.pol_tables.proofs.TableLemmas.{knows-map, rows_with-known, rows_with-new, some_is}
 use Rattle.pol_content.specs.Content.{catalog_id, namespace_id, ContentRows}
-use Rattle.pol_content.specs.Laws.{NewIdsAreNoContents, PutPrincipalKeepsTies, DroppedPrincipalKeepsTies, PushedPrincipalRoleKeepsTies, DroppedPrincipalRoleKeepsTies, MembersKeepTies, PutJoinKeepsTies, DroppedJoinKeepsTies, PutGrantKeepsTies, DroppedGrantKeepsTies}
-use Rattle.pol_content.specs.Ties.{is_access_id, is_content_id, HasAdmin, IdsApart, IsGrantWithin}
+use Rattle.pol_content.specs.Ties.{is_access_id, is_content_id, HasAdmin, IdsApart, IsGrantWithin, AreTied}
 use Rattle.pol_content.specs.declared.rows.CatalogRow.{CatalogRow}
 use Rattle.pol_content.proofs.SoundLemmas.{any-fewer, any-kept, any-push, each-fails, knows-push}
+use Rattle.pol_access.specs.declared.rows.MemberRow.{MemberRow}
+use Rattle.pol_access.specs.declared.rows.PrincipalRow.{PrincipalRow}
+use Rattle.pol_content.specs.Sound.{IsSoundContent}
 
 pub or-false : (a b : Bool) → a ≡ false → b ≡ false → (a || b) ≡ false
 or-false a b left right = λ i. left i || right i
@@ -253,7 +255,8 @@ module _ (access after : AccessRows) (content : ContentRows) (apart : IdsApart a
         namespaces = each-join (λ row. nat_eq new row.id ≡ false) (λ row. is_access_id row.id access ≡ false) (λ row. is_access_id row.id after ≡ false) content.namespaces (λ row other unknown. unknown-from row.id after (so row.id (unknown-parts row.id access unknown) (nat_eq_equiv.symm row.id new ∙ other))) (each-fails (has_id namespace_id new) content.namespaces parts.1) apart.namespaces;
       }
 
-pub new_ids : NewIdsAreNoContents
+-- an id that was not given out is no catalogue's and no namespace's
+pub new_ids : (next_id id : ℕ) (content : ContentRows) → IsSoundContent next_id content → next_id ≤ id → is_content_id id content ≡ false
 new_ids next_id id content sound above =
     or-false (knows catalog_id id content.catalogs) (knows namespace_id id content.namespaces) (knows-below catalog_id id content.catalogs (KeysBelow-more catalog_id next_id id content.catalogs above (below-next catalog_id next_id content.catalogs sound.catalogs))) (knows-below namespace_id id content.namespaces (KeysBelow-more namespace_id next_id id content.namespaces above (below-next namespace_id next_id content.namespaces sound.namespaces)))
 
@@ -265,7 +268,9 @@ module _ (access after : AccessRows) (content : ContentRows) where
   pub each-within : ((row : GrantRow) (within : IsGrantWithin access content row) → row_of catalog_role_id row.catalog_role after.catalog_roles ≡ Some within.role) → (grants : List GrantRow) → AllByRecursion (IsGrantWithin access content) grants → AllByRecursion (IsGrantWithin after content) grants
   each-within there grants all = each-weaken (IsGrantWithin access content) (IsGrantWithin after content) grants (λ row within. within-roles row within (there row within)) all
 
-pub put_principal : PutPrincipalKeepsTies
+-- a principal may be put whose id is no catalogue's and no namespace's, and any may be dropped
+pub put_principal : (access : AccessRows) (content : ContentRows) → AreTied access content → (row : PrincipalRow) → is_content_id row.id content ≡ false
+    → AreTied (record access { principals = rows_with principal_id row access.principals }) content
 put_principal access content tied row none =
     let after : AccessRows = record access { principals = rows_with principal_id row access.principals } in
     record {
@@ -275,7 +280,7 @@ put_principal access content tied row none =
       ids_apart = apart-put access after content tied.ids_apart row.id none (λ id unknown other. record { principals = unknown-put principal_id id row access.principals unknown.principals other; principal_roles = unknown.principal_roles; catalog_roles = unknown.catalog_roles });
     }
 
-pub dropped_principal : DroppedPrincipalKeepsTies
+pub dropped_principal : (access : AccessRows) (content : ContentRows) → AreTied access content → (id : ℕ) → AreTied (principal_dropped id access) content
 dropped_principal access content tied gone =
     let after : AccessRows = principal_dropped gone access in
     record {
@@ -285,7 +290,9 @@ dropped_principal access content tied gone =
       ids_apart = apart-fewer access after content tied.ids_apart (λ id unknown. record { principals = unknown-without principal_id id gone access.principals unknown.principals; principal_roles = unknown.principal_roles; catalog_roles = unknown.catalog_roles });
     }
 
-pub pushed_principal_role : PushedPrincipalRoleKeepsTies
+-- a new principal role may be pushed whose id is no catalogue's and no namespace's
+pub pushed_principal_role : (access : AccessRows) (content : ContentRows) → AreTied access content → (row : PrincipalRoleRow) → knows principal_role_id row.id access.principal_roles ≡ false → is_content_id row.id content ≡ false
+    → AreTied (record access { principal_roles = rows_with principal_role_id row access.principal_roles }) content
 pushed_principal_role access content tied row new none =
     let after : AccessRows = record access { principal_roles = rows_with principal_role_id row access.principal_roles } in
     record {
@@ -307,7 +314,9 @@ pushed_principal_role access content tied row new none =
 pub other-name : (name : List ℕ) (other : List ℕ) → other ≢ name → bytes_eq name other ≡ true → ⊥
 other-name name other apart same = apart (sym (same_text name other (sym same)))
 
-pub dropped_principal_role : DroppedPrincipalRoleKeepsTies
+-- a principal role other than `service_admin` may be dropped
+pub dropped_principal_role : (access : AccessRows) (content : ContentRows) → AreTied access content → (row : PrincipalRoleRow) → IdsDiffer principal_role_id access.principal_roles → row_of principal_role_id row.id access.principal_roles ≡ Some row
+    → row.name ≢ codes "service_admin" → AreTied (principal_role_dropped row.id access) content
 dropped_principal_role access content tied row differ there named =
     let after : AccessRows = principal_role_dropped row.id access in
     let test = has_role_name (codes "service_admin") in
@@ -327,7 +336,8 @@ dropped_principal_role access content tied row differ there named =
       ids_apart = apart-fewer access after content tied.ids_apart (λ id unknown. record { principals = unknown.principals; principal_roles = unknown-without principal_role_id id row.id access.principal_roles unknown.principal_roles; catalog_roles = unknown.catalog_roles });
     }
 
-pub members_keep : MembersKeepTies
+-- members may be put and dropped
+pub members_keep : (access : AccessRows) (content : ContentRows) → AreTied access content → (members : List MemberRow) → AreTied (record access { members = members }) content
 members_keep access content tied members = record {
   role_catalogs = tied.role_catalogs;
   grants_within = each-within access (record access { members = members }) content (λ row within. within.there) access.grants tied.grants_within;
@@ -335,7 +345,8 @@ members_keep access content tied members = record {
   ids_apart = record { catalogs = tied.ids_apart.catalogs; namespaces = tied.ids_apart.namespaces };
 }
 
-pub put_join : PutJoinKeepsTies
+-- a join may be put, and one other than of `service_admin` to a `catalog_admin` may be dropped
+pub put_join : (access : AccessRows) (content : ContentRows) → AreTied access content → (row : JoinRow) → AreTied (record access { joins = facts_with join.the_row.coded row access.joins }) content
 put_join access content tied row =
     let after : AccessRows = record access { joins = facts_with join.the_row.coded row access.joins } in
     record {
@@ -359,7 +370,10 @@ role-name catalog name row has =
     let parts = and_parts (nat_eq row.catalog catalog) (bytes_eq name row.name) has in
     (eqb-true row.catalog catalog parts.0, sym (same_text name row.name (sym parts.1)))
 
-pub dropped_join : DroppedJoinKeepsTies
+pub dropped_join : (access : AccessRows) (content : ContentRows) → AreTied access content → (principal_role : PrincipalRoleRow) (catalog_role : CatalogRoleRow) → IdsDiffer principal_role_id access.principal_roles → IdsDiffer catalog_role_id access.catalog_roles
+    → row_of principal_role_id principal_role.id access.principal_roles ≡ Some principal_role → row_of catalog_role_id catalog_role.id access.catalog_roles ≡ Some catalog_role
+    → (principal_role.name ≡ codes "service_admin" → catalog_role.name ≢ codes "catalog_admin")
+    → AreTied (record access { joins = facts_without join.the_row.coded (record { principal_role = principal_role.id; catalog_role = catalog_role.id }) access.joins }) content
 dropped_join access content tied principal_role catalog_role roles_differ differ role_there there other =
     let gone : JoinRow = record { principal_role = principal_role.id; catalog_role = catalog_role.id } in
     let after : AccessRows = record access { joins = facts_without join.the_row.coded gone access.joins } in
@@ -386,7 +400,10 @@ dropped_join access content tied principal_role catalog_role roles_differ differ
         let role_named = role-name one.id (codes "catalog_admin") has.role (found-passes (has_catalog_role_name one.id (codes "catalog_admin")) access.catalog_roles has.role has.role_there) in
         other (sym (ap (λ row. row.name) service) ∙ sym (same_text (codes "service_admin") has.service.name (sym service_named))) (sym (ap (λ row. row.name) role) ∙ role_named.1)
 
-pub put_grant : PutGrantKeepsTies
+-- a grant on what lies in its role's catalogue may be put, and one other than the two of a `catalog_admin` on its
+-- catalogue may be dropped
+pub put_grant : (access : AccessRows) (content : ContentRows) → AreTied access content → (row : GrantRow) → IsGrantWithin access content row
+    → AreTied (record access { grants = facts_with grant.the_row.coded row access.grants }) content
 put_grant access content tied row within =
     let after : AccessRows = record access { grants = facts_with grant.the_row.coded row access.grants } in
     record {
@@ -404,7 +421,9 @@ put_grant access content tied row within =
       ids_apart = record { catalogs = tied.ids_apart.catalogs; namespaces = tied.ids_apart.namespaces };
     }
 
-pub dropped_grant : DroppedGrantKeepsTies
+pub dropped_grant : (access : AccessRows) (content : ContentRows) → AreTied access content → (role : CatalogRoleRow) (row : GrantRow) → IdsDiffer catalog_role_id access.catalog_roles → row_of catalog_role_id row.catalog_role access.catalog_roles ≡ Some role
+    → (role.name ≡ codes "catalog_admin" → row.securable ≡ Catalog role.catalog → (row.privilege ≢ CatalogManageAccess) × (row.privilege ≢ CatalogManageContent))
+    → AreTied (record access { grants = facts_without grant.the_row.coded row access.grants }) content
 unfolding facts_without
 dropped_grant access content tied role row differ there other =
     let after : AccessRows = record access { grants = facts_without grant.the_row.coded row access.grants } in

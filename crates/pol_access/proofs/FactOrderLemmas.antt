@@ -1,0 +1,217 @@
+-- Members, joins and grants in rising order: what the sort does, and that the numbers of rows tell them apart.
+use Rattle.std.proofs.Common.{◌≡◌, ℕ, Bool, true, false, cond, List, [], ◌∷◌, refl, sym, ap, ◌∙◌, slice_index_or, nat_eq, nat_cmp, true≢false}
+use Rattle.std.specs.Cmp.{IsTotalOrder, on_total}
+use Rattle.std.specs.Cmp.Lexicographic.{same_text, slice_cmp}
+use Rattle.std.specs.Coded.{Coded}
+use Rattle.std.specs.List.{list_all, AllByRecursion, IsDistinct}
+use Rattle.std.specs.List.Sorted.{IsPermutation, IsStrictlySortedBy}
+use Rattle.std.specs.Ordering.{is_eq, is_lt, ordering_index, ordering_reverse, ordering_then}
+use Rattle.std.specs.declared.cmp.Ordering.{Ordering}
+use Rattle.std.specs.declared.cmp.Ordering.TheVariants.{Less, Equal, Greater}
+use Rattle.std.proofs.lemmas.Cmp.{nat_list_cmp_total}
+use Rattle.std.proofs.lemmas.List.Sorted.{IsPermutation-cons, IsPermutation-refl, IsPermutation-trans}
+use Rattle.std.proofs.lemmas.Map.Keys.{IsDistinct-head, IsDistinct-tail}
+use Rattle.std.proofs.lemmas.Map.Text.{is_eq-slice_cmp}
+use Rattle.pol_tables.specs.Changes.{in_order, placed}
+use Rattle.pol_tables.specs.Same.{same}
+use Rattle.pol_tables.proofs.ListLemmas.{each-weaken}
+use Rattle.pol_tables.proofs.SameLemmas.{same-refl}
+use Rattle.pol_access.specs.Laws.{AreListedInOrder, FactsAreInOrder}
+use Rattle.pol_access.specs.Order.{by_numbers, grant_cmp, grant_numbers, grants_in_order, join_cmp, join_numbers, joins_in_order, member_cmp, member_numbers, members_in_order, securable_numbers}
+use Rattle.pol_access.specs.Privilege.{privilege_is, privilege_number, privileges, same_privilege}
+use Rattle.pol_access.specs.contracts.privilege.PrivilegeOrd.TheImpl as privilege_order
+use Rattle.pol_access.specs.contracts.rows.GrantRow as grant
+use Rattle.pol_access.specs.contracts.rows.GrantRowOrd.TheImpl as grant_order
+use Rattle.pol_access.specs.contracts.rows.JoinRow as join
+use Rattle.pol_access.specs.contracts.rows.JoinRowOrd.TheImpl as join_order
+use Rattle.pol_access.specs.contracts.rows.MemberRow as member
+use Rattle.pol_access.specs.contracts.rows.MemberRowOrd.TheImpl as member_order
+use Rattle.pol_access.specs.contracts.securable.SecurableOrd.TheImpl as securable_order
+use Rattle.pol_access.specs.declared.privilege.Privilege.{Privilege}
+use Rattle.pol_access.specs.declared.privilege.Privilege.TheVariants.{NamespaceCreate}
+use Rattle.pol_access.specs.declared.rows.GrantRow.{GrantRow}
+use Rattle.pol_access.specs.declared.rows.JoinRow.{JoinRow}
+use Rattle.pol_access.specs.declared.rows.MemberRow.{MemberRow}
+use Rattle.pol_access.specs.declared.securable.Securable.{Securable}
+use Rattle.pol_access.specs.declared.securable.Securable.TheVariants.{Realm, Catalog, Namespace, Table, View}
+use Rattle.pol_access.proofs.OrderLemmas.{moved-past}
+use Rattle.pol_access.proofs.PrivilegeLemmas.{each-privilege}
+
+module _ {T : Type 0} (cmp : T → T → Ordering) where
+  moved-placed : (fact : T) (facts : List T) → IsPermutation (fact ∷ facts) (placed cmp fact facts)
+  unfolding placed
+  moved-placed fact [] = IsPermutation-refl (fact ∷ [])
+  moved-placed fact (next ∷ facts) =
+      let rest = moved-past fact next facts (placed cmp fact facts) (moved-placed fact facts) in
+      elim (is_lt (cmp fact next)) as (λ b. IsPermutation (fact ∷ next ∷ facts) (cond b (fact ∷ next ∷ facts) (next ∷ placed cmp fact facts))) [
+        | true ↦ IsPermutation-refl (fact ∷ next ∷ facts)
+        | false ↦ rest
+      ]
+
+  moved-in_order : (facts : List T) → IsPermutation facts (in_order cmp facts)
+  unfolding in_order
+  moved-in_order [] = IsPermutation-refl []
+  moved-in_order (fact ∷ facts) =
+      IsPermutation-trans (fact ∷ facts) (fact ∷ in_order cmp facts) (placed cmp fact (in_order cmp facts)) (IsPermutation-cons fact facts (in_order cmp facts) (moved-in_order facts)) (moved-placed fact (in_order cmp facts))
+
+  each-placed : (P : T → Type 0) (fact : T) (facts : List T) → P fact → AllByRecursion P facts → AllByRecursion P (placed cmp fact facts)
+  unfolding placed
+  each-placed P fact [] here all = (here, tt)
+  each-placed P fact (next ∷ facts) here all =
+      let rest = each-placed P fact facts here all.1 in
+      elim (is_lt (cmp fact next)) as (λ b. AllByRecursion P (cond b (fact ∷ next ∷ facts) (next ∷ placed cmp fact facts))) [
+        | true ↦ (here, all)
+        | false ↦ (all.0, rest)
+      ]
+
+  each-in_order : (P : T → Type 0) (facts : List T) → AllByRecursion P facts → AllByRecursion P (in_order cmp facts)
+  unfolding in_order
+  each-in_order P [] all = tt
+  each-in_order P (fact ∷ facts) all = each-placed P fact (in_order cmp facts) all.0 (each-in_order P facts all.1)
+
+-- rows that their numbers tell apart
+module _ {T : Type 0} (code : Coded T) (numbers : T → List ℕ) (row_of : List ℕ → T) (told : (row : T) → row_of (numbers row) ≡ row) where
+  total : IsTotalOrder (by_numbers numbers)
+  total = on_total numbers nat_list_cmp_total
+
+  tie : (left right : T) → by_numbers numbers left right ≡ Equal → left ≡ right
+  tie left right equal =
+      let alike : numbers left ≡ numbers right = same_text (numbers left) (numbers right) (sym (sym (is_eq-slice_cmp (numbers left) (numbers right)) ∙ ap is_eq equal)) in
+      sym (told left) ∙ ap row_of alike ∙ told right
+
+  rises-placed : (fact : T) (facts : List T) → AllByRecursion (λ kept. same code fact kept ≡ false) facts → IsStrictlySortedBy (by_numbers numbers) facts → IsStrictlySortedBy (by_numbers numbers) (placed (by_numbers numbers) fact facts)
+  unfolding placed IsStrictlySortedBy
+  rises-placed fact [] apart rises = (tt, tt)
+  rises-placed fact (next ∷ facts) apart rises = by (by_numbers numbers fact next) refl (rises-placed fact facts apart.1 rises.1)
+    where
+      by : (o : Ordering) → by_numbers numbers fact next ≡ o → IsStrictlySortedBy (by_numbers numbers) (placed (by_numbers numbers) fact facts)
+          → IsStrictlySortedBy (by_numbers numbers) (cond (is_lt o) (fact ∷ next ∷ facts) (next ∷ placed (by_numbers numbers) fact facts))
+      by Less is rest = ((is, each-weaken (λ later. by_numbers numbers next later ≡ Less) (λ later. by_numbers numbers fact later ≡ Less) facts (λ later after. total.trans fact next later is after) rises.0), rises)
+      by Equal is rest = absurd (true≢false (sym (same-refl code fact) ∙ ap (same code fact) (tie fact next is) ∙ apart.0))
+      by Greater is rest = (each-placed (by_numbers numbers) (λ later. by_numbers numbers next later ≡ Less) fact facts (total.antisymm next fact ∙ ap ordering_reverse is) rises.0, rest)
+
+  rises-in_order : (rows : List T) → IsDistinct (same code) rows → IsStrictlySortedBy (by_numbers numbers) (in_order (by_numbers numbers) rows)
+  unfolding in_order IsStrictlySortedBy
+  rises-in_order [] differ = tt
+  rises-in_order (row ∷ rows) differ =
+      rises-placed row (in_order (by_numbers numbers) rows) (each-in_order (by_numbers numbers) (λ kept. same code row kept ≡ false) rows (IsDistinct-head (same code) row rows differ)) (rises-in_order rows (IsDistinct-tail (same code) row rows differ))
+
+  pub listed-in_order : AreListedInOrder code (by_numbers numbers)
+  listed-in_order rows = (moved-in_order (by_numbers numbers) rows, rises-in_order rows)
+
+-- rows of their numbers
+abbrev first_of : List ℕ → ℕ
+first_of [] = 0
+first_of (n ∷ ns) = n
+
+abbrev rest_of : List ℕ → List ℕ
+rest_of [] = []
+rest_of (n ∷ ns) = ns
+
+abbrev member_of : List ℕ → MemberRow
+member_of ns = record { principal = first_of ns; role = first_of (rest_of ns) }
+
+abbrev join_of : List ℕ → JoinRow
+join_of ns = record { principal_role = first_of ns; catalog_role = first_of (rest_of ns) }
+
+abbrev securable_of : List ℕ → Securable
+securable_of ns =
+    let id = first_of (rest_of ns) in
+    slice_index_or (Realm ∷ Catalog id ∷ Namespace id ∷ Table id ∷ View id ∷ []) (first_of ns) Realm
+
+abbrev grant_of : List ℕ → GrantRow
+grant_of ns = record {
+  catalog_role = first_of ns;
+  privilege = slice_index_or privileges (first_of (rest_of ns)) NamespaceCreate;
+  securable = securable_of (rest_of (rest_of ns));
+}
+
+securable-told : (one : Securable) → securable_of (securable_numbers one) ≡ one
+securable-told Realm = refl
+securable-told (Catalog id) = refl
+securable-told (Namespace id) = refl
+securable-told (Table id) = refl
+securable-told (View id) = refl
+
+privilege-told : (one : Privilege) → slice_index_or privileges (privilege_number one) NamespaceCreate ≡ one
+privilege-told one =
+    privilege_is (slice_index_or privileges (privilege_number one) NamespaceCreate) one (each-privilege (λ one. same_privilege (slice_index_or privileges (privilege_number one) NamespaceCreate) one) refl one)
+
+grant-told : (row : GrantRow) → grant_of (grant_numbers row) ≡ row
+grant-told row = λ i. record { catalog_role = row.catalog_role; privilege = privilege-told row.privilege i; securable = securable-told row.securable i }
+
+pub facts_in_order : FactsAreInOrder
+facts_in_order = (
+  listed-in_order member.the_row.coded member_numbers member_of (λ row. refl),
+  listed-in_order join.the_row.coded join_numbers join_of (λ row. refl),
+  listed-in_order grant.the_row.coded grant_numbers grant_of grant-told,
+)
+
+-- the comparisons of rows go by their numbers
+then_equal : (o : Ordering) → o ≡ ordering_then o Equal
+then_equal Less = refl
+then_equal Equal = refl
+then_equal Greater = refl
+
+index-tells : (a b : Ordering) → nat_eq (ordering_index a) (ordering_index b) ≡ true → a ≡ b
+index-tells Less Less same_ = refl
+index-tells Less Equal same_ = absurd (true≢false (sym same_))
+index-tells Less Greater same_ = absurd (true≢false (sym same_))
+index-tells Equal Less same_ = absurd (true≢false (sym same_))
+index-tells Equal Equal same_ = refl
+index-tells Equal Greater same_ = absurd (true≢false (sym same_))
+index-tells Greater Less same_ = absurd (true≢false (sym same_))
+index-tells Greater Equal same_ = absurd (true≢false (sym same_))
+index-tells Greater Greater same_ = refl
+
+privilege-compared : (left right : Privilege) → privilege_order.ghosts.cmp left right ≡ nat_cmp (privilege_number left) (privilege_number right)
+privilege-compared left right =
+    index-tells (privilege_order.ghosts.cmp left right) (nat_cmp (privilege_number left) (privilege_number right)) (each-privilege (agree left) (each-privilege (λ one. list_all (agree one) privileges) refl left) right)
+  where
+    agree : Privilege → Privilege → Bool
+    agree one other = nat_eq (ordering_index (privilege_order.ghosts.cmp one other)) (ordering_index (nat_cmp (privilege_number one) (privilege_number other)))
+
+securable-compared : (left right : Securable) → securable_order.ghosts.cmp left right ≡ slice_cmp nat_cmp (securable_numbers left) (securable_numbers right)
+securable-compared Realm Realm = refl
+securable-compared Realm (Catalog other) = refl
+securable-compared Realm (Namespace other) = refl
+securable-compared Realm (Table other) = refl
+securable-compared Realm (View other) = refl
+securable-compared (Catalog one) Realm = refl
+securable-compared (Catalog one) (Catalog other) = then_equal (nat_cmp one other)
+securable-compared (Catalog one) (Namespace other) = refl
+securable-compared (Catalog one) (Table other) = refl
+securable-compared (Catalog one) (View other) = refl
+securable-compared (Namespace one) Realm = refl
+securable-compared (Namespace one) (Catalog other) = refl
+securable-compared (Namespace one) (Namespace other) = then_equal (nat_cmp one other)
+securable-compared (Namespace one) (Table other) = refl
+securable-compared (Namespace one) (View other) = refl
+securable-compared (Table one) Realm = refl
+securable-compared (Table one) (Catalog other) = refl
+securable-compared (Table one) (Namespace other) = refl
+securable-compared (Table one) (Table other) = then_equal (nat_cmp one other)
+securable-compared (Table one) (View other) = refl
+securable-compared (View one) Realm = refl
+securable-compared (View one) (Catalog other) = refl
+securable-compared (View one) (Namespace other) = refl
+securable-compared (View one) (Table other) = refl
+securable-compared (View one) (View other) = then_equal (nat_cmp one other)
+
+member-compared : member_order.ghosts.cmp ≡ member_cmp
+member-compared = λ i left right. ordering_then (nat_cmp left.principal right.principal) (then_equal (nat_cmp left.role right.role) i)
+
+join-compared : join_order.ghosts.cmp ≡ join_cmp
+join-compared = λ i left right. ordering_then (nat_cmp left.principal_role right.principal_role) (then_equal (nat_cmp left.catalog_role right.catalog_role) i)
+
+grant-compared : grant_order.ghosts.cmp ≡ grant_cmp
+grant-compared = λ i left right. ordering_then (nat_cmp left.catalog_role right.catalog_role) (ordering_then (privilege-compared left.privilege right.privilege i) (securable-compared left.securable right.securable i))
+
+pub members_sorted : (rows : List MemberRow) → in_order member_order.ghosts.cmp rows ≡ members_in_order rows
+members_sorted rows = ap (λ cmp. in_order cmp rows) member-compared
+
+pub joins_sorted : (rows : List JoinRow) → in_order join_order.ghosts.cmp rows ≡ joins_in_order rows
+joins_sorted rows = ap (λ cmp. in_order cmp rows) join-compared
+
+pub grants_sorted : (rows : List GrantRow) → in_order grant_order.ghosts.cmp rows ≡ grants_in_order rows
+grants_sorted rows = ap (λ cmp. in_order cmp rows) grant-compared

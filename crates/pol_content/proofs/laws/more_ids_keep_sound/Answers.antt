@@ -1,5 +1,0 @@
-use Rattle.pol_content.proofs.SoundLemmas.{more_ids}
-use Rattle.pol_content.proofs.laws.more_ids_keep_sound.Goals as goal
-
-pub returns : goal.returns
-returns c = more_ids
