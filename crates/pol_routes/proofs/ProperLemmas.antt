@@ -8,15 +8,14 @@ use Rattle.pol_commands.specs.declared.command.Action.{Action}
 use Rattle.pol_commands.specs.declared.command.Action.TheVariants as action
 use Rattle.pol_commands.specs.declared.command.Caller.{Caller}
 use Rattle.pol_commands.specs.declared.grants.Grant.{Grant}
-use Rattle.pol_readers.specs.Exactness.{bodies_exact}
-use Rattle.pol_readers.specs.Forms.{body}
+use Rattle.pol_readers.specs.Shape.{body}
 use Rattle.pol_readers.specs.Reading.{Reading}
 use Rattle.pol_requests.specs.declared.refused.RouteRefused.{RouteRefused}
 use Rattle.pol_requests.specs.declared.table.Endpoint.{Endpoint}
 use Rattle.pol_requests.specs.declared.table.Endpoint.TheVariants.{OpenSession, GetConfig, ListNamespaces, CreateNamespace, LoadNamespace, HeadNamespace, DropNamespace, UpdateProperties, ListCatalogs, CreateCatalog, GetCatalog, DropCatalog, ListPrincipals, CreatePrincipal, GetPrincipal, DropPrincipal, Rotate, ListMembers, AddMember, EndMember, ListPrincipalRoles, CreatePrincipalRole, GetPrincipalRole, DropPrincipalRole, ListJoins, AddJoin, EndJoin, ListCatalogRoles, CreateCatalogRole, GetCatalogRole, DropCatalogRole, ListGrants, AddGrant, Revoke}
 use Rattle.pol_requests.specs.Refused.{Gives, read_on}
 use Rattle.pol_bodies.specs.declared.management_bodies.GrantBody.{GrantBody}
-use Rattle.pol_bodies.proofs.ManagementBodyLemmas.{grant_bodies_exact}
+use Rattle.pol_bodies.proofs.GrantLemmas.{grants_may_be_granted}
 use Rattle.pol_bodies.specs.Body.{body_of}
 use Rattle.pol_bodies.specs.Bodies.{new_namespace, property_updates}
 use Rattle.pol_bodies.specs.ManagementBodies.{catalog_role_body, grant_body, principal_role_body}
@@ -60,7 +59,7 @@ grant_proper : (bytes : List ℕ) (make : Grant → Action) → ((grant : Grant)
     → (reading : Reading GrantBody) → body grant_body bytes ≡ reading → IsProperRead (read_on (λ read. Ok (make read.grant)) (body_of reading))
 unfolding body_of
 grant_proper bytes make makes (Ok read) is =
-    made_proper _ (makes read.grant ((bodies_exact grant_bodies_exact).sound bytes read is).4.1.2.3)
+    made_proper _ (makes read.grant (grants_may_be_granted bytes read is))
 grant_proper bytes make makes (Err path) is = unread_proper _
 
 if_proper : (b : Bool) (first second : Result Action RouteRefused) → IsProperRead first → IsProperRead second → IsProperRead (cond b first second)

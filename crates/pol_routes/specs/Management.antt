@@ -2,7 +2,7 @@
 use Rattle.std.specs.Prelude.{ℕ, List, None, Result, Ok}
 use Rattle.pol_commands.specs.declared.command.Action.{Action}
 use Rattle.pol_commands.specs.declared.command.Action.TheVariants as action
-use Rattle.pol_readers.specs.Forms.{body}
+use Rattle.pol_readers.specs.Shape.{body}
 use Rattle.pol_requests.specs.declared.refused.RouteRefused.{RouteRefused}
 use Rattle.pol_requests.specs.Refused.{read_on}
 use Rattle.pol_bodies.specs.Body.{body_of}

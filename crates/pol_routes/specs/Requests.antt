@@ -4,7 +4,7 @@ use Rattle.std.specs.Str.{bytes_eq}
 use Rattle.form_urlencoded.specs.Form.{is_nonempty, parse}
 use Rattle.pol_commands.specs.declared.command.Action.{Action}
 use Rattle.pol_commands.specs.declared.command.Action.TheVariants as action
-use Rattle.pol_readers.specs.Forms.{body}
+use Rattle.pol_readers.specs.Shape.{body}
 use Rattle.pol_requests.specs.declared.refused.RouteRefused.{RouteRefused}
 use Rattle.pol_requests.specs.declared.refused.RouteRefused.TheVariants.{GrantType, InvalidRequest, NotBuilt, Unreadable}
 use Rattle.pol_requests.specs.declared.table.Endpoint.{Endpoint}
