@@ -49,13 +49,6 @@ then_exact {S} {A} {B} {first} {next} {P} {Q} p q = record { sound = sound; comp
 pub done_exact : {S A : Type 0} (made : A) → Exact {S = S} (λ s. Ok made) (λ s value. value ≡ made)
 done_exact made = record { sound = λ s value is. cc; complete = λ s value is. cc }
 
--- the same grammar in another form
-pub regrouped : {S A : Type 0} {form : S → Reading A} {P Q : S → A → Type 0} → Exact form P → ((s : S) (value : A) → P s value → Q s value) → ((s : S) (value : A) → Q s value → P s value) → Exact form Q
-regrouped {S} {A} exact onward back = record {
-  sound = λ s value is. onward s value (exact.sound s value is);
-  complete = λ s value so. exact.complete s value (back s value so);
-}
-
 rule_sound : (rule : Bool) (nothing : Unit {0}) → form.holds rule ≡ Ok nothing → rule ≡ true
 unfolding form.holds
 rule_sound true nothing is = refl
