@@ -21,6 +21,10 @@ use Rattle.pol_tables.proofs.RisingLemmas.{knows-below}
 use Rattle.pol_tables.proofs.SameLemmas.{same-refl, same-symmetric, same-true}
 use Rattle.pol_tables.proofs.TableLemmas.{rows_with-new, some_is}
 
+pub not-true : (b : Bool) → not b ≡ true → b ≡ false
+not-true true is = sym is
+not-true false is = refl
+
 module _ {X : Type 0} (test : X → Bool) where
   -- what is found passes the test, and what holds of each item holds of it
   pub found-passes : (xs : List X) (x : X) → find test xs ≡ Some x → test x ≡ true
@@ -104,9 +108,9 @@ module _ {X : Type 0} (test : X → Bool) where
   ]
 
 -- what a filter keeps was there and passes
-pub each-stays : {X : Type 0} (P Q : X → Type 0) (keep : X → Bool) (xs : List X) → ((x : X) → P x → keep x ≡ true → Q x) → AllByRecursion P xs → AllByRecursion Q (filter keep xs)
-each-stays P Q keep [] so all = tt
-each-stays P Q keep (x ∷ xs) so all = by (keep x) refl (each-stays P Q keep xs so all.1)
+pub each-kept : {X : Type 0} (P Q : X → Type 0) (keep : X → Bool) (xs : List X) → AllByRecursion P xs → ((x : X) → P x → keep x ≡ true → Q x) → AllByRecursion Q (filter keep xs)
+each-kept P Q keep [] all so = tt
+each-kept P Q keep (x ∷ xs) all so = by (keep x) refl (each-kept P Q keep xs all.1 so)
   where
     by : (b : Bool) → keep x ≡ b → AllByRecursion Q (filter keep xs) → AllByRecursion Q (cond b (x ∷ filter keep xs) (filter keep xs))
     by true is rest = (so x all.0 is, rest)
@@ -228,6 +232,6 @@ module _ {T : Type 0} (code : Coded T) where
   ]
 
   -- a fact is still held where a filter keeps it
-  pub holds-kept : (fact : T) (keep : T → Bool) (facts : List T) → keep fact ≡ true → holds code fact facts ≡ true → holds code fact (filter keep facts) ≡ true
-  holds-kept fact keep facts stays there =
-      any-kept (same code fact) keep facts (each-all (λ kept. same code fact kept ≡ true → keep kept ≡ true) facts (λ kept is. ap keep (sym (same-true code fact kept is)) ∙ stays)) there
+  pub holds-kept : (keep : T → Bool) (fact : T) (facts : List T) → holds code fact facts ≡ true → keep fact ≡ true → holds code fact (filter keep facts) ≡ true
+  holds-kept keep fact facts held stays =
+      any-kept (same code fact) keep facts (each-all (λ kept. same code fact kept ≡ true → keep kept ≡ true) facts (λ kept is. ap keep (sym (same-true code fact kept is)) ∙ stays)) held

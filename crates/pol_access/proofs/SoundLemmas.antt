@@ -2,6 +2,7 @@
 use Rattle.std.proofs.Common.{◌≡◌, ◌≢◌, ℕ, ◌+◌, ◌<◌, ◌≤◌, Bool, true, false, not, cond, ◌&&◌, List, [], ◌∷◌, ◌++◌, map, filter, length, None, Some, is_some, nat_eq, refl, sym, ap, subst, ◌∙◌, arith, codes, ◌==◌, ◌||◌}
 use Rattle.std.specs.Cmp.{IsEquivalence, nat_eq_equiv}
 use Rattle.std.specs.Cmp.Lexicographic.{nat_list_eq_equiv, same_text}
+use Rattle.std.specs.Coded.{Coded}
 use Rattle.std.specs.List.{AllByRecursion, IsDistinct}
 use Rattle.std.specs.Str.{bytes_eq}
 use Rattle.std.proofs.lemmas.Bool.{and_from, and_parts, eq-eqb, eqb-true, ne_eqb}
@@ -17,9 +18,10 @@ use Rattle.pol_tables.proofs.NumberedLemmas.{AreNumbered-filter, AreNumbered-map
 use Rattle.pol_tables.proofs.RisingLemmas.{IdsDiffer-rising, knows-below}
 use Rattle.pol_tables.proofs.SameLemmas.{same-differ}
 use Rattle.pol_tables.proofs.TableLemmas.{is_some-row_of, knows-map, rows_with-known, some_is}
-use Rattle.pol_access.specs.Access.{AccessRows, catalog_role_id, client_id_of, is_of_catalog, is_role_of, principal_id, principal_name, principal_role_id, principal_role_name, catalog_role_dropped, catalog_roles_dropped, grants_on_dropped, principal_dropped, principal_role_dropped}
+use Rattle.pol_access.specs.Access.{AccessRows, catalog_role_id, client_id_of, principal_id, principal_name, principal_role_id, principal_role_name, catalog_role_dropped, catalog_roles_dropped, grants_on_dropped, principal_dropped, principal_role_dropped}
 use Rattle.pol_access.specs.Names.{has_catalog_role_name, has_name, has_role_name, principal_named, principal_role_named, same_role_name, catalog_role_named, principal_of_client}
-use Rattle.pol_access.specs.Sound.{IsCatalogRoleOf, IsGrantOf, IsSecurableGiven, IsSoundAccess}
+use Rattle.pol_access.specs.Referent.{is_of_catalog, is_role_of}
+use Rattle.pol_access.specs.Sound.{AreFacts, IsCatalogRoleOf, IsGrantOf, IsJoinOf, IsMemberOf, IsSecurableGiven, IsSoundAccess}
 use Rattle.pol_access.specs.contracts.rows.GrantRow as grant
 use Rattle.pol_access.specs.contracts.rows.JoinRow as join
 use Rattle.pol_access.specs.contracts.rows.MemberRow as member
@@ -32,7 +34,7 @@ use Rattle.pol_access.specs.declared.rows.PrincipalRow.{PrincipalRow}
 use Rattle.pol_access.specs.declared.rows.PrincipalRoleRow.{PrincipalRoleRow}
 use Rattle.pol_access.specs.declared.securable.Securable.{Securable}
 use Rattle.pol_access.specs.declared.securable.Securable.TheVariants as securable
-use Rattle.pol_access.proofs.KeptLemmas.{any-fewer, any-push, distinct-kept, distinct-with, each-stays, each-with, find-altered, find-kept, find-push, found-holds, found-passes, goes-last, holds-kept, holds-with, images-kept, knows-kept, knows-others, knows-push, length-kept, length-map, length-push, map-each, names-altered, names-push, none-found}
+use Rattle.pol_access.proofs.KeptLemmas.{any-fewer, any-push, distinct-kept, distinct-with, each-kept, each-with, find-altered, find-kept, find-push, found-holds, found-passes, goes-last, holds-kept, holds-with, images-kept, knows-kept, knows-others, knows-push, length-kept, length-map, length-push, not-true, map-each, names-altered, names-push, none-found}
 
 -- ids that were given out, where more are
 pub given-later : (low high id : ℕ) → low ≤ high → IsGiven low id → IsGiven high id
@@ -45,21 +47,28 @@ securable-later low high (securable.Namespace id) more given = given-later low h
 securable-later low high (securable.Table id) more given = given-later low high id more given
 securable-later low high (securable.View id) more given = given-later low high id more given
 
+-- facts that are put, that a filter keeps, and that are as they should be in another way
+module _ {T : Type 0} (code : Coded T) where
+  facts-put : (IsOf : T → Type 0) (fact : T) (facts : List T) → AreFacts code IsOf facts → IsOf fact → length (facts_with code fact facts) ≤ 100000 → AreFacts code IsOf (facts_with code fact facts)
+  facts-put IsOf fact facts are here room =
+      record { differ = distinct-with code fact facts are.differ; each = each-with code IsOf fact facts are.each here; bound = room }
+
+  facts-as : (IsOf Is : T → Type 0) (facts : List T) → ((fact : T) → IsOf fact → Is fact) → AreFacts code IsOf facts → AreFacts code Is facts
+  facts-as IsOf Is facts so are = record { differ = are.differ; each = each-weaken IsOf Is facts so are.each; bound = are.bound }
+
+  facts-kept : (IsOf Is : T → Type 0) (keep : T → Bool) (facts : List T) → ((fact : T) → IsOf fact → keep fact ≡ true → Is fact) → AreFacts code IsOf facts → AreFacts code Is (filter keep facts)
+  facts-kept IsOf Is keep facts so are =
+      record { differ = distinct-kept (same code) keep facts are.differ; each = each-kept IsOf Is keep facts are.each so; bound = length-kept keep facts 100000 are.bound }
+
+  facts-fewer : (IsOf : T → Type 0) (keep : T → Bool) (facts : List T) → AreFacts code IsOf facts → AreFacts code IsOf (filter keep facts)
+  facts-fewer IsOf keep facts are = facts-kept IsOf IsOf keep facts (λ fact is stays. is) are
+
 -- catalogue roles whose ids are still no principal's and no principal role's
-roles_as : (next_id bound : ℕ) (a b : AccessRows) → ((id : ℕ) → id < bound → knows principal_id id a.principals ≡ false → knows principal_id id b.principals ≡ false)
-    → ((id : ℕ) → id < bound → knows principal_role_id id a.principal_roles ≡ false → knows principal_role_id id b.principal_roles ≡ false)
-    → (rows : List CatalogRoleRow) → KeysBelow catalog_role_id bound rows → AllByRecursion (IsCatalogRoleOf next_id a) rows → AllByRecursion (IsCatalogRoleOf next_id b) rows
-roles_as next_id bound a b principals roles rows below known =
-    each-join (λ row. catalog_role_id row < bound) (IsCatalogRoleOf next_id a) (IsCatalogRoleOf next_id b) rows (λ row under is. record { no_principal = principals row.id under is.no_principal; no_principal_role = roles row.id under is.no_principal_role; catalog = is.catalog }) below known
-
--- grants whose catalogue roles are still there
-roles_there : (next_id : ℕ) (access : AccessRows) (rows : List GrantRow) → AllByRecursion (IsGrantOf next_id access) rows → AllByRecursion (λ row. knows catalog_role_id row.catalog_role access.catalog_roles ≡ true) rows
-roles_there next_id access rows known =
-    each-weaken (IsGrantOf next_id access) (λ row. knows catalog_role_id row.catalog_role access.catalog_roles ≡ true) rows (λ row is. is.role) known
-
-grants_as : (next_id : ℕ) (a b : AccessRows) (rows : List GrantRow) → AllByRecursion (λ row. knows catalog_role_id row.catalog_role b.catalog_roles ≡ true) rows → AllByRecursion (IsGrantOf next_id a) rows → AllByRecursion (IsGrantOf next_id b) rows
-grants_as next_id a b rows there known =
-    each-join (λ row. knows catalog_role_id row.catalog_role b.catalog_roles ≡ true) (IsGrantOf next_id a) (IsGrantOf next_id b) rows (λ row is was. record { role = is; securable = was.securable; allowed = was.allowed }) there known
+roles_as : (next_id bound : ℕ) (a b : List PrincipalRow) (c d : List PrincipalRoleRow) → ((id : ℕ) → id < bound → knows principal_id id a ≡ false → knows principal_id id b ≡ false)
+    → ((id : ℕ) → id < bound → knows principal_role_id id c ≡ false → knows principal_role_id id d ≡ false)
+    → (rows : List CatalogRoleRow) → KeysBelow catalog_role_id bound rows → AllByRecursion (IsCatalogRoleOf next_id a c) rows → AllByRecursion (IsCatalogRoleOf next_id b d) rows
+roles_as next_id bound a b c d principals roles rows below known =
+    each-join (λ row. catalog_role_id row < bound) (IsCatalogRoleOf next_id a c) (IsCatalogRoleOf next_id b d) rows (λ row under is. record { no_principal = principals row.id under is.no_principal; no_principal_role = roles row.id under is.no_principal_role; catalog = is.catalog }) below known
 
 -- rows stay sound where more ids are given out
 pub more_ids : (low high : ℕ) (access : AccessRows) → low ≤ high → IsSoundAccess low access → IsSoundAccess high access
@@ -71,23 +80,15 @@ more_ids low high access more sound = record {
   names_differ = sound.names_differ;
   client_ids_differ = sound.client_ids_differ;
   role_names_differ = sound.role_names_differ;
-  catalog_roles_known = each-weaken (IsCatalogRoleOf low access) (IsCatalogRoleOf high access) access.catalog_roles (λ row known. record { no_principal = known.no_principal; no_principal_role = known.no_principal_role; catalog = given-later low high row.catalog more known.catalog }) sound.catalog_roles_known;
+  catalog_roles_known = each-weaken (IsCatalogRoleOf low access.principals access.principal_roles) (IsCatalogRoleOf high access.principals access.principal_roles) access.catalog_roles (λ row is. record { no_principal = is.no_principal; no_principal_role = is.no_principal_role; catalog = given-later low high row.catalog more is.catalog }) sound.catalog_roles_known;
   catalog_role_names_differ = sound.catalog_role_names_differ;
-  members_differ = sound.members_differ;
-  member_principals = sound.member_principals;
-  member_roles = sound.member_roles;
-  joins_differ = sound.joins_differ;
-  join_principal_roles = sound.join_principal_roles;
-  join_catalog_roles = sound.join_catalog_roles;
-  grants_differ = sound.grants_differ;
-  grants_known = each-weaken (IsGrantOf low access) (IsGrantOf high access) access.grants (λ row known. record { role = known.role; securable = securable-later low high row.securable more known.securable; allowed = known.allowed }) sound.grants_known;
+  members = sound.members;
+  joins = sound.joins;
+  grants = facts-as grant.the_row.coded (IsGrantOf low access.catalog_roles) (IsGrantOf high access.catalog_roles) access.grants (λ row is. record { role = is.role; securable = securable-later low high row.securable more is.securable; allowed = is.allowed }) sound.grants;
   root_chain = sound.root_chain;
   principals_bound = sound.principals_bound;
   principal_roles_bound = sound.principal_roles_bound;
   catalog_roles_bound = sound.catalog_roles_bound;
-  members_bound = sound.members_bound;
-  joins_bound = sound.joins_bound;
-  grants_bound = sound.grants_bound;
 }
 
 -- a row with the next id goes last
@@ -114,6 +115,7 @@ pub pushed_principal : (next_id : ℕ) (access : AccessRows) (row : PrincipalRow
     → IsSoundAccess (next_id + 1) (record access { principals = access.principals ++ row ∷ [] })
 pushed_principal next_id access row sound first is new_name new_client room =
     let later = more_ids next_id (next_id + 1) access (one_more next_id) sound in
+    let rows = access.principals ++ row ∷ [] in
     record {
       principals = AreNumbered-push principal_id next_id row access.principals first is sound.principals;
       principal_roles = later.principal_roles;
@@ -122,23 +124,15 @@ pushed_principal next_id access row sound first is new_name new_client room =
       names_differ = names-push principal_name access.principals row sound.names_differ new_name;
       client_ids_differ = names-push client_id_of access.principals row sound.client_ids_differ new_client;
       role_names_differ = later.role_names_differ;
-      catalog_roles_known = roles_as (next_id + 1) next_id access (record access { principals = access.principals ++ row ∷ [] }) (λ id under unknown. knows-push principal_id id row access.principals ∙ (λ i. unknown i || apart_from principal_id next_id id row is under i)) (λ id under unknown. unknown) access.catalog_roles (below-next catalog_role_id next_id access.catalog_roles sound.catalog_roles) later.catalog_roles_known;
+      catalog_roles_known = roles_as (next_id + 1) next_id access.principals rows access.principal_roles access.principal_roles (λ id under unknown. knows-push principal_id id row access.principals ∙ (λ i. unknown i || apart_from principal_id next_id id row is under i)) (λ id under unknown. unknown) access.catalog_roles (below-next catalog_role_id next_id access.catalog_roles sound.catalog_roles) later.catalog_roles_known;
       catalog_role_names_differ = later.catalog_role_names_differ;
-      members_differ = later.members_differ;
-      member_principals = each-weaken (λ kept. knows principal_id kept.principal access.principals ≡ true) (λ kept. knows principal_id kept.principal (access.principals ++ row ∷ []) ≡ true) access.members (λ kept there. any-push (has_id principal_id kept.principal) access.principals row there) sound.member_principals;
-      member_roles = later.member_roles;
-      joins_differ = later.joins_differ;
-      join_principal_roles = later.join_principal_roles;
-      join_catalog_roles = later.join_catalog_roles;
-      grants_differ = later.grants_differ;
-      grants_known = grants_as (next_id + 1) access (record access { principals = access.principals ++ row ∷ [] }) access.grants (roles_there (next_id + 1) access access.grants later.grants_known) later.grants_known;
+      members = facts-as member.the_row.coded (IsMemberOf access.principals access.principal_roles) (IsMemberOf rows access.principal_roles) access.members (λ kept of. record { principal = any-push (has_id principal_id kept.principal) access.principals row of.principal; role = of.role }) sound.members;
+      joins = later.joins;
+      grants = later.grants;
       root_chain = record { root = sound.root_chain.root; admin = sound.root_chain.admin; root_there = find-push (has_name (codes "root")) access.principals (row ∷ []) sound.root_chain.root sound.root_chain.root_there; admin_there = sound.root_chain.admin_there; member = sound.root_chain.member };
       principals_bound = length-push row access.principals 10000 room;
       principal_roles_bound = later.principal_roles_bound;
       catalog_roles_bound = later.catalog_roles_bound;
-      members_bound = later.members_bound;
-      joins_bound = later.joins_bound;
-      grants_bound = later.grants_bound;
     }
 
 -- a principal role with the next id and a new name may be pushed
@@ -147,31 +141,24 @@ pub pushed_principal_role : (next_id : ℕ) (access : AccessRows) (row : Princip
     → IsSoundAccess (next_id + 1) (record access { principal_roles = access.principal_roles ++ row ∷ [] })
 pushed_principal_role next_id access row sound first is new_name room =
     let later = more_ids next_id (next_id + 1) access (one_more next_id) sound in
+    let rows = access.principal_roles ++ row ∷ [] in
     record {
       principals = later.principals;
       principal_roles = AreNumbered-push principal_role_id next_id row access.principal_roles first is sound.principal_roles;
       catalog_roles = later.catalog_roles;
-      ids_differ = each-join (λ kept. principal_id kept < next_id) (λ kept. knows principal_role_id kept.id access.principal_roles ≡ false) (λ kept. knows principal_role_id kept.id (access.principal_roles ++ row ∷ []) ≡ false) access.principals (λ kept under unknown. knows-push principal_role_id kept.id row access.principal_roles ∙ (λ i. unknown i || apart_from principal_role_id next_id kept.id row is under i)) (below-next principal_id next_id access.principals sound.principals) sound.ids_differ;
+      ids_differ = each-join (λ kept. principal_id kept < next_id) (λ kept. knows principal_role_id kept.id access.principal_roles ≡ false) (λ kept. knows principal_role_id kept.id rows ≡ false) access.principals (λ kept under unknown. knows-push principal_role_id kept.id row access.principal_roles ∙ (λ i. unknown i || apart_from principal_role_id next_id kept.id row is under i)) (below-next principal_id next_id access.principals sound.principals) sound.ids_differ;
       names_differ = later.names_differ;
       client_ids_differ = later.client_ids_differ;
       role_names_differ = names-push principal_role_name access.principal_roles row sound.role_names_differ new_name;
-      catalog_roles_known = roles_as (next_id + 1) next_id access (record access { principal_roles = access.principal_roles ++ row ∷ [] }) (λ id under unknown. unknown) (λ id under unknown. knows-push principal_role_id id row access.principal_roles ∙ (λ i. unknown i || apart_from principal_role_id next_id id row is under i)) access.catalog_roles (below-next catalog_role_id next_id access.catalog_roles sound.catalog_roles) later.catalog_roles_known;
+      catalog_roles_known = roles_as (next_id + 1) next_id access.principals access.principals access.principal_roles rows (λ id under unknown. unknown) (λ id under unknown. knows-push principal_role_id id row access.principal_roles ∙ (λ i. unknown i || apart_from principal_role_id next_id id row is under i)) access.catalog_roles (below-next catalog_role_id next_id access.catalog_roles sound.catalog_roles) later.catalog_roles_known;
       catalog_role_names_differ = later.catalog_role_names_differ;
-      members_differ = later.members_differ;
-      member_principals = later.member_principals;
-      member_roles = each-weaken (λ kept. knows principal_role_id kept.role access.principal_roles ≡ true) (λ kept. knows principal_role_id kept.role (access.principal_roles ++ row ∷ []) ≡ true) access.members (λ kept there. any-push (has_id principal_role_id kept.role) access.principal_roles row there) sound.member_roles;
-      joins_differ = later.joins_differ;
-      join_principal_roles = each-weaken (λ kept. knows principal_role_id kept.principal_role access.principal_roles ≡ true) (λ kept. knows principal_role_id kept.principal_role (access.principal_roles ++ row ∷ []) ≡ true) access.joins (λ kept there. any-push (has_id principal_role_id kept.principal_role) access.principal_roles row there) sound.join_principal_roles;
-      join_catalog_roles = later.join_catalog_roles;
-      grants_differ = later.grants_differ;
-      grants_known = grants_as (next_id + 1) access (record access { principal_roles = access.principal_roles ++ row ∷ [] }) access.grants (roles_there (next_id + 1) access access.grants later.grants_known) later.grants_known;
+      members = facts-as member.the_row.coded (IsMemberOf access.principals access.principal_roles) (IsMemberOf access.principals rows) access.members (λ kept of. record { principal = of.principal; role = any-push (has_id principal_role_id kept.role) access.principal_roles row of.role }) sound.members;
+      joins = facts-as join.the_row.coded (IsJoinOf access.principal_roles access.catalog_roles) (IsJoinOf rows access.catalog_roles) access.joins (λ kept of. record { principal_role = any-push (has_id principal_role_id kept.principal_role) access.principal_roles row of.principal_role; catalog_role = of.catalog_role }) sound.joins;
+      grants = later.grants;
       root_chain = record { root = sound.root_chain.root; admin = sound.root_chain.admin; root_there = sound.root_chain.root_there; admin_there = find-push (has_role_name (codes "service_admin")) access.principal_roles (row ∷ []) sound.root_chain.admin sound.root_chain.admin_there; member = sound.root_chain.member };
       principals_bound = later.principals_bound;
       principal_roles_bound = length-push row access.principal_roles 10000 room;
       catalog_roles_bound = later.catalog_roles_bound;
-      members_bound = later.members_bound;
-      joins_bound = later.joins_bound;
-      grants_bound = later.grants_bound;
     }
 
 same_role_name-equiv : IsEquivalence same_role_name
@@ -190,6 +177,7 @@ pub pushed_catalog_role : (next_id : ℕ) (access : AccessRows) (row : CatalogRo
     → IsSoundAccess (next_id + 1) (record access { catalog_roles = access.catalog_roles ++ row ∷ [] })
 pushed_catalog_role next_id access row sound first is given new_name room =
     let later = more_ids next_id (next_id + 1) access (one_more next_id) sound in
+    let rows = access.catalog_roles ++ row ∷ [] in
     record {
       principals = later.principals;
       principal_roles = later.principal_roles;
@@ -198,23 +186,15 @@ pushed_catalog_role next_id access row sound first is given new_name room =
       names_differ = later.names_differ;
       client_ids_differ = later.client_ids_differ;
       role_names_differ = later.role_names_differ;
-      catalog_roles_known = each-push (IsCatalogRoleOf (next_id + 1) (record access { catalog_roles = access.catalog_roles ++ row ∷ [] })) access.catalog_roles row (roles_as (next_id + 1) next_id access (record access { catalog_roles = access.catalog_roles ++ row ∷ [] }) (λ id under unknown. unknown) (λ id under unknown. unknown) access.catalog_roles (below-next catalog_role_id next_id access.catalog_roles sound.catalog_roles) later.catalog_roles_known) (record { no_principal = ap (λ id. knows principal_id id access.principals) is ∙ knows-below principal_id next_id access.principals (below-next principal_id next_id access.principals sound.principals); no_principal_role = ap (λ id. knows principal_role_id id access.principal_roles) is ∙ knows-below principal_role_id next_id access.principal_roles (below-next principal_role_id next_id access.principal_roles sound.principal_roles); catalog = given-later next_id (next_id + 1) row.catalog (one_more next_id) given });
+      catalog_roles_known = each-push (IsCatalogRoleOf (next_id + 1) access.principals access.principal_roles) access.catalog_roles row later.catalog_roles_known (record { no_principal = ap (λ id. knows principal_id id access.principals) is ∙ knows-below principal_id next_id access.principals (below-next principal_id next_id access.principals sound.principals); no_principal_role = ap (λ id. knows principal_role_id id access.principal_roles) is ∙ knows-below principal_role_id next_id access.principal_roles (below-next principal_role_id next_id access.principal_roles sound.principal_roles); catalog = given-later next_id (next_id + 1) row.catalog (one_more next_id) given });
       catalog_role_names_differ = IsDistinct-push same_role_name-equiv access.catalog_roles row sound.catalog_role_names_differ (none-found (has_catalog_role_name row.catalog row.name) access.catalog_roles new_name);
-      members_differ = later.members_differ;
-      member_principals = later.member_principals;
-      member_roles = later.member_roles;
-      joins_differ = later.joins_differ;
-      join_principal_roles = later.join_principal_roles;
-      join_catalog_roles = each-weaken (λ kept. knows catalog_role_id kept.catalog_role access.catalog_roles ≡ true) (λ kept. knows catalog_role_id kept.catalog_role (access.catalog_roles ++ row ∷ []) ≡ true) access.joins (λ kept there. any-push (has_id catalog_role_id kept.catalog_role) access.catalog_roles row there) sound.join_catalog_roles;
-      grants_differ = later.grants_differ;
-      grants_known = grants_as (next_id + 1) access (record access { catalog_roles = access.catalog_roles ++ row ∷ [] }) access.grants (each-weaken (IsGrantOf (next_id + 1) access) (λ kept. knows catalog_role_id kept.catalog_role (access.catalog_roles ++ row ∷ []) ≡ true) access.grants (λ kept known. any-push (has_id catalog_role_id kept.catalog_role) access.catalog_roles row known.role) later.grants_known) later.grants_known;
-      root_chain = record { root = sound.root_chain.root; admin = sound.root_chain.admin; root_there = sound.root_chain.root_there; admin_there = sound.root_chain.admin_there; member = sound.root_chain.member };
+      members = later.members;
+      joins = facts-as join.the_row.coded (IsJoinOf access.principal_roles access.catalog_roles) (IsJoinOf access.principal_roles rows) access.joins (λ kept of. record { principal_role = of.principal_role; catalog_role = any-push (has_id catalog_role_id kept.catalog_role) access.catalog_roles row of.catalog_role }) sound.joins;
+      grants = facts-as grant.the_row.coded (IsGrantOf (next_id + 1) access.catalog_roles) (IsGrantOf (next_id + 1) rows) access.grants (λ kept of. record { role = any-push (has_id catalog_role_id kept.catalog_role) access.catalog_roles row of.role; securable = of.securable; allowed = of.allowed }) later.grants;
+      root_chain = later.root_chain;
       principals_bound = later.principals_bound;
       principal_roles_bound = later.principal_roles_bound;
       catalog_roles_bound = length-push row access.catalog_roles 10000 room;
-      members_bound = later.members_bound;
-      joins_bound = later.joins_bound;
-      grants_bound = later.grants_bound;
     }
 
 -- principals may be altered where they keep their ids, names and client ids
@@ -228,23 +208,15 @@ altered_principals next_id access alter ids names clients sound = record {
   names_differ = subst (IsDistinct bytes_eq) (sym (names-altered principal_name alter names access.principals)) sound.names_differ;
   client_ids_differ = subst (IsDistinct bytes_eq) (sym (names-altered client_id_of alter clients access.principals)) sound.client_ids_differ;
   role_names_differ = sound.role_names_differ;
-  catalog_roles_known = roles_as next_id next_id access (record access { principals = map alter access.principals }) (λ id under unknown. knows-map principal_id alter ids id access.principals ∙ unknown) (λ id under unknown. unknown) access.catalog_roles (below-next catalog_role_id next_id access.catalog_roles sound.catalog_roles) sound.catalog_roles_known;
+  catalog_roles_known = roles_as next_id next_id access.principals (map alter access.principals) access.principal_roles access.principal_roles (λ id under unknown. knows-map principal_id alter ids id access.principals ∙ unknown) (λ id under unknown. unknown) access.catalog_roles (below-next catalog_role_id next_id access.catalog_roles sound.catalog_roles) sound.catalog_roles_known;
   catalog_role_names_differ = sound.catalog_role_names_differ;
-  members_differ = sound.members_differ;
-  member_principals = each-weaken (λ kept. knows principal_id kept.principal access.principals ≡ true) (λ kept. knows principal_id kept.principal (map alter access.principals) ≡ true) access.members (λ kept there. knows-map principal_id alter ids kept.principal access.principals ∙ there) sound.member_principals;
-  member_roles = sound.member_roles;
-  joins_differ = sound.joins_differ;
-  join_principal_roles = sound.join_principal_roles;
-  join_catalog_roles = sound.join_catalog_roles;
-  grants_differ = sound.grants_differ;
-  grants_known = grants_as next_id access (record access { principals = map alter access.principals }) access.grants (roles_there next_id access access.grants sound.grants_known) sound.grants_known;
+  members = facts-as member.the_row.coded (IsMemberOf access.principals access.principal_roles) (IsMemberOf (map alter access.principals) access.principal_roles) access.members (λ kept of. record { principal = knows-map principal_id alter ids kept.principal access.principals ∙ of.principal; role = of.role }) sound.members;
+  joins = sound.joins;
+  grants = sound.grants;
   root_chain = record { root = alter sound.root_chain.root; admin = sound.root_chain.admin; root_there = find-altered (has_name (codes "root")) alter (λ kept. ap (bytes_eq (codes "root")) (names kept)) access.principals sound.root_chain.root sound.root_chain.root_there; admin_there = sound.root_chain.admin_there; member = ap (λ id. holds member.the_row.coded (record { principal = id; role = sound.root_chain.admin.id }) access.members) (ids sound.root_chain.root) ∙ sound.root_chain.member };
   principals_bound = subst (λ n. n ≤ 10000) (sym (length-map alter access.principals)) sound.principals_bound;
   principal_roles_bound = sound.principal_roles_bound;
   catalog_roles_bound = sound.catalog_roles_bound;
-  members_bound = sound.members_bound;
-  joins_bound = sound.joins_bound;
-  grants_bound = sound.grants_bound;
 }
 
 -- a row of the id, name and client id of one that is there differs from it in its digest alone
@@ -279,184 +251,145 @@ replaced_principal next_id access old row sound found names clients =
     let alike = map-each (λ kept. cond (has_id principal_id row.id kept) row kept) (alter_one row) rows (each-weaken (λ kept. row_of principal_id kept.id rows ≡ Some kept) (λ kept. cond (has_id principal_id row.id kept) row kept ≡ alter_one row kept) rows (λ kept own. is_altered row old rows found names clients kept own (has_id principal_id row.id kept) refl) owns) in
     subst (λ after. IsSoundAccess next_id (record access { principals = after })) (sym (rows_with-known principal_id row rows known ∙ alike)) (altered_principals next_id access (alter_one row) (λ kept. refl) (λ kept. refl) (λ kept. refl) sound)
 
--- members may be dropped where root's membership stays, and any joins and grants
-members_kept : (next_id : ℕ) (access : AccessRows) (keep : MemberRow → Bool) (sound : IsSoundAccess next_id access) → keep (record { principal = sound.root_chain.root.id; role = sound.root_chain.admin.id }) ≡ true
-    → IsSoundAccess next_id (record access { members = filter keep access.members })
-members_kept next_id access keep sound stays = record {
-  principals = sound.principals;
-  principal_roles = sound.principal_roles;
-  catalog_roles = sound.catalog_roles;
-  ids_differ = sound.ids_differ;
-  names_differ = sound.names_differ;
-  client_ids_differ = sound.client_ids_differ;
-  role_names_differ = sound.role_names_differ;
-  catalog_roles_known = roles_as next_id next_id access (record access { members = filter keep access.members }) (λ id under unknown. unknown) (λ id under unknown. unknown) access.catalog_roles (below-next catalog_role_id next_id access.catalog_roles sound.catalog_roles) sound.catalog_roles_known;
-  catalog_role_names_differ = sound.catalog_role_names_differ;
-  members_differ = distinct-kept (same member.the_row.coded) keep access.members sound.members_differ;
-  member_principals = each-filter (λ row. knows principal_id row.principal access.principals ≡ true) keep access.members sound.member_principals;
-  member_roles = each-filter (λ row. knows principal_role_id row.role access.principal_roles ≡ true) keep access.members sound.member_roles;
-  joins_differ = sound.joins_differ;
-  join_principal_roles = sound.join_principal_roles;
-  join_catalog_roles = sound.join_catalog_roles;
-  grants_differ = sound.grants_differ;
-  grants_known = grants_as next_id access (record access { members = filter keep access.members }) access.grants (roles_there next_id access access.grants sound.grants_known) sound.grants_known;
-  root_chain = record { root = sound.root_chain.root; admin = sound.root_chain.admin; root_there = sound.root_chain.root_there; admin_there = sound.root_chain.admin_there; member = holds-kept member.the_row.coded (record { principal = sound.root_chain.root.id; role = sound.root_chain.admin.id }) keep access.members stays sound.root_chain.member };
-  principals_bound = sound.principals_bound;
-  principal_roles_bound = sound.principal_roles_bound;
-  catalog_roles_bound = sound.catalog_roles_bound;
-  members_bound = length-kept keep access.members 100000 sound.members_bound;
-  joins_bound = sound.joins_bound;
-  grants_bound = sound.grants_bound;
-}
+-- members, joins and grants may be others that are as they should be, where root's membership is among them
+module _ (next_id : ℕ) (access : AccessRows) (sound : IsSoundAccess next_id access) where
+  with_members : (members : List MemberRow) → AreFacts member.the_row.coded (IsMemberOf access.principals access.principal_roles) members
+      → holds member.the_row.coded (record { principal = sound.root_chain.root.id; role = sound.root_chain.admin.id }) members ≡ true → IsSoundAccess next_id (record access { members = members })
+  with_members members are there = record {
+    principals = sound.principals;
+    principal_roles = sound.principal_roles;
+    catalog_roles = sound.catalog_roles;
+    ids_differ = sound.ids_differ;
+    names_differ = sound.names_differ;
+    client_ids_differ = sound.client_ids_differ;
+    role_names_differ = sound.role_names_differ;
+    catalog_roles_known = sound.catalog_roles_known;
+    catalog_role_names_differ = sound.catalog_role_names_differ;
+    members = are;
+    joins = sound.joins;
+    grants = sound.grants;
+    root_chain = record { root = sound.root_chain.root; admin = sound.root_chain.admin; root_there = sound.root_chain.root_there; admin_there = sound.root_chain.admin_there; member = there };
+    principals_bound = sound.principals_bound;
+    principal_roles_bound = sound.principal_roles_bound;
+    catalog_roles_bound = sound.catalog_roles_bound;
+  }
 
-joins_kept : (next_id : ℕ) (access : AccessRows) (keep : JoinRow → Bool) → IsSoundAccess next_id access → IsSoundAccess next_id (record access { joins = filter keep access.joins })
-joins_kept next_id access keep sound = record {
-  principals = sound.principals;
-  principal_roles = sound.principal_roles;
-  catalog_roles = sound.catalog_roles;
-  ids_differ = sound.ids_differ;
-  names_differ = sound.names_differ;
-  client_ids_differ = sound.client_ids_differ;
-  role_names_differ = sound.role_names_differ;
-  catalog_roles_known = roles_as next_id next_id access (record access { joins = filter keep access.joins }) (λ id under unknown. unknown) (λ id under unknown. unknown) access.catalog_roles (below-next catalog_role_id next_id access.catalog_roles sound.catalog_roles) sound.catalog_roles_known;
-  catalog_role_names_differ = sound.catalog_role_names_differ;
-  members_differ = sound.members_differ;
-  member_principals = sound.member_principals;
-  member_roles = sound.member_roles;
-  joins_differ = distinct-kept (same join.the_row.coded) keep access.joins sound.joins_differ;
-  join_principal_roles = each-filter (λ row. knows principal_role_id row.principal_role access.principal_roles ≡ true) keep access.joins sound.join_principal_roles;
-  join_catalog_roles = each-filter (λ row. knows catalog_role_id row.catalog_role access.catalog_roles ≡ true) keep access.joins sound.join_catalog_roles;
-  grants_differ = sound.grants_differ;
-  grants_known = grants_as next_id access (record access { joins = filter keep access.joins }) access.grants (roles_there next_id access access.grants sound.grants_known) sound.grants_known;
-  root_chain = record { root = sound.root_chain.root; admin = sound.root_chain.admin; root_there = sound.root_chain.root_there; admin_there = sound.root_chain.admin_there; member = sound.root_chain.member };
-  principals_bound = sound.principals_bound;
-  principal_roles_bound = sound.principal_roles_bound;
-  catalog_roles_bound = sound.catalog_roles_bound;
-  members_bound = sound.members_bound;
-  joins_bound = length-kept keep access.joins 100000 sound.joins_bound;
-  grants_bound = sound.grants_bound;
-}
+  with_joins : (joins : List JoinRow) → AreFacts join.the_row.coded (IsJoinOf access.principal_roles access.catalog_roles) joins → IsSoundAccess next_id (record access { joins = joins })
+  with_joins joins are = record {
+    principals = sound.principals;
+    principal_roles = sound.principal_roles;
+    catalog_roles = sound.catalog_roles;
+    ids_differ = sound.ids_differ;
+    names_differ = sound.names_differ;
+    client_ids_differ = sound.client_ids_differ;
+    role_names_differ = sound.role_names_differ;
+    catalog_roles_known = sound.catalog_roles_known;
+    catalog_role_names_differ = sound.catalog_role_names_differ;
+    members = sound.members;
+    joins = are;
+    grants = sound.grants;
+    root_chain = sound.root_chain;
+    principals_bound = sound.principals_bound;
+    principal_roles_bound = sound.principal_roles_bound;
+    catalog_roles_bound = sound.catalog_roles_bound;
+  }
 
-grants_kept : (next_id : ℕ) (access : AccessRows) (keep : GrantRow → Bool) → IsSoundAccess next_id access → IsSoundAccess next_id (record access { grants = filter keep access.grants })
-grants_kept next_id access keep sound = record {
-  principals = sound.principals;
-  principal_roles = sound.principal_roles;
-  catalog_roles = sound.catalog_roles;
-  ids_differ = sound.ids_differ;
-  names_differ = sound.names_differ;
-  client_ids_differ = sound.client_ids_differ;
-  role_names_differ = sound.role_names_differ;
-  catalog_roles_known = roles_as next_id next_id access (record access { grants = filter keep access.grants }) (λ id under unknown. unknown) (λ id under unknown. unknown) access.catalog_roles (below-next catalog_role_id next_id access.catalog_roles sound.catalog_roles) sound.catalog_roles_known;
-  catalog_role_names_differ = sound.catalog_role_names_differ;
-  members_differ = sound.members_differ;
-  member_principals = sound.member_principals;
-  member_roles = sound.member_roles;
-  joins_differ = sound.joins_differ;
-  join_principal_roles = sound.join_principal_roles;
-  join_catalog_roles = sound.join_catalog_roles;
-  grants_differ = distinct-kept (same grant.the_row.coded) keep access.grants sound.grants_differ;
-  grants_known = each-filter (IsGrantOf next_id (record access { grants = filter keep access.grants })) keep access.grants (grants_as next_id access (record access { grants = filter keep access.grants }) access.grants (roles_there next_id access access.grants sound.grants_known) sound.grants_known);
-  root_chain = record { root = sound.root_chain.root; admin = sound.root_chain.admin; root_there = sound.root_chain.root_there; admin_there = sound.root_chain.admin_there; member = sound.root_chain.member };
-  principals_bound = sound.principals_bound;
-  principal_roles_bound = sound.principal_roles_bound;
-  catalog_roles_bound = sound.catalog_roles_bound;
-  members_bound = sound.members_bound;
-  joins_bound = sound.joins_bound;
-  grants_bound = length-kept keep access.grants 100000 sound.grants_bound;
-}
+  with_grants : (grants : List GrantRow) → AreFacts grant.the_row.coded (IsGrantOf next_id access.catalog_roles) grants → IsSoundAccess next_id (record access { grants = grants })
+  with_grants grants are = record {
+    principals = sound.principals;
+    principal_roles = sound.principal_roles;
+    catalog_roles = sound.catalog_roles;
+    ids_differ = sound.ids_differ;
+    names_differ = sound.names_differ;
+    client_ids_differ = sound.client_ids_differ;
+    role_names_differ = sound.role_names_differ;
+    catalog_roles_known = sound.catalog_roles_known;
+    catalog_role_names_differ = sound.catalog_role_names_differ;
+    members = sound.members;
+    joins = sound.joins;
+    grants = are;
+    root_chain = sound.root_chain;
+    principals_bound = sound.principals_bound;
+    principal_roles_bound = sound.principal_roles_bound;
+    catalog_roles_bound = sound.catalog_roles_bound;
+  }
 
--- principals may be dropped where root stays and no member names them, and roles alike
-principals_kept : (next_id : ℕ) (access : AccessRows) (keep : PrincipalRow → Bool) (sound : IsSoundAccess next_id access) → keep sound.root_chain.root ≡ true
-    → AllByRecursion (λ row. knows principal_id row.principal (filter keep access.principals) ≡ true) access.members
-    → IsSoundAccess next_id (record access { principals = filter keep access.principals })
-principals_kept next_id access keep sound stays there = record {
-  principals = AreNumbered-filter principal_id next_id keep access.principals sound.principals;
-  principal_roles = sound.principal_roles;
-  catalog_roles = sound.catalog_roles;
-  ids_differ = each-filter (λ row. knows principal_role_id row.id access.principal_roles ≡ false) keep access.principals sound.ids_differ;
-  names_differ = images-kept bytes_eq principal_name keep access.principals sound.names_differ;
-  client_ids_differ = images-kept bytes_eq client_id_of keep access.principals sound.client_ids_differ;
-  role_names_differ = sound.role_names_differ;
-  catalog_roles_known = roles_as next_id next_id access (record access { principals = filter keep access.principals }) (λ id under unknown. any-fewer (has_id principal_id id) keep access.principals unknown) (λ id under unknown. unknown) access.catalog_roles (below-next catalog_role_id next_id access.catalog_roles sound.catalog_roles) sound.catalog_roles_known;
-  catalog_role_names_differ = sound.catalog_role_names_differ;
-  members_differ = sound.members_differ;
-  member_principals = there;
-  member_roles = sound.member_roles;
-  joins_differ = sound.joins_differ;
-  join_principal_roles = sound.join_principal_roles;
-  join_catalog_roles = sound.join_catalog_roles;
-  grants_differ = sound.grants_differ;
-  grants_known = grants_as next_id access (record access { principals = filter keep access.principals }) access.grants (roles_there next_id access access.grants sound.grants_known) sound.grants_known;
-  root_chain = record { root = sound.root_chain.root; admin = sound.root_chain.admin; root_there = find-kept (has_name (codes "root")) keep access.principals sound.root_chain.root sound.root_chain.root_there stays; admin_there = sound.root_chain.admin_there; member = sound.root_chain.member };
-  principals_bound = length-kept keep access.principals 10000 sound.principals_bound;
-  principal_roles_bound = sound.principal_roles_bound;
-  catalog_roles_bound = sound.catalog_roles_bound;
-  members_bound = sound.members_bound;
-  joins_bound = sound.joins_bound;
-  grants_bound = sound.grants_bound;
-}
+  members_kept : (keep : MemberRow → Bool) → keep (record { principal = sound.root_chain.root.id; role = sound.root_chain.admin.id }) ≡ true → IsSoundAccess next_id (record access { members = filter keep access.members })
+  members_kept keep stays =
+      with_members (filter keep access.members) (facts-fewer member.the_row.coded (IsMemberOf access.principals access.principal_roles) keep access.members sound.members)
+      (holds-kept member.the_row.coded keep (record { principal = sound.root_chain.root.id; role = sound.root_chain.admin.id }) access.members sound.root_chain.member stays)
 
-principal_roles_kept : (next_id : ℕ) (access : AccessRows) (keep : PrincipalRoleRow → Bool) (sound : IsSoundAccess next_id access) → keep sound.root_chain.admin ≡ true
-    → AllByRecursion (λ row. knows principal_role_id row.role (filter keep access.principal_roles) ≡ true) access.members
-    → AllByRecursion (λ row. knows principal_role_id row.principal_role (filter keep access.principal_roles) ≡ true) access.joins
-    → IsSoundAccess next_id (record access { principal_roles = filter keep access.principal_roles })
-principal_roles_kept next_id access keep sound stays members joins = record {
-  principals = sound.principals;
-  principal_roles = AreNumbered-filter principal_role_id next_id keep access.principal_roles sound.principal_roles;
-  catalog_roles = sound.catalog_roles;
-  ids_differ = each-weaken (λ row. knows principal_role_id row.id access.principal_roles ≡ false) (λ row. knows principal_role_id row.id (filter keep access.principal_roles) ≡ false) access.principals (λ row unknown. any-fewer (has_id principal_role_id row.id) keep access.principal_roles unknown) sound.ids_differ;
-  names_differ = sound.names_differ;
-  client_ids_differ = sound.client_ids_differ;
-  role_names_differ = images-kept bytes_eq principal_role_name keep access.principal_roles sound.role_names_differ;
-  catalog_roles_known = roles_as next_id next_id access (record access { principal_roles = filter keep access.principal_roles }) (λ id under unknown. unknown) (λ id under unknown. any-fewer (has_id principal_role_id id) keep access.principal_roles unknown) access.catalog_roles (below-next catalog_role_id next_id access.catalog_roles sound.catalog_roles) sound.catalog_roles_known;
-  catalog_role_names_differ = sound.catalog_role_names_differ;
-  members_differ = sound.members_differ;
-  member_principals = sound.member_principals;
-  member_roles = members;
-  joins_differ = sound.joins_differ;
-  join_principal_roles = joins;
-  join_catalog_roles = sound.join_catalog_roles;
-  grants_differ = sound.grants_differ;
-  grants_known = grants_as next_id access (record access { principal_roles = filter keep access.principal_roles }) access.grants (roles_there next_id access access.grants sound.grants_known) sound.grants_known;
-  root_chain = record { root = sound.root_chain.root; admin = sound.root_chain.admin; root_there = sound.root_chain.root_there; admin_there = find-kept (has_role_name (codes "service_admin")) keep access.principal_roles sound.root_chain.admin sound.root_chain.admin_there stays; member = sound.root_chain.member };
-  principals_bound = sound.principals_bound;
-  principal_roles_bound = length-kept keep access.principal_roles 10000 sound.principal_roles_bound;
-  catalog_roles_bound = sound.catalog_roles_bound;
-  members_bound = sound.members_bound;
-  joins_bound = sound.joins_bound;
-  grants_bound = sound.grants_bound;
-}
+  joins_kept : (keep : JoinRow → Bool) → IsSoundAccess next_id (record access { joins = filter keep access.joins })
+  joins_kept keep =
+      with_joins (filter keep access.joins) (facts-fewer join.the_row.coded (IsJoinOf access.principal_roles access.catalog_roles) keep access.joins sound.joins)
 
-catalog_roles_kept : (next_id : ℕ) (access : AccessRows) (keep : CatalogRoleRow → Bool) → IsSoundAccess next_id access
-    → AllByRecursion (λ row. knows catalog_role_id row.catalog_role (filter keep access.catalog_roles) ≡ true) access.joins
-    → AllByRecursion (λ row. knows catalog_role_id row.catalog_role (filter keep access.catalog_roles) ≡ true) access.grants
-    → IsSoundAccess next_id (record access { catalog_roles = filter keep access.catalog_roles })
-catalog_roles_kept next_id access keep sound joins grants = record {
-  principals = sound.principals;
-  principal_roles = sound.principal_roles;
-  catalog_roles = AreNumbered-filter catalog_role_id next_id keep access.catalog_roles sound.catalog_roles;
-  ids_differ = sound.ids_differ;
-  names_differ = sound.names_differ;
-  client_ids_differ = sound.client_ids_differ;
-  role_names_differ = sound.role_names_differ;
-  catalog_roles_known = each-filter (IsCatalogRoleOf next_id (record access { catalog_roles = filter keep access.catalog_roles })) keep access.catalog_roles (roles_as next_id next_id access (record access { catalog_roles = filter keep access.catalog_roles }) (λ id under unknown. unknown) (λ id under unknown. unknown) access.catalog_roles (below-next catalog_role_id next_id access.catalog_roles sound.catalog_roles) sound.catalog_roles_known);
-  catalog_role_names_differ = distinct-kept same_role_name keep access.catalog_roles sound.catalog_role_names_differ;
-  members_differ = sound.members_differ;
-  member_principals = sound.member_principals;
-  member_roles = sound.member_roles;
-  joins_differ = sound.joins_differ;
-  join_principal_roles = sound.join_principal_roles;
-  join_catalog_roles = joins;
-  grants_differ = sound.grants_differ;
-  grants_known = grants_as next_id access (record access { catalog_roles = filter keep access.catalog_roles }) access.grants grants sound.grants_known;
-  root_chain = record { root = sound.root_chain.root; admin = sound.root_chain.admin; root_there = sound.root_chain.root_there; admin_there = sound.root_chain.admin_there; member = sound.root_chain.member };
-  principals_bound = sound.principals_bound;
-  principal_roles_bound = sound.principal_roles_bound;
-  catalog_roles_bound = length-kept keep access.catalog_roles 10000 sound.catalog_roles_bound;
-  members_bound = sound.members_bound;
-  joins_bound = sound.joins_bound;
-  grants_bound = sound.grants_bound;
-}
+  grants_kept : (keep : GrantRow → Bool) → IsSoundAccess next_id (record access { grants = filter keep access.grants })
+  grants_kept keep =
+      with_grants (filter keep access.grants) (facts-fewer grant.the_row.coded (IsGrantOf next_id access.catalog_roles) keep access.grants sound.grants)
+
+  -- principals may be dropped where root stays and no member names them, and roles alike
+  principals_kept : (keep : PrincipalRow → Bool) → keep sound.root_chain.root ≡ true → AreFacts member.the_row.coded (IsMemberOf (filter keep access.principals) access.principal_roles) access.members
+      → IsSoundAccess next_id (record access { principals = filter keep access.principals })
+  principals_kept keep stays members = record {
+    principals = AreNumbered-filter principal_id next_id keep access.principals sound.principals;
+    principal_roles = sound.principal_roles;
+    catalog_roles = sound.catalog_roles;
+    ids_differ = each-filter (λ row. knows principal_role_id row.id access.principal_roles ≡ false) keep access.principals sound.ids_differ;
+    names_differ = images-kept bytes_eq principal_name keep access.principals sound.names_differ;
+    client_ids_differ = images-kept bytes_eq client_id_of keep access.principals sound.client_ids_differ;
+    role_names_differ = sound.role_names_differ;
+    catalog_roles_known = roles_as next_id next_id access.principals (filter keep access.principals) access.principal_roles access.principal_roles (λ id under unknown. any-fewer (has_id principal_id id) keep access.principals unknown) (λ id under unknown. unknown) access.catalog_roles (below-next catalog_role_id next_id access.catalog_roles sound.catalog_roles) sound.catalog_roles_known;
+    catalog_role_names_differ = sound.catalog_role_names_differ;
+    members = members;
+    joins = sound.joins;
+    grants = sound.grants;
+    root_chain = record { root = sound.root_chain.root; admin = sound.root_chain.admin; root_there = find-kept (has_name (codes "root")) keep access.principals sound.root_chain.root sound.root_chain.root_there stays; admin_there = sound.root_chain.admin_there; member = sound.root_chain.member };
+    principals_bound = length-kept keep access.principals 10000 sound.principals_bound;
+    principal_roles_bound = sound.principal_roles_bound;
+    catalog_roles_bound = sound.catalog_roles_bound;
+  }
+
+  principal_roles_kept : (keep : PrincipalRoleRow → Bool) → keep sound.root_chain.admin ≡ true → AreFacts member.the_row.coded (IsMemberOf access.principals (filter keep access.principal_roles)) access.members
+      → AreFacts join.the_row.coded (IsJoinOf (filter keep access.principal_roles) access.catalog_roles) access.joins → IsSoundAccess next_id (record access { principal_roles = filter keep access.principal_roles })
+  principal_roles_kept keep stays members joins = record {
+    principals = sound.principals;
+    principal_roles = AreNumbered-filter principal_role_id next_id keep access.principal_roles sound.principal_roles;
+    catalog_roles = sound.catalog_roles;
+    ids_differ = each-weaken (λ row. knows principal_role_id row.id access.principal_roles ≡ false) (λ row. knows principal_role_id row.id (filter keep access.principal_roles) ≡ false) access.principals (λ row unknown. any-fewer (has_id principal_role_id row.id) keep access.principal_roles unknown) sound.ids_differ;
+    names_differ = sound.names_differ;
+    client_ids_differ = sound.client_ids_differ;
+    role_names_differ = images-kept bytes_eq principal_role_name keep access.principal_roles sound.role_names_differ;
+    catalog_roles_known = roles_as next_id next_id access.principals access.principals access.principal_roles (filter keep access.principal_roles) (λ id under unknown. unknown) (λ id under unknown. any-fewer (has_id principal_role_id id) keep access.principal_roles unknown) access.catalog_roles (below-next catalog_role_id next_id access.catalog_roles sound.catalog_roles) sound.catalog_roles_known;
+    catalog_role_names_differ = sound.catalog_role_names_differ;
+    members = members;
+    joins = joins;
+    grants = sound.grants;
+    root_chain = record { root = sound.root_chain.root; admin = sound.root_chain.admin; root_there = sound.root_chain.root_there; admin_there = find-kept (has_role_name (codes "service_admin")) keep access.principal_roles sound.root_chain.admin sound.root_chain.admin_there stays; member = sound.root_chain.member };
+    principals_bound = sound.principals_bound;
+    principal_roles_bound = length-kept keep access.principal_roles 10000 sound.principal_roles_bound;
+    catalog_roles_bound = sound.catalog_roles_bound;
+  }
+
+  catalog_roles_kept : (keep : CatalogRoleRow → Bool) → AreFacts join.the_row.coded (IsJoinOf access.principal_roles (filter keep access.catalog_roles)) access.joins
+      → AreFacts grant.the_row.coded (IsGrantOf next_id (filter keep access.catalog_roles)) access.grants → IsSoundAccess next_id (record access { catalog_roles = filter keep access.catalog_roles })
+  catalog_roles_kept keep joins grants = record {
+    principals = sound.principals;
+    principal_roles = sound.principal_roles;
+    catalog_roles = AreNumbered-filter catalog_role_id next_id keep access.catalog_roles sound.catalog_roles;
+    ids_differ = sound.ids_differ;
+    names_differ = sound.names_differ;
+    client_ids_differ = sound.client_ids_differ;
+    role_names_differ = sound.role_names_differ;
+    catalog_roles_known = each-filter (IsCatalogRoleOf next_id access.principals access.principal_roles) keep access.catalog_roles sound.catalog_roles_known;
+    catalog_role_names_differ = distinct-kept same_role_name keep access.catalog_roles sound.catalog_role_names_differ;
+    members = sound.members;
+    joins = joins;
+    grants = grants;
+    root_chain = sound.root_chain;
+    principals_bound = sound.principals_bound;
+    principal_roles_bound = sound.principal_roles_bound;
+    catalog_roles_bound = length-kept keep access.catalog_roles 10000 sound.catalog_roles_bound;
+  }
 
 -- root and `service_admin` are the rows of their ids and have their names
 module _ (next_id : ℕ) (access : AccessRows) (sound : IsSoundAccess next_id access) where
@@ -483,9 +416,9 @@ unfolding rows_without
 dropped_principal next_id access row sound found other =
     let apart = other_than_root next_id access sound row found other in
     let without : List MemberRow = filter (λ kept. not (kept.principal == row.id)) access.members in
-    let cut = members_kept next_id access (λ kept. not (kept.principal == row.id)) sound (differ-test sound.root_chain.root.id row.id (λ same. apart sound.root_chain.root sound.root_chain.root_there (sym same))) in
-    principals_kept next_id (record access { members = without }) (λ kept. not (has_id principal_id row.id kept)) cut (differ-test row.id cut.root_chain.root.id (apart cut.root_chain.root cut.root_chain.root_there))
-    (each-stays (λ kept. knows principal_id kept.principal access.principals ≡ true) (λ kept. knows principal_id kept.principal (filter (λ one. not (has_id principal_id row.id one)) access.principals) ≡ true) (λ kept. not (kept.principal == row.id)) access.members (λ kept there stays. knows-others principal_id kept.principal row.id access.principals stays there) sound.member_principals)
+    let cut = members_kept next_id access sound (λ kept. not (kept.principal == row.id)) (differ-test sound.root_chain.root.id row.id (λ same. apart sound.root_chain.root sound.root_chain.root_there (sym same))) in
+    principals_kept next_id (record access { members = without }) cut (λ kept. not (has_id principal_id row.id kept)) (differ-test row.id cut.root_chain.root.id (apart cut.root_chain.root cut.root_chain.root_there))
+    (facts-kept member.the_row.coded (IsMemberOf access.principals access.principal_roles) (IsMemberOf (filter (λ one. not (has_id principal_id row.id one)) access.principals) access.principal_roles) (λ kept. not (kept.principal == row.id)) access.members (λ kept of stays. record { principal = knows-others principal_id kept.principal row.id access.principals stays of.principal; role = of.role }) sound.members)
 
 -- a principal role that isn't `service_admin` may be dropped with its members and joins
 pub dropped_principal_role : (next_id : ℕ) (access : AccessRows) (row : PrincipalRoleRow) → IsSoundAccess next_id access → row_of principal_role_id row.id access.principal_roles ≡ Some row
@@ -493,29 +426,27 @@ pub dropped_principal_role : (next_id : ℕ) (access : AccessRows) (row : Princi
 unfolding rows_without
 dropped_principal_role next_id access row sound found other =
     let apart = other_than_admin next_id access sound row found other in
+    let others : List PrincipalRoleRow = filter (λ one. not (has_id principal_role_id row.id one)) access.principal_roles in
     let members : List MemberRow = filter (λ kept. not (kept.role == row.id)) access.members in
     let joins : List JoinRow = filter (λ kept. not (kept.principal_role == row.id)) access.joins in
-    let first = members_kept next_id access (λ kept. not (kept.role == row.id)) sound (differ-test sound.root_chain.admin.id row.id (λ same. apart sound.root_chain.admin sound.root_chain.admin_there (sym same))) in
-    let cut = joins_kept next_id (record access { members = members }) (λ kept. not (kept.principal_role == row.id)) first in
-    principal_roles_kept next_id (record access { members = members; joins = joins }) (λ kept. not (has_id principal_role_id row.id kept)) cut (differ-test row.id cut.root_chain.admin.id (apart cut.root_chain.admin cut.root_chain.admin_there))
-    (each-stays (λ kept. knows principal_role_id kept.role access.principal_roles ≡ true) (λ kept. knows principal_role_id kept.role (filter (λ one. not (has_id principal_role_id row.id one)) access.principal_roles) ≡ true) (λ kept. not (kept.role == row.id)) access.members (λ kept there stays. knows-others principal_role_id kept.role row.id access.principal_roles stays there) sound.member_roles)
-    (each-stays (λ kept. knows principal_role_id kept.principal_role access.principal_roles ≡ true) (λ kept. knows principal_role_id kept.principal_role (filter (λ one. not (has_id principal_role_id row.id one)) access.principal_roles) ≡ true) (λ kept. not (kept.principal_role == row.id)) access.joins (λ kept there stays. knows-others principal_role_id kept.principal_role row.id access.principal_roles stays there) sound.join_principal_roles)
-
-not-true : (b : Bool) → not b ≡ true → b ≡ false
-not-true true is = sym is
-not-true false is = refl
+    let first = members_kept next_id access sound (λ kept. not (kept.role == row.id)) (differ-test sound.root_chain.admin.id row.id (λ same. apart sound.root_chain.admin sound.root_chain.admin_there (sym same))) in
+    let cut = joins_kept next_id (record access { members = members }) first (λ kept. not (kept.principal_role == row.id)) in
+    principal_roles_kept next_id (record access { members = members; joins = joins }) cut (λ kept. not (has_id principal_role_id row.id kept)) (differ-test row.id cut.root_chain.admin.id (apart cut.root_chain.admin cut.root_chain.admin_there))
+    (facts-kept member.the_row.coded (IsMemberOf access.principals access.principal_roles) (IsMemberOf access.principals others) (λ kept. not (kept.role == row.id)) access.members (λ kept of stays. record { principal = of.principal; role = knows-others principal_role_id kept.role row.id access.principal_roles stays of.role }) sound.members)
+    (facts-kept join.the_row.coded (IsJoinOf access.principal_roles access.catalog_roles) (IsJoinOf others access.catalog_roles) (λ kept. not (kept.principal_role == row.id)) access.joins (λ kept of stays. record { principal_role = knows-others principal_role_id kept.principal_role row.id access.principal_roles stays of.principal_role; catalog_role = of.catalog_role }) sound.joins)
 
 -- catalogue roles may be dropped with the joins and grants that name them
 roles_gone : (next_id : ℕ) (access : AccessRows) (gone : ℕ → Bool) (keep : CatalogRoleRow → Bool) → IsSoundAccess next_id access → AllByRecursion (λ row. gone row.id ≡ false → keep row ≡ true) access.catalog_roles
     → IsSoundAccess next_id (record access { catalog_roles = filter keep access.catalog_roles; joins = filter (λ row. not (gone row.catalog_role)) access.joins; grants = filter (λ row. not (gone row.catalog_role)) access.grants })
 roles_gone next_id access gone keep sound agree =
+    let others : List CatalogRoleRow = filter keep access.catalog_roles in
     let joins : List JoinRow = filter (λ row. not (gone row.catalog_role)) access.joins in
     let grants : List GrantRow = filter (λ row. not (gone row.catalog_role)) access.grants in
-    let first = joins_kept next_id access (λ row. not (gone row.catalog_role)) sound in
-    let cut = grants_kept next_id (record access { joins = joins }) (λ row. not (gone row.catalog_role)) first in
-    catalog_roles_kept next_id (record access { joins = joins; grants = grants }) keep cut
-    (each-stays (λ row. knows catalog_role_id row.catalog_role access.catalog_roles ≡ true) (λ row. knows catalog_role_id row.catalog_role (filter keep access.catalog_roles) ≡ true) (λ row. not (gone row.catalog_role)) access.joins (λ row there stays. still row.catalog_role there stays) sound.join_catalog_roles)
-    (each-stays (λ row. knows catalog_role_id row.catalog_role access.catalog_roles ≡ true) (λ row. knows catalog_role_id row.catalog_role (filter keep access.catalog_roles) ≡ true) (λ row. not (gone row.catalog_role)) access.grants (λ row there stays. still row.catalog_role there stays) (roles_there next_id access access.grants sound.grants_known))
+    let first = joins_kept next_id access sound (λ row. not (gone row.catalog_role)) in
+    let cut = grants_kept next_id (record access { joins = joins }) first (λ row. not (gone row.catalog_role)) in
+    catalog_roles_kept next_id (record access { joins = joins; grants = grants }) cut keep
+    (facts-kept join.the_row.coded (IsJoinOf access.principal_roles access.catalog_roles) (IsJoinOf access.principal_roles others) (λ row. not (gone row.catalog_role)) access.joins (λ row of stays. record { principal_role = of.principal_role; catalog_role = still row.catalog_role of.catalog_role stays }) sound.joins)
+    (facts-kept grant.the_row.coded (IsGrantOf next_id access.catalog_roles) (IsGrantOf next_id others) (λ row. not (gone row.catalog_role)) access.grants (λ row of stays. record { role = still row.catalog_role of.role stays; securable = of.securable; allowed = of.allowed }) sound.grants)
   where
     still : (id : ℕ) → knows catalog_role_id id access.catalog_roles ≡ true → not (gone id) ≡ true → knows catalog_role_id id (filter keep access.catalog_roles) ≡ true
     still id there stays =
@@ -534,32 +465,10 @@ dropped_catalog_roles next_id id access sound = (
 pub put_member : (next_id : ℕ) (access : AccessRows) (row : MemberRow) → IsSoundAccess next_id access → knows principal_id row.principal access.principals ≡ true
     → knows principal_role_id row.role access.principal_roles ≡ true → length (facts_with member.the_row.coded row access.members) ≤ 100000
     → IsSoundAccess next_id (record access { members = facts_with member.the_row.coded row access.members })
-put_member next_id access row sound principal role room = record {
-  principals = sound.principals;
-  principal_roles = sound.principal_roles;
-  catalog_roles = sound.catalog_roles;
-  ids_differ = sound.ids_differ;
-  names_differ = sound.names_differ;
-  client_ids_differ = sound.client_ids_differ;
-  role_names_differ = sound.role_names_differ;
-  catalog_roles_known = roles_as next_id next_id access (record access { members = facts_with member.the_row.coded row access.members }) (λ id under unknown. unknown) (λ id under unknown. unknown) access.catalog_roles (below-next catalog_role_id next_id access.catalog_roles sound.catalog_roles) sound.catalog_roles_known;
-  catalog_role_names_differ = sound.catalog_role_names_differ;
-  members_differ = distinct-with member.the_row.coded row access.members sound.members_differ;
-  member_principals = each-with member.the_row.coded (λ kept. knows principal_id kept.principal access.principals ≡ true) row access.members sound.member_principals principal;
-  member_roles = each-with member.the_row.coded (λ kept. knows principal_role_id kept.role access.principal_roles ≡ true) row access.members sound.member_roles role;
-  joins_differ = sound.joins_differ;
-  join_principal_roles = sound.join_principal_roles;
-  join_catalog_roles = sound.join_catalog_roles;
-  grants_differ = sound.grants_differ;
-  grants_known = grants_as next_id access (record access { members = facts_with member.the_row.coded row access.members }) access.grants (roles_there next_id access access.grants sound.grants_known) sound.grants_known;
-  root_chain = record { root = sound.root_chain.root; admin = sound.root_chain.admin; root_there = sound.root_chain.root_there; admin_there = sound.root_chain.admin_there; member = holds-with member.the_row.coded (record { principal = sound.root_chain.root.id; role = sound.root_chain.admin.id }) row access.members sound.root_chain.member };
-  principals_bound = sound.principals_bound;
-  principal_roles_bound = sound.principal_roles_bound;
-  catalog_roles_bound = sound.catalog_roles_bound;
-  members_bound = room;
-  joins_bound = sound.joins_bound;
-  grants_bound = sound.grants_bound;
-}
+put_member next_id access row sound principal role room =
+    with_members next_id access sound (facts_with member.the_row.coded row access.members)
+    (facts-put member.the_row.coded (IsMemberOf access.principals access.principal_roles) row access.members sound.members (record { principal = principal; role = role }) room)
+    (holds-with member.the_row.coded (record { principal = sound.root_chain.root.id; role = sound.root_chain.admin.id }) row access.members sound.root_chain.member)
 
 -- a member may be dropped that isn't `root` in `service_admin`
 pub dropped_member : (next_id : ℕ) (access : AccessRows) (principal : PrincipalRow) (role : PrincipalRoleRow) → IsSoundAccess next_id access
@@ -570,82 +479,36 @@ unfolding facts_without
 dropped_member next_id access principal role sound found there other =
     let gone : MemberRow = record { principal = principal.id; role = role.id } in
     let kept : MemberRow = record { principal = sound.root_chain.root.id; role = sound.root_chain.admin.id } in
-    members_kept next_id access (λ one. not (same member.the_row.coded gone one)) sound
+    members_kept next_id access sound (λ one. not (same member.the_row.coded gone one))
     (ap not (same-differ member.the_row.coded gone kept (λ is. other_than_root next_id access sound principal found (λ named. other_than_admin next_id access sound role there (other named) sound.root_chain.admin sound.root_chain.admin_there (ap (λ (one : MemberRow). one.role) is)) sound.root_chain.root sound.root_chain.root_there (ap (λ (one : MemberRow). one.principal) is))))
 
 -- a join may be put where its roles are there, and any may be dropped
 pub put_join : (next_id : ℕ) (access : AccessRows) (row : JoinRow) → IsSoundAccess next_id access → knows principal_role_id row.principal_role access.principal_roles ≡ true
     → knows catalog_role_id row.catalog_role access.catalog_roles ≡ true → length (facts_with join.the_row.coded row access.joins) ≤ 100000
     → IsSoundAccess next_id (record access { joins = facts_with join.the_row.coded row access.joins })
-put_join next_id access row sound principal_role catalog_role room = record {
-  principals = sound.principals;
-  principal_roles = sound.principal_roles;
-  catalog_roles = sound.catalog_roles;
-  ids_differ = sound.ids_differ;
-  names_differ = sound.names_differ;
-  client_ids_differ = sound.client_ids_differ;
-  role_names_differ = sound.role_names_differ;
-  catalog_roles_known = roles_as next_id next_id access (record access { joins = facts_with join.the_row.coded row access.joins }) (λ id under unknown. unknown) (λ id under unknown. unknown) access.catalog_roles (below-next catalog_role_id next_id access.catalog_roles sound.catalog_roles) sound.catalog_roles_known;
-  catalog_role_names_differ = sound.catalog_role_names_differ;
-  members_differ = sound.members_differ;
-  member_principals = sound.member_principals;
-  member_roles = sound.member_roles;
-  joins_differ = distinct-with join.the_row.coded row access.joins sound.joins_differ;
-  join_principal_roles = each-with join.the_row.coded (λ kept. knows principal_role_id kept.principal_role access.principal_roles ≡ true) row access.joins sound.join_principal_roles principal_role;
-  join_catalog_roles = each-with join.the_row.coded (λ kept. knows catalog_role_id kept.catalog_role access.catalog_roles ≡ true) row access.joins sound.join_catalog_roles catalog_role;
-  grants_differ = sound.grants_differ;
-  grants_known = grants_as next_id access (record access { joins = facts_with join.the_row.coded row access.joins }) access.grants (roles_there next_id access access.grants sound.grants_known) sound.grants_known;
-  root_chain = record { root = sound.root_chain.root; admin = sound.root_chain.admin; root_there = sound.root_chain.root_there; admin_there = sound.root_chain.admin_there; member = sound.root_chain.member };
-  principals_bound = sound.principals_bound;
-  principal_roles_bound = sound.principal_roles_bound;
-  catalog_roles_bound = sound.catalog_roles_bound;
-  members_bound = sound.members_bound;
-  joins_bound = room;
-  grants_bound = sound.grants_bound;
-}
+put_join next_id access row sound principal_role catalog_role room =
+    with_joins next_id access sound (facts_with join.the_row.coded row access.joins)
+    (facts-put join.the_row.coded (IsJoinOf access.principal_roles access.catalog_roles) row access.joins sound.joins (record { principal_role = principal_role; catalog_role = catalog_role }) room)
 
 pub dropped_join : (next_id : ℕ) (access : AccessRows) (row : JoinRow) → IsSoundAccess next_id access
     → IsSoundAccess next_id (record access { joins = facts_without join.the_row.coded row access.joins })
 unfolding facts_without
-dropped_join next_id access row sound = joins_kept next_id access (λ kept. not (same join.the_row.coded row kept)) sound
+dropped_join next_id access row sound = joins_kept next_id access sound (λ kept. not (same join.the_row.coded row kept))
 
 -- a grant may be put where its role is there, its privilege is allowed and its securable's id was given out, and any may
 -- be dropped, also all that are on a securable
-pub put_grant : (next_id : ℕ) (access : AccessRows) (row : GrantRow) → IsSoundAccess next_id access → IsGrantOf next_id access row
+pub put_grant : (next_id : ℕ) (access : AccessRows) (row : GrantRow) → IsSoundAccess next_id access → IsGrantOf next_id access.catalog_roles row
     → length (facts_with grant.the_row.coded row access.grants) ≤ 100000
     → IsSoundAccess next_id (record access { grants = facts_with grant.the_row.coded row access.grants })
-put_grant next_id access row sound known room = record {
-  principals = sound.principals;
-  principal_roles = sound.principal_roles;
-  catalog_roles = sound.catalog_roles;
-  ids_differ = sound.ids_differ;
-  names_differ = sound.names_differ;
-  client_ids_differ = sound.client_ids_differ;
-  role_names_differ = sound.role_names_differ;
-  catalog_roles_known = roles_as next_id next_id access (record access { grants = facts_with grant.the_row.coded row access.grants }) (λ id under unknown. unknown) (λ id under unknown. unknown) access.catalog_roles (below-next catalog_role_id next_id access.catalog_roles sound.catalog_roles) sound.catalog_roles_known;
-  catalog_role_names_differ = sound.catalog_role_names_differ;
-  members_differ = sound.members_differ;
-  member_principals = sound.member_principals;
-  member_roles = sound.member_roles;
-  joins_differ = sound.joins_differ;
-  join_principal_roles = sound.join_principal_roles;
-  join_catalog_roles = sound.join_catalog_roles;
-  grants_differ = distinct-with grant.the_row.coded row access.grants sound.grants_differ;
-  grants_known = each-with grant.the_row.coded (IsGrantOf next_id (record access { grants = facts_with grant.the_row.coded row access.grants })) row access.grants (grants_as next_id access (record access { grants = facts_with grant.the_row.coded row access.grants }) access.grants (roles_there next_id access access.grants sound.grants_known) sound.grants_known) (record { role = known.role; securable = known.securable; allowed = known.allowed });
-  root_chain = record { root = sound.root_chain.root; admin = sound.root_chain.admin; root_there = sound.root_chain.root_there; admin_there = sound.root_chain.admin_there; member = sound.root_chain.member };
-  principals_bound = sound.principals_bound;
-  principal_roles_bound = sound.principal_roles_bound;
-  catalog_roles_bound = sound.catalog_roles_bound;
-  members_bound = sound.members_bound;
-  joins_bound = sound.joins_bound;
-  grants_bound = room;
-}
+put_grant next_id access row sound of room =
+    with_grants next_id access sound (facts_with grant.the_row.coded row access.grants)
+    (facts-put grant.the_row.coded (IsGrantOf next_id access.catalog_roles) row access.grants sound.grants of room)
 
 pub dropped_grants : (next_id : ℕ) (access : AccessRows) → IsSoundAccess next_id access
     → ((row : GrantRow) → IsSoundAccess next_id (record access { grants = facts_without grant.the_row.coded row access.grants }))
     × ((gone : Securable) → IsSoundAccess next_id (grants_on_dropped gone access))
 unfolding facts_without
 dropped_grants next_id access sound = (
-  λ row. grants_kept next_id access (λ kept. not (same grant.the_row.coded row kept)) sound,
-  λ gone. grants_kept next_id access (λ kept. not (same securable_code.the_row.coded kept.securable gone)) sound,
+  λ row. grants_kept next_id access sound (λ kept. not (same grant.the_row.coded row kept)),
+  λ gone. grants_kept next_id access sound (λ kept. not (same securable_code.the_row.coded kept.securable gone)),
 )

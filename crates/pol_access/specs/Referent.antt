@@ -1,6 +1,5 @@
 -- What members, joins and grants name.
-use Rattle.std.specs.Prelude.{Bool, false, ◌==◌, List}
-use Rattle.pol_access.specs.Access.{is_role_of}
+use Rattle.std.specs.Prelude.{ℕ, Bool, false, ◌==◌, List, Option, None, Some}
 use Rattle.pol_access.specs.contracts.securable.Securable.{the_row}
 use Rattle.pol_access.specs.declared.referent.Referent.{Referent}
 use Rattle.pol_access.specs.declared.referent.Referent.TheVariants.{Principal, PrincipalRole, CatalogRole, RoleOfCatalog, Securable}
@@ -9,6 +8,15 @@ use Rattle.pol_access.specs.declared.rows.GrantRow.{GrantRow}
 use Rattle.pol_access.specs.declared.rows.JoinRow.{JoinRow}
 use Rattle.pol_access.specs.declared.rows.MemberRow.{MemberRow}
 use Rattle.pol_tables.specs.Same.{same}
+use Rattle.pol_tables.specs.Table.{row_of}
+
+-- whether the role that was found is the catalogue's, and whether the role of an id is
+abbrev pub is_of_catalog : ℕ → Option CatalogRoleRow → Bool
+is_of_catalog catalog None = false
+is_of_catalog catalog (Some row) = row.catalog == catalog
+
+abbrev pub is_role_of : List CatalogRoleRow → ℕ → ℕ → Bool
+is_role_of roles catalog role = is_of_catalog catalog (row_of (λ row. row.id) role roles)
 
 -- whether a member names the referent
 abbrev pub member_names : Referent → MemberRow → Bool

@@ -1,6 +1,5 @@
 ghost use Rattle.std.specs.Prelude.{◌≡◌};
-ghost use Rattle.pol_access.specs.Access.{is_role_of};
-ghost use Rattle.pol_access.specs.Referent.{grant_names, join_names, member_names};
+ghost use Rattle.pol_access.specs.Referent.{grant_names, is_role_of, join_names, member_names};
 
 use crate::{Access, GrantRow, JoinRow, MemberRow, Securable};
 

@@ -18,7 +18,8 @@ use Rattle.pol_content.specs.Laws.{ChainsHaveWhatContains, DeepestPartsAreFirst}
 use Rattle.pol_content.specs.declared.rows.NamespaceRow.{NamespaceRow}
 use Rattle.pol_content.proofs.NamesLemmas.{each-row_of, first_found, namespaces_alike}
 use Rattle.pol_content.proofs.SoundLemmas.{parent_front}
-use Rattle.pol_content.proofs.TiesLemmas.{found-own, found-passes}
+use Rattle.pol_content.proofs.TiesLemmas.{found-own}
+use Rattle.pol_access.proofs.KeptLemmas.{found-passes}
 
 -- a list of one item has no other
 only : {X : Type 0} (x y : X) → Contains (x ∷ []) y → x ≡ y

@@ -1,5 +1,5 @@
 -- Sound catalogues and namespaces stay sound once a row is pushed, altered or taken away.
-use Rattle.std.proofs.Common.{◌≡◌, ℕ, ◌+◌, ◌-◌, ◌<◌, ◌≤◌, Bool, true, false, not, cond, ◌&&◌, ◌||◌, List, [], ◌∷◌, ◌++◌, map, filter, take, length, Option, Some, None, is_none, is_some, nat_eq, nat_lt, refl, sym, ap, subst, ◌∙◌, inl, inr, true≢false, arith, length-append, length-take-le, suc, zero}
+use Rattle.std.proofs.Common.{◌≡◌, ℕ, ◌+◌, ◌-◌, ◌<◌, ◌≤◌, Bool, true, false, not, cond, ◌&&◌, ◌||◌, List, [], ◌∷◌, ◌++◌, map, filter, take, length, Option, Some, None, is_none, is_some, nat_eq, nat_lt, refl, sym, ap, subst, ◌∙◌, inl, inr, true≢false, arith, length-take-le, suc, zero}
 use Rattle.std.specs.Cmp.{IsEquivalence, and_equiv, nat_eq_equiv, on_equiv}
 use Rattle.std.specs.Cmp.Lexicographic.{lists_equiv, nat_list_eq_equiv, same_text}
 use Rattle.std.specs.List.{find, list_any, range_with_len, AllByRecursion, IsDistinct}
@@ -8,17 +8,17 @@ use Rattle.std.proofs.lemmas.List.{take_all}
 use Rattle.std.proofs.lemmas.Map.Keys.{IsDistinct-cons, IsDistinct-head, IsDistinct-push, IsDistinct-tail}
 use Rattle.pol_types.specs.Exact.{pointwise_exact}
 use Rattle.pol_names.specs.Namespace.{parent_of}
-use Rattle.pol_tables.specs.Numbered.{AreNumbered}
 use Rattle.pol_tables.specs.Table.{has_id, knows, row_of, rows_with, rows_without, IdsDiffer}
 use Rattle.pol_tables.proofs.ListLemmas.{each-all, each-filter, each-join, each-map, each-push, each-weaken}
 use Rattle.pol_tables.proofs.NamedLemmas.{each-own}
 use Rattle.pol_tables.proofs.NumberedLemmas.{AreNumbered-filter, AreNumbered-map, AreNumbered-more, AreNumbered-push, below-next}
 use Rattle.pol_tables.proofs.RisingLemmas.{IdsDiffer-rising, knows-below}
-use Rattle.pol_tables.proofs.TableLemmas.{is_some-row_of, rows_with-known, rows_with-new, some_is}
+use Rattle.pol_tables.proofs.TableLemmas.{is_some-row_of, rows_with-known, some_is}
 use Rattle.pol_content.specs.Content.{catalog_id, first_missing, is_catalog_named, is_missing, is_namespace_named, ContentRows, lies_below, namespace_id, none_below, same_levels, catalog_is_empty, catalog_named, is_empty, namespace_named}
 use Rattle.pol_content.specs.Sound.{HasParent, IsParentThere, IsSmallCatalog, IsSmallNamespace, IsSoundContent}
 use Rattle.pol_content.specs.declared.rows.CatalogRow.{CatalogRow}
 use Rattle.pol_content.specs.declared.rows.NamespaceRow.{NamespaceRow}
+use Rattle.pol_access.proofs.KeptLemmas.{any-push, any-kept, any-fewer, knows-push, not-true, length-kept, length-map, length-push, map-each, goes-last, distinct-kept}
 
 module _ {X : Type 0} (test : X → Bool) where
   -- where none is found, no item passes
@@ -29,26 +29,6 @@ module _ {X : Type 0} (test : X → Bool) where
     | inr fails ↦ ap (λ b. b || list_any test xs) fails ∙ none-found xs (sym (ap (λ b. cond b (Some x) (find test xs)) fails) ∙ none)
   ]
 
-  -- where one of a list passes, one of a longer list does
-  pub any-push : (xs : List X) (x : X) → list_any test xs ≡ true → list_any test (xs ++ x ∷ []) ≡ true
-  any-push [] x there = absurd (true≢false (sym there))
-  any-push (first ∷ xs) x there = elim (cases_Bool (test first)) [
-    | inl passes ↦ ap (λ b. b || list_any test (xs ++ x ∷ [])) passes
-    | inr fails ↦ ap (λ b. b || list_any test (xs ++ x ∷ [])) fails ∙ any-push xs x (sym (ap (λ b. b || list_any test xs) fails) ∙ there)
-  ]
-
-  -- and one of a filter that keeps each item that passes
-  pub any-kept : (keep : X → Bool) (xs : List X) → AllByRecursion (λ x. test x ≡ true → keep x ≡ true) xs → list_any test xs ≡ true → list_any test (filter keep xs) ≡ true
-  any-kept keep [] keeps there = absurd (true≢false (sym there))
-  any-kept keep (x ∷ xs) keeps there = elim (cases_Bool (test x)) [
-    | inl passes ↦ ap (λ b. list_any test (cond b (x ∷ filter keep xs) (filter keep xs))) (keeps.0 passes) ∙ ap (λ b. b || list_any test (filter keep xs)) passes
-    | inr fails ↦ past (keep x) fails (any-kept keep xs keeps.1 (sym (ap (λ b. b || list_any test xs) fails) ∙ there))
-  ]
-    where
-      past : (b : Bool) → test x ≡ false → list_any test (filter keep xs) ≡ true → list_any test (cond b (x ∷ filter keep xs) (filter keep xs)) ≡ true
-      past true fails rest = ap (λ t. t || list_any test (filter keep xs)) fails ∙ rest
-      past false fails rest = rest
-
   -- where no item passes, each fails
   pub each-fails : (xs : List X) → list_any test xs ≡ false → AllByRecursion (λ x. test x ≡ false) xs
   each-fails [] none = tt
@@ -58,16 +38,6 @@ module _ {X : Type 0} (test : X → Bool) where
   ]
 
 module _ {X : Type 0} (equal : X → X → Bool) where
-  -- items that differ still do where some are left out, and where they are altered alike
-  distinct-filter : (keep : X → Bool) (xs : List X) → IsDistinct equal xs → IsDistinct equal (filter keep xs)
-  distinct-filter keep [] differ = differ
-  distinct-filter keep (x ∷ xs) differ =
-      let rest = distinct-filter keep xs (IsDistinct-tail equal x xs differ) in
-      elim (keep x) as (λ b. IsDistinct equal (cond b (x ∷ filter keep xs) (filter keep xs))) [
-        | true ↦ IsDistinct-cons equal x (filter keep xs) (each-filter (λ other. equal x other ≡ false) keep xs (IsDistinct-head equal x xs differ)) rest
-        | false ↦ rest
-      ]
-
   distinct-map : (alter : X → X) → ((left right : X) → equal (alter left) (alter right) ≡ equal left right) → (xs : List X) → IsDistinct equal xs → IsDistinct equal (map alter xs)
   distinct-map alter alike [] differ = differ
   distinct-map alter alike (x ∷ xs) differ =
@@ -85,49 +55,10 @@ same_catalog-equiv = on_equiv (λ row. row.name) nat_list_eq_equiv
 same_namespace-equiv : IsEquivalence same_namespace
 same_namespace-equiv = and_equiv (on_equiv (λ row. row.catalog) nat_eq_equiv) (on_equiv (λ row. row.levels) (lists_equiv nat_list_eq_equiv))
 
--- an id of a longer list
-pub knows-push : {R : Type 0} (key : R → ℕ) (id : ℕ) (row : R) (rows : List R) → knows key id (rows ++ row ∷ []) ≡ (knows key id rows || has_id key id row)
-knows-push key id row [] = or_last (has_id key id row)
-  where
-    or_last : (b : Bool) → (b || false) ≡ b
-    or_last true = refl
-    or_last false = refl
-knows-push key id row (first ∷ rows) = ap (λ b. has_id key id first || b) (knows-push key id row rows) ∙ or_grouped (has_id key id first) (knows key id rows) (has_id key id row)
-  where
-    or_grouped : (a b c : Bool) → (a || (b || c)) ≡ ((a || b) || c)
-    or_grouped true b c = refl
-    or_grouped false b c = refl
-
-length-push : {X : Type 0} (x : X) (xs : List X) (bound : ℕ) → length xs < bound → length (xs ++ x ∷ []) ≤ bound
-length-push x xs bound under = omega (arith, length-append xs (x ∷ []))
-
-length-filter : {X : Type 0} (keep : X → Bool) (xs : List X) → length (filter keep xs) ≤ length xs
-length-filter keep [] = omega arith
-length-filter keep (x ∷ xs) =
-    let rest = length-filter keep xs in
-    elim (keep x) as (λ b. length (cond b (x ∷ filter keep xs) (filter keep xs)) ≤ length (x ∷ xs)) [ true ↦ omega arith | false ↦ omega arith ]
-
-length-map : {X Y : Type 0} (f : X → Y) (xs : List X) → length (map f xs) ≡ length xs
-length-map f [] = refl
-length-map f (x ∷ xs) = ap (λ n. suc n) (length-map f xs)
-
 module _ {X : Type 0} (test : X → Bool) where
   any-alike : (alter : X → X) → ((x : X) → test (alter x) ≡ test x) → (xs : List X) → list_any test (map alter xs) ≡ list_any test xs
   any-alike alter alike [] = refl
   any-alike alter alike (x ∷ xs) = λ i. alike x i || any-alike alter alike xs i
-
-  pub any-fewer : (keep : X → Bool) (xs : List X) → list_any test xs ≡ false → list_any test (filter keep xs) ≡ false
-  any-fewer keep [] none = refl
-  any-fewer keep (x ∷ xs) none = elim (cases_Bool (test x)) [
-    | inl passes ↦ absurd (true≢false (sym (ap (λ b. b || list_any test xs) passes) ∙ none))
-    | inr fails ↦
-        let rest = any-fewer keep xs (sym (ap (λ b. b || list_any test xs) fails) ∙ none) in
-        elim (keep x) as (λ b. list_any test (cond b (x ∷ filter keep xs) (filter keep xs)) ≡ false) [ true ↦ ap (λ b. b || list_any test (filter keep xs)) fails ∙ rest | false ↦ rest ]
-  ]
-
-not-true : (b : Bool) → not b ≡ true → b ≡ false
-not-true true is = sym is
-not-true false is = refl
 
 -- rows stay sound where more ids are given out
 pub more_ids : (low high : ℕ) (content : ContentRows) → low ≤ high → IsSoundContent low content → IsSoundContent high content
@@ -219,10 +150,6 @@ altered_namespaces next_id content alter ids catalogs levels smalls sound = reco
     parent kept there =
         subst (λ catalog. IsParentThere (map alter content.namespaces) catalog (parent_of (alter kept).levels)) (sym (catalogs kept)) (subst (λ names. IsParentThere (map alter content.namespaces) kept.catalog (parent_of names)) (sym (levels kept)) (parent-map alter catalogs levels content.namespaces kept.catalog (parent_of kept.levels) there))
 
-map-each : {X Y : Type 0} (f g : X → Y) (xs : List X) → AllByRecursion (λ x. f x ≡ g x) xs → map f xs ≡ map g xs
-map-each f g [] all = refl
-map-each f g (x ∷ xs) all = λ i. all.0 i ∷ map-each f g xs all.1 i
-
 -- a row of the id, catalogue and levels of one that is there differs from it in its properties alone, so to put it is
 -- to alter the properties under its id
 module _ (row : NamespaceRow) where
@@ -265,16 +192,12 @@ replaced_namespace next_id content old row sound found catalogs levels small =
     let alike = map-each (λ kept. cond (has_id namespace_id row.id kept) row kept) (alter_one row) rows (each-weaken (λ kept. row_of namespace_id kept.id rows ≡ Some kept) (λ kept. cond (has_id namespace_id row.id kept) row kept ≡ alter_one row kept) rows (λ kept own. is_altered row old rows found catalogs levels kept own (has_id namespace_id row.id kept) refl) owns) in
     subst (λ after. IsSoundContent next_id (record { catalogs = content.catalogs; namespaces = after })) (sym (rows_with-known namespace_id row rows known ∙ alike)) (altered_namespaces next_id content (alter_one row) (λ kept. refl) (λ kept. refl) (λ kept. refl) (λ kept. small_one row small (has_id namespace_id row.id kept) kept) sound)
 
-goes_last : {R : Type 0} (key : R → ℕ) (next_id : ℕ) (rows : List R) → AreNumbered key next_id rows → (row : R) → key row ≡ next_id → rows_with key row rows ≡ rows ++ row ∷ []
-goes_last key next_id rows numbered row is =
-    rows_with-new key row rows (ap (λ id. knows key id rows) is ∙ knows-below key next_id rows (below-next key next_id rows numbered))
-
 -- a row with the next id goes last
 pub new_rows_last : (next_id : ℕ) (content : ContentRows) → IsSoundContent next_id content
     → ((row : CatalogRow) → row.id ≡ next_id → rows_with catalog_id row content.catalogs ≡ content.catalogs ++ row ∷ [])
     × ((row : NamespaceRow) → row.id ≡ next_id → rows_with namespace_id row content.namespaces ≡ content.namespaces ++ row ∷ [])
 new_rows_last next_id content sound =
-    (goes_last catalog_id next_id content.catalogs sound.catalogs, goes_last namespace_id next_id content.namespaces sound.namespaces)
+    (goes-last catalog_id next_id content.catalogs sound.catalogs, goes-last namespace_id next_id content.namespaces sound.namespaces)
 
 -- where none is found along a row of numbers, the last fails the test
 last-fails : {X : Type 0} (test : X → Bool) (at : ℕ → X) (many first : ℕ) → find test (map at (range_with_len first (suc many))) ≡ None → test (at (first + many)) ≡ false
@@ -336,9 +259,6 @@ whole_path content row whole = by (parent_of row.levels) refl
         let front = parent_front row.levels parent is in
         path_there row.catalog parent content (omega (arith, front.deep, front.size)) (whole parent is)
 
-fewer : {X : Type 0} (keep : X → Bool) (xs : List X) (bound : ℕ) → length xs ≤ bound → length (filter keep xs) ≤ bound
-fewer keep xs bound within = omega (arith, length-filter keep xs)
-
 -- a catalogue without namespaces may be taken away
 pub dropped_catalog : (next_id id : ℕ) (content : ContentRows) → IsSoundContent next_id content → catalog_is_empty id content ≡ true
     → IsSoundContent next_id (record content { catalogs = rows_without catalog_id id content.catalogs })
@@ -347,11 +267,11 @@ dropped_catalog next_id id content sound empty = record {
   catalogs = AreNumbered-filter catalog_id next_id (λ row. not (has_id catalog_id id row)) content.catalogs sound.catalogs;
   namespaces = sound.namespaces;
   ids_differ = each-weaken (λ kept. knows catalog_id kept.id content.catalogs ≡ false) (λ kept. knows catalog_id kept.id (filter (λ row. not (has_id catalog_id id row)) content.catalogs) ≡ false) content.namespaces (λ kept unknown. any-fewer (has_id catalog_id kept.id) (λ row. not (has_id catalog_id id row)) content.catalogs unknown) sound.ids_differ;
-  catalog_names_differ = distinct-filter same_catalog (λ row. not (has_id catalog_id id row)) content.catalogs sound.catalog_names_differ;
+  catalog_names_differ = distinct-kept same_catalog (λ row. not (has_id catalog_id id row)) content.catalogs sound.catalog_names_differ;
   namespace_names_differ = sound.namespace_names_differ;
   namespace_catalogs = each-join (λ kept. nat_eq kept.catalog id ≡ false) (λ kept. knows catalog_id kept.catalog content.catalogs ≡ true) (λ kept. knows catalog_id kept.catalog (filter (λ row. not (has_id catalog_id id row)) content.catalogs) ≡ true) content.namespaces (λ kept apart there. any-kept (has_id catalog_id kept.catalog) (λ row. not (has_id catalog_id id row)) content.catalogs (each-all (λ row. has_id catalog_id kept.catalog row ≡ true → not (has_id catalog_id id row) ≡ true) content.catalogs (stays kept.catalog apart)) there) (each-fails (λ row. nat_eq row.catalog id) content.namespaces (not-true (list_any (λ row. nat_eq row.catalog id) content.namespaces) empty)) sound.namespace_catalogs;
   namespace_parents = sound.namespace_parents;
-  catalogs_bound = fewer (λ row. not (has_id catalog_id id row)) content.catalogs 1000 sound.catalogs_bound;
+  catalogs_bound = length-kept (λ row. not (has_id catalog_id id row)) content.catalogs 1000 sound.catalogs_bound;
   namespaces_bound = sound.namespaces_bound;
   catalogs_small = each-filter IsSmallCatalog (λ row. not (has_id catalog_id id row)) content.catalogs sound.catalogs_small;
   namespaces_small = sound.namespaces_small;
@@ -414,11 +334,11 @@ dropped_namespace next_id id content sound empty =
       namespaces = AreNumbered-filter namespace_id next_id (λ row. not (has_id namespace_id id row)) content.namespaces sound.namespaces;
       ids_differ = each-filter (λ kept. knows catalog_id kept.id content.catalogs ≡ false) (λ row. not (has_id namespace_id id row)) content.namespaces sound.ids_differ;
       catalog_names_differ = sound.catalog_names_differ;
-      namespace_names_differ = distinct-filter same_namespace (λ row. not (has_id namespace_id id row)) content.namespaces sound.namespace_names_differ;
+      namespace_names_differ = distinct-kept same_namespace (λ row. not (has_id namespace_id id row)) content.namespaces sound.namespace_names_differ;
       namespace_catalogs = each-filter (λ kept. knows catalog_id kept.catalog content.catalogs ≡ true) (λ row. not (has_id namespace_id id row)) content.namespaces sound.namespace_catalogs;
       namespace_parents = each-filter (HasParent (filter (λ row. not (has_id namespace_id id row)) content.namespaces)) (λ row. not (has_id namespace_id id row)) content.namespaces (each-join (λ kept. (row : NamespaceRow) → row_of namespace_id id content.namespaces ≡ Some row → lies_below row kept ≡ false) (HasParent content.namespaces) (HasParent (filter (λ row. not (has_id namespace_id id row)) content.namespaces)) content.namespaces (λ kept none there. parents_stay id content.namespaces differ empty kept none (parent_of kept.levels) refl there) (none_lies_below id content.namespaces differ (row_of namespace_id id content.namespaces) empty) sound.namespace_parents);
       catalogs_bound = sound.catalogs_bound;
-      namespaces_bound = fewer (λ row. not (has_id namespace_id id row)) content.namespaces 100000 sound.namespaces_bound;
+      namespaces_bound = length-kept (λ row. not (has_id namespace_id id row)) content.namespaces 100000 sound.namespaces_bound;
       catalogs_small = sound.catalogs_small;
       namespaces_small = each-filter IsSmallNamespace (λ row. not (has_id namespace_id id row)) content.namespaces sound.namespaces_small;
     }

@@ -6,8 +6,10 @@ use Rattle.std.specs.List.{find, list_any, AllByRecursion}
 use Rattle.std.specs.Str.{bytes_eq}
 use Rattle.std.proofs.lemmas.Bool.{and_from, eq-eqb, eqb-true, ne_eqb}
 use Rattle.std.proofs.lemmas.List.{append_assoc}
-use Rattle.pol_access.specs.Access.{AccessRows, catalog_role_dropped, catalog_role_id, catalog_roles_dropped, grants_on_dropped, is_of_catalog, is_role_of}
+use Rattle.pol_access.specs.Access.{AccessRows, catalog_role_dropped, catalog_role_id, catalog_roles_dropped, grants_on_dropped}
 use Rattle.pol_access.specs.Names.{has_catalog_role_name, principal_role_named}
+use Rattle.pol_access.specs.Referent.{is_of_catalog, is_role_of}
+use Rattle.pol_access.specs.Sound.{IsJoinOf}
 use Rattle.pol_access.specs.contracts.rows.GrantRow as grant
 use Rattle.pol_access.specs.contracts.rows.JoinRow as join
 use Rattle.pol_access.specs.contracts.securable.Securable.{the_row}
@@ -30,9 +32,10 @@ use Rattle.pol_content.specs.Content.{catalog_id, namespace_id, ContentRows}
 use Rattle.pol_content.specs.Ties.{admin_grant, admin_join, admin_of, catalog_of, is_access_id, with_admin, HasAdmin, IdsApart, IsGrantWithin, IsAdminNew, AreTied, is_content_id, with_admin_last}
 use Rattle.pol_content.specs.declared.rows.CatalogRow.{CatalogRow}
 use Rattle.pol_content.specs.declared.rows.NamespaceRow.{NamespaceRow}
-use Rattle.pol_content.proofs.SoundLemmas.{any-fewer, each-fails}
-use Rattle.pol_content.proofs.TiesLemmas.{apart-fewer, apart-put, each-facts_with, each-kept, each-within, find-kept, find-new, find-pushed, find-without, found-own, found-passes, holds-kept, holds-put, holds-with, knows-put, knows-without, mapped-kept, not-is, or-parts, other-id, role-name, row_of-new, row_of-other, row_of-put, unknown-from, unknown-parts, unknown-put, unknown-without, within-roles, IsUnknown}
+use Rattle.pol_content.proofs.SoundLemmas.{each-fails}
+use Rattle.pol_content.proofs.TiesLemmas.{apart-fewer, apart-put, each-within, find-new, find-pushed, find-without, found-own, holds-put, holds-with, knows-put, knows-without, mapped-kept, or-parts, other-id, role-name, row_of-new, row_of-other, row_of-put, unknown-from, unknown-parts, unknown-put, unknown-without, within-roles, IsUnknown}
 use Rattle.pol_access.specs.declared.rows.PrincipalRoleRow.{PrincipalRoleRow}
+use Rattle.pol_access.proofs.KeptLemmas.{any-fewer, found-passes, find-kept, each-kept, holds-kept, each-with, not-true}
 
 -- where each item fails none passes, and one more that fails leaves it so
 any-none : {X : Type 0} (test : X → Bool) (xs : List X) → AllByRecursion (λ x. test x ≡ false) xs → list_any test xs ≡ false
@@ -74,7 +77,7 @@ dropped_catalog_role access content tied row differ there named =
     let after : AccessRows = catalog_role_dropped row.id access in
     record {
       role_catalogs = each-rows_without catalog_role_id (λ one. knows catalog_id one.catalog content.catalogs ≡ true) (λ one. knows catalog_id one.catalog content.catalogs ≡ true) row.id access.catalog_roles tied.role_catalogs (λ one known other. known);
-      grants_within = each-kept (IsGrantWithin access content) (IsGrantWithin after content) (λ one. not (nat_eq one.catalog_role row.id)) access.grants tied.grants_within (λ one within stays. within-roles access after content one within (find-without catalog_role_id (has_id catalog_role_id one.catalog_role) row.id within.role access.catalog_roles within.there (nat_eq_equiv.symm row.id within.role.id ∙ ap (λ id. nat_eq id row.id) (sym (key-row_of catalog_role_id one.catalog_role within.role access.catalog_roles within.there)) ∙ not-is (nat_eq one.catalog_role row.id) stays)));
+      grants_within = each-kept (IsGrantWithin access content) (IsGrantWithin after content) (λ one. not (nat_eq one.catalog_role row.id)) access.grants tied.grants_within (λ one within stays. within-roles access after content one within (find-without catalog_role_id (has_id catalog_role_id one.catalog_role) row.id within.role access.catalog_roles within.there (nat_eq_equiv.symm row.id within.role.id ∙ ap (λ id. nat_eq id row.id) (sym (key-row_of catalog_role_id one.catalog_role within.role access.catalog_roles within.there)) ∙ not-true (nat_eq one.catalog_role row.id) stays)));
       catalog_admins = each-weaken (λ one. HasAdmin access one.id) (λ one. HasAdmin after one.id) content.catalogs (λ one has. record {
         role = has.role;
         role_there = find-without catalog_role_id (is_admin one.id) row.id has.role access.catalog_roles has.role_there (nat_eq_equiv.symm row.id has.role.id ∙ apart one has);
@@ -140,7 +143,7 @@ dropped_namespace access content tied gone =
     let roles : AccessRows = grants_on_dropped (Namespace gone) access in
     record {
       role_catalogs = tied.role_catalogs;
-      grants_within = each-kept (IsGrantWithin access content) (IsGrantWithin roles after) (λ one. not (same the_row.coded one.securable (Namespace gone))) access.grants tied.grants_within (λ one within stays. record { role = within.role; there = within.there; within = lies-kept content after within.role.catalog (λ kept found. found) one.securable (λ id kept is found in_. lies id kept within.role.catalog found in_ (ap (λ of. same the_row.coded of (Namespace gone)) (sym is) ∙ not-is (same the_row.coded one.securable (Namespace gone)) stays)) within.within });
+      grants_within = each-kept (IsGrantWithin access content) (IsGrantWithin roles after) (λ one. not (same the_row.coded one.securable (Namespace gone))) access.grants tied.grants_within (λ one within stays. record { role = within.role; there = within.there; within = lies-kept content after within.role.catalog (λ kept found. found) one.securable (λ id kept is found in_. lies id kept within.role.catalog found in_ (ap (λ of. same the_row.coded of (Namespace gone)) (sym is) ∙ not-true (same the_row.coded one.securable (Namespace gone)) stays)) within.within });
       catalog_admins = each-weaken (λ one. HasAdmin access one.id) (λ one. HasAdmin roles one.id) content.catalogs (λ one has. record {
         role = has.role;
         role_there = has.role_there;
@@ -173,8 +176,8 @@ dropped_catalog access content tied gone differ =
     let after : ContentRows = record content { catalogs = rows_without catalog_id gone content.catalogs } in
     let roles : AccessRows = catalog_roles_dropped gone access in
     record {
-      role_catalogs = each-kept (λ one. knows catalog_id one.catalog content.catalogs ≡ true) (λ one. knows catalog_id one.catalog after.catalogs ≡ true) (λ one. not (nat_eq one.catalog gone)) access.catalog_roles tied.role_catalogs (λ one known stays. knows-without catalog_id one.catalog gone content.catalogs known (not-is (nat_eq one.catalog gone) stays));
-      grants_within = each-kept (IsGrantWithin access content) (IsGrantWithin roles after) (λ one. not (is_role_of access.catalog_roles gone one.catalog_role)) access.grants tied.grants_within (λ one within stays. within_others one within (sym (ap (is_of_catalog gone) within.there) ∙ not-is (is_role_of access.catalog_roles gone one.catalog_role) stays));
+      role_catalogs = each-kept (λ one. knows catalog_id one.catalog content.catalogs ≡ true) (λ one. knows catalog_id one.catalog after.catalogs ≡ true) (λ one. not (nat_eq one.catalog gone)) access.catalog_roles tied.role_catalogs (λ one known stays. knows-without catalog_id one.catalog gone content.catalogs known (not-true (nat_eq one.catalog gone) stays));
+      grants_within = each-kept (IsGrantWithin access content) (IsGrantWithin roles after) (λ one. not (is_role_of access.catalog_roles gone one.catalog_role)) access.grants tied.grants_within (λ one within stays. within_others one within (sym (ap (is_of_catalog gone) within.there) ∙ not-true (is_role_of access.catalog_roles gone one.catalog_role) stays));
       catalog_admins = each-rows_without catalog_id (λ one. HasAdmin access one.id) (λ one. HasAdmin roles one.id) gone content.catalogs tied.catalog_admins admins;
       ids_apart = record {
         catalogs = each-rows_without catalog_id (λ kept. is_access_id kept.id roles ≡ false) (λ kept. is_access_id kept.id roles ≡ false) gone content.catalogs ids.catalogs (λ kept apart other. apart);
@@ -216,7 +219,7 @@ pub created_catalog : (access : AccessRows) (content : ContentRows) → AreTied 
 created_catalog access content tied row service service_there none none_after unknown unknown_after =
     record {
       role_catalogs = each-rows_with catalog_role_id (λ one. knows catalog_id one.catalog content.catalogs ≡ true) (λ one. knows catalog_id one.catalog after.catalogs ≡ true) (admin_of row.id) access.catalog_roles tied.role_catalogs (λ one known other. knows-put catalog_id one.catalog row content.catalogs known) catalog_there;
-      grants_within = each-facts_with grant.the_row.coded (IsGrantWithin roles after) (admin_grant CatalogManageContent row.id) (facts_with grant.the_row.coded (admin_grant CatalogManageAccess row.id) access.grants) (each-facts_with grant.the_row.coded (IsGrantWithin roles after) (admin_grant CatalogManageAccess row.id) access.grants (each-weaken (IsGrantWithin access content) (IsGrantWithin roles after) access.grants within tied.grants_within) (admin_within (admin_grant CatalogManageAccess row.id) refl refl)) (admin_within (admin_grant CatalogManageContent row.id) refl refl);
+      grants_within = each-with grant.the_row.coded (IsGrantWithin roles after) (admin_grant CatalogManageContent row.id) (facts_with grant.the_row.coded (admin_grant CatalogManageAccess row.id) access.grants) (each-with grant.the_row.coded (IsGrantWithin roles after) (admin_grant CatalogManageAccess row.id) access.grants (each-weaken (IsGrantWithin access content) (IsGrantWithin roles after) access.grants within tied.grants_within) (admin_within (admin_grant CatalogManageAccess row.id) refl refl)) (admin_within (admin_grant CatalogManageContent row.id) refl refl);
       catalog_admins = each-rows_with catalog_id (λ one. HasAdmin access one.id) (λ one. HasAdmin roles one.id) row content.catalogs tied.catalog_admins (λ one has other. kept_admin one.id has) new_admin;
       ids_apart = record {
         catalogs = each-rows_with catalog_id (λ kept. is_access_id kept.id roles ≡ false) (λ kept. is_access_id kept.id roles ≡ false) row content.catalogs ids.catalogs (λ kept apart other. apart) (unknown-from row.id roles (still_unknown row.id (unknown-parts row.id access unknown) (ne_eqb row.id (row.id + 1) (λ is. omega (arith, is)))));
@@ -296,7 +299,7 @@ created_catalog access content tied row service service_there none none_after un
 -- the rows of a created catalogue's `catalog_admin` are new, and go last, where its id is new and the roles of joins
 -- are there
 pub admin_rows_last : (access : AccessRows) (content : ContentRows) → AreTied access content → (catalog service : ℕ) → is_access_id (catalog + 1) access ≡ false
-    → AllByRecursion (λ row. knows catalog_role_id row.catalog_role access.catalog_roles ≡ true) access.joins
+    → AllByRecursion (IsJoinOf access.principal_roles access.catalog_roles) access.joins
     → IsAdminNew catalog service access × (with_admin catalog service access ≡ with_admin_last catalog service access)
 admin_rows_last access content tied catalog service unknown joins_there = (
   record { role = new_role; joined = new_join; manages_access = new_grant CatalogManageAccess; manages_content = new_grant CatalogManageContent },
@@ -307,7 +310,7 @@ admin_rows_last access content tied catalog service unknown joins_there = (
     new_role = (unknown-parts (catalog + 1) access unknown).catalog_roles
 
     new_join : holds join.the_row.coded (admin_join service catalog) access.joins ≡ false
-    new_join = any-none (same join.the_row.coded (admin_join service catalog)) access.joins (each-weaken (λ one. knows catalog_role_id one.catalog_role access.catalog_roles ≡ true) (λ one. same join.the_row.coded (admin_join service catalog) one ≡ false) access.joins (λ one known. same-differ join.the_row.coded (admin_join service catalog) one (λ is. true≢false (sym known ∙ ap (λ (kept : JoinRow). knows catalog_role_id kept.catalog_role access.catalog_roles) (sym is) ∙ new_role))) joins_there)
+    new_join = any-none (same join.the_row.coded (admin_join service catalog)) access.joins (each-weaken (IsJoinOf access.principal_roles access.catalog_roles) (λ one. same join.the_row.coded (admin_join service catalog) one ≡ false) access.joins (λ one of. same-differ join.the_row.coded (admin_join service catalog) one (λ is. true≢false (sym of.catalog_role ∙ ap (λ (kept : JoinRow). knows catalog_role_id kept.catalog_role access.catalog_roles) (sym is) ∙ new_role))) joins_there)
 
     new_grant : (privilege : Privilege) → holds grant.the_row.coded (admin_grant privilege catalog) access.grants ≡ false
     new_grant privilege =

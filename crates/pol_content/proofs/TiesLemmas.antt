@@ -1,5 +1,5 @@
 -- Rows that are tied stay so once a row is put or dropped.
-use Rattle.std.proofs.Common.{◌≡◌, ◌≢◌, ◌≤◌, ℕ, Bool, true, false, not, cond, ◌||◌, List, [], ◌∷◌, ◌++◌, map, filter, Option, Some, None, option_map, nat_eq, refl, sym, ap, subst, ◌∙◌, inl, inr, true≢false, codes}
+use Rattle.std.proofs.Common.{◌≡◌, ◌≢◌, ◌≤◌, ℕ, Bool, true, false, not, cond, ◌||◌, List, [], ◌∷◌, ◌++◌, map, Option, Some, None, option_map, nat_eq, refl, sym, ap, subst, ◌∙◌, inl, inr, true≢false, codes}
 use Rattle.std.specs.Cmp.{nat_eq_equiv}
 use Rattle.std.specs.Cmp.Lexicographic.{same_text}
 use Rattle.std.specs.Coded.{Coded}
@@ -22,19 +22,20 @@ use Rattle.pol_tables.specs.Facts.{facts_with, facts_without, holds}
 use Rattle.pol_tables.specs.Same.{same}
 use Rattle.pol_tables.specs.Table.{has_id, knows, row_of, rows_with, rows_without, IdsDiffer}
 use Rattle.pol_tables.proofs.FactsLemmas.{facts_with-known, facts_with-new}
-use Rattle.pol_tables.proofs.ListLemmas.{each-all, each-join, each-push, each-weaken}
+use Rattle.pol_tables.proofs.ListLemmas.{each-all, each-join, each-weaken}
 use Rattle.pol_tables.proofs.NamedLemmas.{each-own, find-none}
 use Rattle.pol_tables.proofs.NumberedLemmas.{below-next}
 use Rattle.pol_tables.proofs.RisingLemmas.{key-replaced, knows-below, KeysBelow-more}
-use Rattle.pol_tables.proofs.SameLemmas.{same-differ, same-refl, same-true}
+use Rattle.pol_tables.proofs.SameLemmas.{same-differ, same-refl}
 use Rattle.pol_tables.proofs.TableLemmas.{knows-map, rows_with-known, rows_with-new, some_is}
 use Rattle.pol_content.specs.Content.{catalog_id, namespace_id, ContentRows}
 use Rattle.pol_content.specs.Ties.{is_access_id, is_content_id, HasAdmin, IdsApart, IsGrantWithin, AreTied}
 use Rattle.pol_content.specs.declared.rows.CatalogRow.{CatalogRow}
-use Rattle.pol_content.proofs.SoundLemmas.{any-fewer, any-kept, any-push, each-fails, knows-push}
+use Rattle.pol_content.proofs.SoundLemmas.{each-fails}
 use Rattle.pol_access.specs.declared.rows.MemberRow.{MemberRow}
 use Rattle.pol_access.specs.declared.rows.PrincipalRow.{PrincipalRow}
 use Rattle.pol_content.specs.Sound.{IsSoundContent}
+use Rattle.pol_access.proofs.KeptLemmas.{any-push, any-kept, any-fewer, knows-push, found-passes, find-kept, each-kept, holds-kept, each-with, find-push, found-holds}
 
 pub or-false : (a b : Bool) → a ≡ false → b ≡ false → (a || b) ≡ false
 or-false a b left right = λ i. left i || right i
@@ -43,55 +44,11 @@ pub or-parts : (a b : Bool) → (a || b) ≡ false → (a ≡ false) × (b ≡ f
 or-parts true b neither = absurd (true≢false neither)
 or-parts false b neither = (refl, neither)
 
--- what is found first in a list, in one with an item more, and in what a filter keeps
+-- what is found in a list with an item more, where none was found before
 module _ {X : Type 0} (test : X → Bool) where
-  pub found-passes : (xs : List X) (x : X) → find test xs ≡ Some x → test x ≡ true
-  found-passes [] x found = cc
-  found-passes (first ∷ xs) x found = elim (cases_Bool (test first)) [
-    | inl passes ↦ subst (λ one. test one ≡ true) (some_is first x (sym (ap (λ b. cond b (Some first) (find test xs)) passes) ∙ found)) passes
-    | inr fails ↦ found-passes xs x (sym (ap (λ b. cond b (Some first) (find test xs)) fails) ∙ found)
-  ]
-
-  pub found-each : (P : X → Type 0) (xs : List X) (x : X) → AllByRecursion P xs → find test xs ≡ Some x → P x
-  found-each P [] x all found = cc
-  found-each P (first ∷ xs) x all found = elim (cases_Bool (test first)) [
-    | inl passes ↦ subst P (some_is first x (sym (ap (λ b. cond b (Some first) (find test xs)) passes) ∙ found)) all.0
-    | inr fails ↦ found-each P xs x all.1 (sym (ap (λ b. cond b (Some first) (find test xs)) fails) ∙ found)
-  ]
-
-  pub find-kept : (keep : X → Bool) (xs : List X) (x : X) → find test xs ≡ Some x → keep x ≡ true → find test (filter keep xs) ≡ Some x
-  find-kept keep [] x found kept = cc
-  find-kept keep (first ∷ xs) x found kept = elim (cases_Bool (test first)) [
-    | inl passes ↦
-        let is : first ≡ x = some_is first x (sym (ap (λ b. cond b (Some first) (find test xs)) passes) ∙ found) in
-        ap (λ b. find test (cond b (first ∷ filter keep xs) (filter keep xs))) (ap keep is ∙ kept) ∙ ap (λ b. cond b (Some first) (find test (filter keep xs))) passes ∙ ap Some is
-    | inr fails ↦
-        past (keep first) fails (find-kept keep xs x (sym (ap (λ b. cond b (Some first) (find test xs)) fails) ∙ found) kept)
-  ]
-    where
-      past : (b : Bool) → test first ≡ false → find test (filter keep xs) ≡ Some x → find test (cond b (first ∷ filter keep xs) (filter keep xs)) ≡ Some x
-      past true fails rest = ap (λ t. cond t (Some first) (find test (filter keep xs))) fails ∙ rest
-      past false fails rest = rest
-
-  pub find-push : (xs : List X) (new x : X) → find test xs ≡ Some x → find test (xs ++ new ∷ []) ≡ Some x
-  find-push xs new x found = find-append test xs (new ∷ []) ∙ ap (λ one. option_or one (find test (new ∷ []))) found
-
   pub find-last : (xs : List X) (new : X) → find test xs ≡ None → test new ≡ true → find test (xs ++ new ∷ []) ≡ Some new
   find-last xs new none passes =
       find-append test xs (new ∷ []) ∙ ap (λ one. option_or one (find test (new ∷ []))) none ∙ ap (λ b. cond b (Some new) None) passes
-
--- what holds of each item that a filter keeps
-pub each-kept : {X : Type 0} (P Q : X → Type 0) (keep : X → Bool) (xs : List X) → AllByRecursion P xs → ((x : X) → P x → keep x ≡ true → Q x) → AllByRecursion Q (filter keep xs)
-each-kept P Q keep [] all so = tt
-each-kept P Q keep (x ∷ xs) all so = by (keep x) refl (each-kept P Q keep xs all.1 so)
-  where
-    by : (b : Bool) → keep x ≡ b → AllByRecursion Q (filter keep xs) → AllByRecursion Q (cond b (x ∷ filter keep xs) (filter keep xs))
-    by true is rest = (so x all.0 is, rest)
-    by false is rest = rest
-
-pub not-is : (b : Bool) → not b ≡ true → b ≡ false
-not-is true is = sym is
-not-is false is = refl
 
 -- a value that a found row gives is given by another that is found
 pub mapped-kept : {R : Type 0} (f : R → ℕ) (value : ℕ) (found after : Option R) → ((row : R) → found ≡ Some row → f row ≡ value → option_map f after ≡ Some value) → option_map f found ≡ Some value → option_map f after ≡ Some value
@@ -117,7 +74,7 @@ module _ {R : Type 0} (key : R → ℕ) where
   unknown-without id gone rows unknown = any-fewer (has_id key id) (λ row. not (has_id key gone row)) rows unknown
 
   pub find-pushed : (test : R → Bool) (new row : R) (rows : List R) → knows key (key new) rows ≡ false → find test rows ≡ Some row → find test (rows_with key new rows) ≡ Some row
-  find-pushed test new row rows unknown found = ap (find test) (rows_with-new key new rows unknown) ∙ find-push test rows new row found
+  find-pushed test new row rows unknown found = ap (find test) (rows_with-new key new rows unknown) ∙ find-push test rows (new ∷ []) row found
 
   pub find-new : (test : R → Bool) (new : R) (rows : List R) → knows key (key new) rows ≡ false → find test rows ≡ None → test new ≡ true → find test (rows_with key new rows) ≡ Some new
   find-new test new rows unknown none passes = ap (find test) (rows_with-new key new rows unknown) ∙ find-last test rows new none passes
@@ -175,7 +132,7 @@ module _ {R : Type 0} (key : R → ℕ) where
   -- what is found is the row of its id, where ids differ; and two rows of one id are one
   pub found-own : (test : R → Bool) (row : R) (rows : List R) → IdsDiffer key rows → find test rows ≡ Some row → row_of key (key row) rows ≡ Some row
   found-own test row rows differ found =
-      found-each test (λ one. row_of key (key one) rows ≡ Some one) rows row (each-own key rows differ) found
+      found-holds test (λ one. row_of key (key one) rows ≡ Some one) rows row (each-own key rows differ) found
 
   pub one-row : (test : R → Bool) (row other : R) (rows : List R) → IdsDiffer key rows → find test rows ≡ Some row → row_of key (key other) rows ≡ Some other → key row ≡ key other → row ≡ other
   one-row test row other rows differ found there is =
@@ -208,20 +165,10 @@ module _ {T : Type 0} (code : Coded T) where
     | inr new ↦ ap (holds code fact) (facts_with-new code fact facts new) ∙ last-held fact facts
   ]
 
-  pub holds-kept : (keep : T → Bool) (fact : T) (facts : List T) → holds code fact facts ≡ true → keep fact ≡ true → holds code fact (filter keep facts) ≡ true
-  holds-kept keep fact facts held kept =
-      any-kept (same code fact) keep facts (each-all (λ one. same code fact one ≡ true → keep one ≡ true) facts (λ one is. ap keep (sym (same-true code fact one is)) ∙ kept)) held
-
   pub holds-without : (gone fact : T) (facts : List T) → holds code fact facts ≡ true → fact ≢ gone → holds code fact (facts_without code gone facts) ≡ true
   unfolding facts_without
   holds-without gone fact facts held apart =
-      holds-kept (λ kept. not (same code gone kept)) fact facts held (ap not (same-differ code gone fact (λ is. apart (sym is))))
-
-  pub each-facts_with : (P : T → Type 0) (fact : T) (facts : List T) → AllByRecursion P facts → P fact → AllByRecursion P (facts_with code fact facts)
-  each-facts_with P fact facts all here = elim (cases_Bool (holds code fact facts)) [
-    | inl known ↦ subst (AllByRecursion P) (sym (facts_with-known code fact facts known)) all
-    | inr new ↦ subst (AllByRecursion P) (sym (facts_with-new code fact facts new)) (each-push P facts fact all here)
-  ]
+      holds-kept code (λ kept. not (same code gone kept)) fact facts held (ap not (same-differ code gone fact (λ is. apart (sym is))))
 
 -- ids that are none of principals and roles
 pub record IsUnknown (id : ℕ) (access : AccessRows) : Type 0 where
@@ -408,7 +355,7 @@ put_grant access content tied row within =
     let after : AccessRows = record access { grants = facts_with grant.the_row.coded row access.grants } in
     record {
       role_catalogs = tied.role_catalogs;
-      grants_within = each-facts_with grant.the_row.coded (IsGrantWithin after content) row access.grants (each-within access after content (λ one inside. inside.there) access.grants tied.grants_within) (within-roles access after content row within within.there);
+      grants_within = each-with grant.the_row.coded (IsGrantWithin after content) row access.grants (each-within access after content (λ one inside. inside.there) access.grants tied.grants_within) (within-roles access after content row within within.there);
       catalog_admins = each-weaken (λ one. HasAdmin access one.id) (λ one. HasAdmin after one.id) content.catalogs (λ one has. record {
         role = has.role;
         role_there = has.role_there;

@@ -191,7 +191,7 @@ module _ (s : Rows) (command : Command) where
       -- a catalogue that is put, with its `catalog_admin`
       admin-named : (catalog : ℕ) → catalog ≡ s.next_id → catalog_role_named catalog (codes "catalog_admin") s.access ≡ None
       admin-named catalog id =
-          find-none (has_catalog_role_name catalog (codes "catalog_admin")) s.access.catalog_roles (each-weaken (IsCatalogRoleOf s.next_id s.access) (λ row. has_catalog_role_name catalog (codes "catalog_admin") row ≡ false) s.access.catalog_roles (λ row known. ap (λ b. b && bytes_eq (codes "catalog_admin") row.name) (ne_eqb row.catalog catalog (λ is. let below = known.catalog.1 in omega (arith, below, is, id)))) sound.access.catalog_roles_known)
+          find-none (has_catalog_role_name catalog (codes "catalog_admin")) s.access.catalog_roles (each-weaken (IsCatalogRoleOf s.next_id s.access.principals s.access.principal_roles) (λ row. has_catalog_role_name catalog (codes "catalog_admin") row ≡ false) s.access.catalog_roles (λ row known. ap (λ b. b && bytes_eq (codes "catalog_admin") row.name) (ne_eqb row.catalog catalog (λ is. let below = known.catalog.1 in omega (arith, below, is, id)))) sound.access.catalog_roles_known)
 
       access-with_admin : (row : CatalogRow) (service : PrincipalRoleRow) → row.id ≡ s.next_id → principal_role_named (codes "service_admin") s.access ≡ Some service → length s.access.catalog_roles + 1 ≤ 10000 → length s.access.joins + 1 ≤ 100000 → length s.access.grants + 2 ≤ 100000
           → IsSoundAccess (s.next_id + 2) (with_admin row.id service.id s.access)

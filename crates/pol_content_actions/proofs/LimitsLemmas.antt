@@ -41,7 +41,7 @@ unknown-later s sound id later =
 -- the rows of a new catalogue's `catalog_admin` are new, and go last
 pub admin-last : (s : Rows) → IsSound s → (catalog service : ℕ) → catalog ≡ s.next_id → IsAdminNew catalog service s.access × (with_admin catalog service s.access ≡ with_admin_last catalog service s.access)
 admin-last s sound catalog service id =
-    admin_rows_last s.access s.content sound.ties catalog service (unknown-later s sound (catalog + 1) (omega (arith, id))) sound.access.join_catalog_roles
+    admin_rows_last s.access s.content sound.ties catalog service (unknown-later s sound (catalog + 1) (omega (arith, id))) sound.access.joins.each
 
 module _ (s : Rows) (sound : IsSound s) where
   -- one more catalogue, with its `catalog_admin`

@@ -55,12 +55,12 @@ module _ (s : Rows) (command : Command) where
     -- a join that is there is taken away
     pub ended_join_changes : (row : JoinRow) → holds join.the_row.coded row s.access.joins ≡ true → changes_between s (stamped s command (without_join s row)) ≡ Time (time_of s command) ∷ DropJoin row ∷ []
     ended_join_changes row there =
-        made-in_place s (stamped s command (without_join s row)) (record none { joins = DropJoin row ∷ [] }) refl refl (λ i. record (still s i) { joins = fact_changes-take join.the_row.coded join_cmp PutJoin DropJoin row s.access.joins sound.access.joins_differ there i })
+        made-in_place s (stamped s command (without_join s row)) (record none { joins = DropJoin row ∷ [] }) refl refl (λ i. record (still s i) { joins = fact_changes-take join.the_row.coded join_cmp PutJoin DropJoin row s.access.joins sound.access.joins.differ there i })
 
     -- a grant that is there is taken away
     pub ended_grant_changes : (row : GrantRow) → holds grant.the_row.coded row s.access.grants ≡ true → changes_between s (stamped s command (without_grant s row)) ≡ Time (time_of s command) ∷ DropGrant row ∷ []
     ended_grant_changes row there =
-        made-in_place s (stamped s command (without_grant s row)) (record none { grants = DropGrant row ∷ [] }) refl refl (λ i. record (still s i) { grants = fact_changes-take grant.the_row.coded grant_cmp PutGrant DropGrant row s.access.grants sound.access.grants_differ there i })
+        made-in_place s (stamped s command (without_grant s row)) (record none { grants = DropGrant row ∷ [] }) refl refl (λ i. record (still s i) { grants = fact_changes-take grant.the_row.coded grant_cmp PutGrant DropGrant row s.access.grants sound.access.grants.differ there i })
 
     -- a catalogue role that takes the next id
     pub catalog_role_changes : (row : CatalogRoleRow) → row.id ≡ s.next_id → changes_between s (stamped s command (with_catalog_role s row)) ≡ Time (time_of s command) ∷ NextId (s.next_id + 1) ∷ PutCatalogRole row ∷ []

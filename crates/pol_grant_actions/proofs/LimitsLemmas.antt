@@ -33,7 +33,7 @@ module _ (s : Rows) (sound : IsSound s) where
   pub known_join_limits : (row : JoinRow) → holds join.the_row.coded row s.access.joins ≡ true → over_limit (with_join s row) ≡ None
   known_join_limits row known =
       limits-by (with_join s row) none_above_bounds (λ i. record (within-all s sound i) {
-        joins = (ap (λ rows. above quantity.Joins 100000 (length rows)) (facts_with-known join.the_row.coded row s.access.joins known) ∙ above-none quantity.Joins 100000 _ sound.access.joins_bound) i;
+        joins = (ap (λ rows. above quantity.Joins 100000 (length rows)) (facts_with-known join.the_row.coded row s.access.joins known) ∙ above-none quantity.Joins 100000 _ sound.access.joins.bound) i;
       })
 
   pub new_join_limits : (row : JoinRow) → holds join.the_row.coded row s.access.joins ≡ false → over_limit (with_join s row) ≡ first_refusal (above quantity.Joins 100000 (length s.access.joins + 1) ∷ [])
@@ -48,7 +48,7 @@ module _ (s : Rows) (sound : IsSound s) where
   pub known_grant_limits : (row : GrantRow) → holds grant.the_row.coded row s.access.grants ≡ true → over_limit (with_grant s row) ≡ None
   known_grant_limits row known =
       limits-by (with_grant s row) none_above_bounds (λ i. record (within-all s sound i) {
-        grants = (ap (λ rows. above quantity.Grants 100000 (length rows)) (facts_with-known grant.the_row.coded row s.access.grants known) ∙ above-none quantity.Grants 100000 _ sound.access.grants_bound) i;
+        grants = (ap (λ rows. above quantity.Grants 100000 (length rows)) (facts_with-known grant.the_row.coded row s.access.grants known) ∙ above-none quantity.Grants 100000 _ sound.access.grants.bound) i;
       })
 
   pub new_grant_limits : (row : GrantRow) → holds grant.the_row.coded row s.access.grants ≡ false → over_limit (with_grant s row) ≡ first_refusal (above quantity.Grants 100000 (length s.access.grants + 1) ∷ [])

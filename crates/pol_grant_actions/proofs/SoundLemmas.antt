@@ -31,7 +31,8 @@ use Rattle.pol_content.specs.declared.rows.CatalogRow.{CatalogRow}
 use Rattle.pol_content.specs.declared.rows.NamespaceRow.{NamespaceRow}
 use Rattle.pol_content.proofs.TiedContentLemmas as tied
 use Rattle.pol_content.proofs.TiesLemmas as ties
-use Rattle.pol_content.proofs.TiesLemmas.{found-own, found-passes, new_ids}
+use Rattle.pol_access.proofs.KeptLemmas.{found-passes}
+use Rattle.pol_content.proofs.TiesLemmas.{found-own, new_ids}
 use Rattle.pol_commands.specs.Proper as proper
 use Rattle.pol_commands.specs.Proper.{IsGrantable}
 use Rattle.pol_commands.specs.declared.command.Command.{Command}
@@ -101,7 +102,7 @@ module _ (s : Rows) (command : Command) (sound : IsSound s) (within : IsWithin s
   join-count row few = by (holds join.the_row.coded row s.access.joins) refl
     where
       by : (b : Bool) → holds join.the_row.coded row s.access.joins ≡ b → length (facts_with join.the_row.coded row s.access.joins) ≤ 100000
-      by true there = subst (λ rows. length rows ≤ 100000) (sym (facts_with-known join.the_row.coded row s.access.joins there)) sound.access.joins_bound
+      by true there = subst (λ rows. length rows ≤ 100000) (sym (facts_with-known join.the_row.coded row s.access.joins there)) sound.access.joins.bound
       by false new =
           let bounds = EachPasses-none (above quantity.Joins 100000 (length s.access.joins + 1) ∷ []) (sym (new_join_limits s sound row new) ∙ few) in
           length-facts_with join.the_row.coded row s.access.joins 100000 (above-within quantity.Joins 100000 (length s.access.joins + 1) bounds.0)
@@ -173,7 +174,7 @@ module _ (s : Rows) (command : Command) (sound : IsSound s) (within : IsWithin s
   grant-count row few = by (holds grant_row.the_row.coded row s.access.grants) refl
     where
       by : (b : Bool) → holds grant_row.the_row.coded row s.access.grants ≡ b → length (facts_with grant_row.the_row.coded row s.access.grants) ≤ 100000
-      by true there = subst (λ rows. length rows ≤ 100000) (sym (facts_with-known grant_row.the_row.coded row s.access.grants there)) sound.access.grants_bound
+      by true there = subst (λ rows. length rows ≤ 100000) (sym (facts_with-known grant_row.the_row.coded row s.access.grants there)) sound.access.grants.bound
       by false new =
           let bounds = EachPasses-none (above quantity.Grants 100000 (length s.access.grants + 1) ∷ []) (sym (new_grant_limits s sound row new) ∙ few) in
           length-facts_with grant_row.the_row.coded row s.access.grants 100000 (above-within quantity.Grants 100000 (length s.access.grants + 1) bounds.0)
@@ -189,7 +190,7 @@ module _ (s : Rows) (command : Command) (sound : IsSound s) (within : IsWithin s
       let allowed : grantable grant.privilege (kind_of made.one) ≡ true = ap (grantable grant.privilege) in_catalog.kind ∙ proper in
       let lies : catalog_of made.one s.content ≡ Some made.to.catalog = in_catalog.lies ∙ ap Some (sym (at-named s catalog role made.to made.to_there).0) in
       access-sound s command sound within (with_grant s row).access
-      (access.put_grant s.next_id s.access row sound.access (subst (IsGrantOf s.next_id s.access) made.is (record { role = to_known; securable = in_catalog.given_id; allowed = allowed })) (grant-count row few))
+      (access.put_grant s.next_id s.access row sound.access (subst (IsGrantOf s.next_id s.access.catalog_roles) made.is (record { role = to_known; securable = in_catalog.given_id; allowed = allowed })) (grant-count row few))
       (ties.put_grant s.access s.content sound.ties row (subst (IsGrantWithin s.access s.content) made.is (record { role = made.to; there = own; within = lies }))))
 
   -- the first grants of a `catalog_admin` are on its catalogue

@@ -61,7 +61,7 @@ module _ (s : Rows) (command : Command) where
     -- a membership that is there is taken away
     pub ended_member_changes : (row : MemberRow) → holds member.the_row.coded row s.access.members ≡ true → changes_between s (stamped s command (without_member s row)) ≡ Time (time_of s command) ∷ DropMember row ∷ []
     ended_member_changes row there =
-        made-in_place s (stamped s command (without_member s row)) (record none { members = DropMember row ∷ [] }) refl refl (λ i. record (still s i) { members = fact_changes-take member.the_row.coded member_cmp PutMember DropMember row s.access.members sound.access.members_differ there i })
+        made-in_place s (stamped s command (without_member s row)) (record none { members = DropMember row ∷ [] }) refl refl (λ i. record (still s i) { members = fact_changes-take member.the_row.coded member_cmp PutMember DropMember row s.access.members sound.access.members.differ there i })
 
     -- a principal that takes the next id
     pub new_principal_changes : (row : PrincipalRow) → row.id ≡ s.next_id → changes_between s (stamped s command (with_new_principal s row)) ≡ Time (time_of s command) ∷ NextId (s.next_id + 1) ∷ PutPrincipal row ∷ []

@@ -45,7 +45,7 @@ module _ (s : Rows) (sound : IsSound s) where
   pub known_member_limits : (row : MemberRow) → holds member.the_row.coded row s.access.members ≡ true → over_limit (with_member s row) ≡ None
   known_member_limits row known =
       limits-by (with_member s row) none_above_bounds (λ i. record (within-all s sound i) {
-        members = (ap (λ rows. above quantity.Members 100000 (length rows)) (facts_with-known member.the_row.coded row s.access.members known) ∙ above-none quantity.Members 100000 _ sound.access.members_bound) i;
+        members = (ap (λ rows. above quantity.Members 100000 (length rows)) (facts_with-known member.the_row.coded row s.access.members known) ∙ above-none quantity.Members 100000 _ sound.access.members.bound) i;
       })
 
   pub new_member_limits : (row : MemberRow) → holds member.the_row.coded row s.access.members ≡ false → over_limit (with_member s row) ≡ first_refusal (above quantity.Members 100000 (length s.access.members + 1) ∷ [])

@@ -96,7 +96,7 @@ module _ (s : Rows) (command : Command) (sound : IsSound s) (within : IsWithin s
   member-count row few = by (holds member.the_row.coded row s.access.members) refl
     where
       by : (b : Bool) → holds member.the_row.coded row s.access.members ≡ b → length (facts_with member.the_row.coded row s.access.members) ≤ 100000
-      by true there = subst (λ rows. length rows ≤ 100000) (sym (facts_with-known member.the_row.coded row s.access.members there)) sound.access.members_bound
+      by true there = subst (λ rows. length rows ≤ 100000) (sym (facts_with-known member.the_row.coded row s.access.members there)) sound.access.members.bound
       by false new =
           let bounds = EachPasses-none (above quantity.Members 100000 (length s.access.members + 1) ∷ []) (sym (new_member_limits s sound row new) ∙ few) in
           length-facts_with member.the_row.coded row s.access.members 100000 (above-within quantity.Members 100000 (length s.access.members + 1) bounds.0)

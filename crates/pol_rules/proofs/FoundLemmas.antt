@@ -19,7 +19,8 @@ use Rattle.pol_tables.proofs.RisingLemmas.{IdsDiffer-rising}
 use Rattle.pol_tables.proofs.NamedLemmas.{each-own}
 use Rattle.pol_content.specs.Content.{catalog_named, catalog_id, is_catalog_named}
 use Rattle.pol_content.specs.declared.rows.CatalogRow.{CatalogRow}
-use Rattle.pol_content.proofs.TiesLemmas.{found-own, found-passes, role-name}
+use Rattle.pol_access.proofs.KeptLemmas.{found-passes}
+use Rattle.pol_content.proofs.TiesLemmas.{found-own, role-name}
 use Rattle.pol_commands.specs.declared.grants.Grant.{Grant}
 use Rattle.pol_commands.specs.declared.grants.GrantedOn.{GrantedOn}
 use Rattle.pol_commands.specs.declared.command.Command.{Command}

@@ -168,9 +168,9 @@ module _ (s : Rows) (sound : IsSound s) where
     principals = above-none quantity.Principals 10000 _ sound.access.principals_bound i;
     principal_roles = above-none quantity.PrincipalRoles 10000 _ sound.access.principal_roles_bound i;
     catalog_roles = above-none quantity.CatalogRoles 10000 _ sound.access.catalog_roles_bound i;
-    members = above-none quantity.Members 100000 _ sound.access.members_bound i;
-    joins = above-none quantity.Joins 100000 _ sound.access.joins_bound i;
-    grants = above-none quantity.Grants 100000 _ sound.access.grants_bound i;
+    members = above-none quantity.Members 100000 _ sound.access.members.bound i;
+    joins = above-none quantity.Joins 100000 _ sound.access.joins.bound i;
+    grants = above-none quantity.Grants 100000 _ sound.access.grants.bound i;
     namespaces = above-none quantity.Namespaces 100000 _ sound.content.namespaces_bound i;
     allowed = any_above-none quantity.AllowedLocations 100 allowed_count s.content.catalogs allowed-within i;
     properties = any_above-none quantity.Properties 1000 catalog_properties s.content.catalogs properties-within i;

@@ -48,9 +48,11 @@ namespace_shown s None = name.Realm
 namespace_shown s (Some row) = levels_shown (row_of catalog_id row.catalog s.content.catalogs) row.levels
 
 abbrev pub shown : Rows → Securable → SecurableName
+shown s securable.Realm = name.Realm
 shown s (securable.Catalog id) = catalog_shown (row_of catalog_id id s.content.catalogs)
 shown s (securable.Namespace id) = namespace_shown s (row_of namespace_id id s.content.namespaces)
-shown s other = name.Realm
+shown s (securable.Table id) = name.Realm
+shown s (securable.View id) = name.Realm
 
 -- a need isn't met; the first such is told
 unfoldable pub first_unmet : Rows → Command → List Need → Option Need

@@ -88,14 +88,9 @@ fresh-sound secret = record {
     role_names_differ = (tt, tt);
     catalog_roles_known = tt;
     catalog_role_names_differ = tt;
-    members_differ = (tt, tt);
-    member_principals = (refl, tt);
-    member_roles = (refl, tt);
-    joins_differ = tt;
-    join_principal_roles = tt;
-    join_catalog_roles = tt;
-    grants_differ = tt;
-    grants_known = tt;
+    members = record { differ = (tt, tt); each = (record { principal = refl; role = refl }, tt); bound = lit≤ tt };
+    joins = record { differ = tt; each = tt; bound = lit≤ tt };
+    grants = record { differ = tt; each = tt; bound = lit≤ tt };
     root_chain = record {
       root = root_row secret;
       admin = service_admin_row;
@@ -106,9 +101,6 @@ fresh-sound secret = record {
     principals_bound = lit≤ tt;
     principal_roles_bound = lit≤ tt;
     catalog_roles_bound = lit≤ tt;
-    members_bound = lit≤ tt;
-    joins_bound = lit≤ tt;
-    grants_bound = lit≤ tt;
   };
   content = record {
     catalogs = record { rise = tt; given = tt };

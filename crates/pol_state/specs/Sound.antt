@@ -2,7 +2,7 @@
 use Rattle.std.specs.Prelude.{◌<◌, ◌≤◌, ◌^◌, ℕ}
 use Rattle.std.specs.Bool.{⊤}
 use Rattle.std.specs.List.{AllByRecursion}
-pub use Rattle.pol_access.specs.Sound.{HasRootChain, IsCatalogRoleOf, IsGrantOf, IsSecurableGiven, IsSoundAccess}
+pub use Rattle.pol_access.specs.Sound.{AreFacts, HasRootChain, IsCatalogRoleOf, IsGrantOf, IsJoinOf, IsMemberOf, IsSecurableGiven, IsSoundAccess}
 use Rattle.pol_content.specs.Sound.{IsSoundContent}
 pub use Rattle.pol_content.specs.Ties.{AreTied}
 use Rattle.pol_names.specs.declared.scope.Scope.{Scope}
