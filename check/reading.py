@@ -29,9 +29,10 @@ STATUS_AND_TYPE = {
 
 
 class Refused(Exception):
-    """A refusal with its status and the body that tells it."""
+    """A refusal with its message, its status and the body that tells it."""
 
     def __init__(self, rule, message):
+        self.message = message
         self.status, kind = STATUS_AND_TYPE[rule]
         self.body = compact({"error": {"code": self.status, "message": message, "type": kind}})
 
@@ -147,10 +148,11 @@ def no_constant(word):
 
 
 def finite(word):
-    """The number that digits write, unless it is too large for a float."""
+    """The number that digits write, unless it is too large for a float. Whole ones without a fraction, an exponent or a
+    sign before a zero are whole numbers, and all others floats."""
     if math.isinf(float(word)):
         raise ValueError(word)
-    return float(word) if set(word) & set(".eE") else int(word)
+    return float(word) if set(word) & set(".eE") or word == "-0" else int(word)
 
 
 def depth_of(value):

@@ -12,6 +12,7 @@ mod numbers;
 mod reader;
 mod script;
 mod settings;
+mod tables;
 mod turns;
 mod unread;
 mod values;

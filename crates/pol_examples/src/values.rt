@@ -5,6 +5,7 @@ ghost use Rattle.pol_examples.specs.Values.{Differs, IsAnother, IsAsWanted, Tell
 
 use crate::comparing::Difference;
 use crate::escapes::{shown, unescaped, unescaped_text};
+use crate::tables::table;
 use crate::unread::Unread;
 use pol_locations::{Location, LocationRefused, covers, overlaps};
 use pol_names::{Name, NameRefused, Namespace, NamespaceRefused, Plain};
@@ -33,6 +34,7 @@ pub enum Question {
     Join,
     Covers,
     Overlaps,
+    TableRequest,
 }
 
 impl Value {
@@ -87,6 +89,7 @@ impl Question {
             "join" => Some(Question::Join),
             "covers" => Some(Question::Covers),
             "overlaps" => Some(Question::Overlaps),
+            "table-request" => Some(Question::TableRequest),
             _ => None,
         }
     }
@@ -105,6 +108,7 @@ fn told(alloc: Global, question: Question, arguments: &[Text]) -> Result<String,
         (Question::Join, [base, segments @ ..]) => join(alloc, base.as_str(), segments),
         (Question::Covers, [a, b]) => cover(alloc, a.as_str(), b.as_str()),
         (Question::Overlaps, [a, b]) => overlap(alloc, a.as_str(), b.as_str()),
+        (Question::TableRequest, [body]) => table(alloc, body.as_str()),
         _ => Err(Unread::Form),
     }
 }

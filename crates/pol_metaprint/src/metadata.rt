@@ -1,6 +1,8 @@
 //! Schemas and whole metadata.
-ghost use Rattle.std.specs.Prelude.{◌≡◌, IfOk};
+ghost use Rattle.std.specs.Prelude.{◌≡◌, false, IfOk};
+ghost use Rattle.serde_json.specs.Data.{object};
 ghost use Rattle.serde_json.specs.View.{members_view, view};
+ghost use Rattle.serde_json.specs.Written.{has_float};
 ghost use Rattle.pol_metaprint.specs.Json as json;
 ghost use Rattle.pol_metaprint.specs.Metadata as spec;
 ghost use Rattle.uuid.specs.Text.{hyphenated_text, lower};
@@ -16,17 +18,26 @@ use serde_json::Value;
 use std::alloc::Global;
 use uuid::Uuid;
 
-/// The JSON of a metadata.
-#[tactic(auto, unfolding(crate::specs::Metadata::table_json))]
+/// The JSON of a metadata, in which no number is a float.
+#[tactic(auto, using(crate::proofs::WholeLemmas::table_whole))]
 pub fn table_value(alloc: Global, meta: &TableMetadata) -> Result<Value, OutOfMemory>
-    ensures { IfOk result (λ value. view value ≡ spec.table_json meta.now) }
+    ensures json { IfOk result (λ value. view value ≡ spec.table_json meta.now) }
+    ensures whole { IfOk result (λ value. has_float (view value) ≡ false) }
+{
+    let members = all_members(alloc, meta)?;
+    Ok(Value::from(members))
+}
+
+/// The members of a metadata.
+#[tactic(auto, unfolding(crate::specs::Metadata::table_json))]
+fn all_members(alloc: Global, meta: &TableMetadata) -> Result<Members, OutOfMemory>
+    ensures { IfOk result (λ all. object (members_view all.entries) ≡ spec.table_json meta.now) }
 {
     let members = with_table(alloc, none(alloc), meta)?;
     let members = with_snapshots(alloc, members, meta)?;
     let members = with_shapes(alloc, members, meta)?;
     let members = with_current(alloc, members, meta)?;
-    let members = with_numbers(alloc, members, meta)?;
-    Ok(Value::from(members))
+    with_numbers(alloc, members, meta)
 }
 
 /// The members, and what a metadata is of.
