@@ -137,7 +137,7 @@ fn bodies_are_read_or_their_first_bad_field_is_told(rt: HostRuntime) {
 
 /// The whole form is exact on its grammar.
 fn bodies_are_exact()
-    ensures { BodiesAreExact ⟦<Body as Form>⟧.shape.read ⟦<Body as Form>⟧.shape.stands }
+    ensures { BodiesAreExact ⟦<Body as Form>⟧.shape }
 {
     laws::bodies_are_exact::<Body>()
 }
