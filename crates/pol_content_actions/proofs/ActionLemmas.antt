@@ -43,20 +43,19 @@ use Rattle.pol_properties.specs.Properties.{pairs_updated}
 use Rattle.pol_properties.specs.declared.property.Property.{Property}
 use Rattle.pol_commands.specs.declared.command.Command.{Command}
 use Rattle.pol_commands.specs.declared.reply.Quantity.TheVariants as quantity
-use Rattle.pol_commands.specs.declared.reply.Refusal.{Refusal}
 use Rattle.pol_commands.specs.declared.reply.Refusal.TheVariants.{NoNamespace}
 use Rattle.pol_state.specs.Applied.{changed}
 use Rattle.pol_state.specs.Rows.{Rows}
 use Rattle.pol_state.specs.Sound.{IsCatalogRoleOf, IsGiven, IsSound, IsSoundAccess}
 use Rattle.pol_state.proofs.AppliedLemmas.{grants-dropped, joins-dropped, roles-dropped, three-dropped, with_joins, with_roles}
 use Rattle.pol_state.proofs.ChangesLemmas.{filter-twice}
-use Rattle.pol_rules.specs.Acting.{done, rows_by, stamped}
-use Rattle.pol_rules.specs.Rules.{above, catalog_holds, catalog_taken, first_refusal, given, namespace_holds, namespace_taken, no_namespace, no_parent, over_limit, time_of}
+use Rattle.pol_rules.specs.Acting.{done, stamped}
+use Rattle.pol_rules.specs.Rules.{above, catalog_holds, catalog_taken, given, namespace_holds, namespace_taken, no_namespace, no_parent, over_limit, time_of, EachPasses}
 use Rattle.pol_rules.proofs.LimitsLemmas.{above-within, length-facts_with}
 use Rattle.pol_rules.proofs.RulesLemmas.{EachPasses-none, refused-not, nothing}
 use Rattle.pol_rules.proofs.FoundLemmas.{found-holds, catalog-own}
-use Rattle.pol_rules.proofs.SoundLemmas.{next_id-some, stamped-sound, tables-sound, IsWithin}
-use Rattle.pol_rules.proofs.LeadsLemmas.{Leads, leads-same, leads-by}
+use Rattle.pol_rules.proofs.SoundLemmas.{next_id-some, sound-done, tables-sound, IsWithin}
+use Rattle.pol_rules.proofs.LeadsLemmas.{Leads, leads-by}
 use Rattle.pol_content_actions.specs.Catalogs.{create_catalog, drop_catalog, new_catalog, with_catalog, without_catalog}
 use Rattle.pol_content_actions.specs.Namespaces.{create_namespace, drop_namespace, in_catalog, namespace_at, update_properties, with_altered, with_namespace, with_properties, without_namespace}
 use Rattle.pol_content_actions.proofs.ChangesLemmas.{changes-altered, changes-unaltered, changes-with_catalog, changes-with_namespace, changes-without_catalog, changes-without_namespace}
@@ -131,15 +130,13 @@ module _ (s : Rows) (command : Command) where
     namespace-own name levels row found = own-at levels row (catalog_named name s.content) found
 
     -- where each action leads
-    pub leads-catalog : (row : CatalogRow) (found : Option PrincipalRoleRow) → row.id ≡ s.next_id → Leads s command (done s found (with_catalog s row))
-    leads-catalog row None id = leads-same s command
-    leads-catalog row (Some service) id =
+    pub leads-with_catalog : (row : CatalogRow) (service : PrincipalRoleRow) → row.id ≡ s.next_id → Leads s command (with_catalog s row service)
+    leads-with_catalog row service id =
         let admin = admin-last s sound row.id service.id id in
         leads-by s command (with_catalog s row service) _ (changes-with_catalog s sound (time_of s command) (s.charged + command.charge) row service id admin.0 admin.1) refl
 
-    pub leads-catalog_dropped : (name : List ℕ) (found : Option CatalogRow) → catalog_named name s.content ≡ found → Leads s command (done s found (without_catalog s))
-    leads-catalog_dropped name None found = leads-same s command
-    leads-catalog_dropped name (Some row) found =
+    pub leads-without_catalog : (name : List ℕ) (row : CatalogRow) → catalog_named name s.content ≡ Some row → Leads s command (without_catalog s row)
+    leads-without_catalog name row found =
         let t : Rows = record s { time = time_of s command; content = record s.content { catalogs = rows_without catalog_id row.id s.content.catalogs } } in
         let keep : CatalogRoleRow → Bool = λ role. not (role.catalog == row.id) in
         let roles = map DropCatalogRole (map catalog_role_id (filter (λ role. role.catalog == row.id) s.access.catalog_roles)) in
@@ -155,15 +152,13 @@ module _ (s : Rows) (command : Command) where
         )
         )
 
-    pub leads-namespace : (levels : List (List ℕ)) (properties : List Property) (found : Option CatalogRow) → Leads s command (done s found (with_namespace s levels properties))
-    leads-namespace levels properties None = leads-same s command
-    leads-namespace levels properties (Some catalog) =
+    pub leads-with_namespace : (levels : List (List ℕ)) (properties : List Property) (catalog : CatalogRow) → Leads s command (with_namespace s levels properties catalog)
+    leads-with_namespace levels properties catalog =
         let row : NamespaceRow = record { id = s.next_id; catalog = catalog.id; levels = levels; properties = properties } in
         leads-by s command (with_namespace s levels properties catalog) (Time (time_of s command) ∷ NextId (s.next_id + 1) ∷ PutNamespace row ∷ []) (changes-with_namespace s sound (time_of s command) (s.charged + command.charge) row refl) refl
 
-    pub leads-namespace_dropped : (name : List ℕ) (levels : List (List ℕ)) (found : Option NamespaceRow) → namespace_at s name levels ≡ found → Leads s command (done s found (without_namespace s))
-    leads-namespace_dropped name levels None found = leads-same s command
-    leads-namespace_dropped name levels (Some row) found =
+    pub leads-without_namespace : (name : List ℕ) (levels : List (List ℕ)) (row : NamespaceRow) → namespace_at s name levels ≡ Some row → Leads s command (without_namespace s row)
+    leads-without_namespace name levels row found =
         let t : Rows = record s { time = time_of s command; content = record s.content { namespaces = rows_without namespace_id row.id s.content.namespaces } } in
         leads-by s command (without_namespace s row) _ (changes-without_namespace s sound (time_of s command) (s.charged + command.charge) row (namespace-own name levels row found))
         (ap (λ (after : Rows). record after { time = time_of s command; charged = after.charged + command.charge }) (grants-dropped t (grant_names s.access.catalog_roles (referent.Securable (securable.Namespace row.id)))))
@@ -182,9 +177,8 @@ module _ (s : Rows) (command : Command) where
           leads-by s command (with_altered s row) (Time (time_of s command) ∷ PutNamespace row ∷ []) (changes-altered s sound (time_of s command) (s.charged + command.charge) row old there other) refl
     ]
 
-    pub leads-properties : (name : List ℕ) (levels removals : List (List ℕ)) (updates : List Property) (found : Option NamespaceRow) → namespace_at s name levels ≡ found → Leads s command (done s found (with_properties s removals updates))
-    leads-properties name levels removals updates None found = leads-same s command
-    leads-properties name levels removals updates (Some row) found =
+    pub leads-with_properties : (name : List ℕ) (levels removals : List (List ℕ)) (updates : List Property) (row : NamespaceRow) → namespace_at s name levels ≡ Some row → Leads s command (with_properties s removals updates row)
+    leads-with_properties name levels removals updates row found =
         leads-altered (record row { properties = pairs_updated removals updates row.properties }) row (namespace-own name levels row found)
 
     module _ (within : IsWithin s command) where
@@ -235,38 +229,24 @@ module _ (s : Rows) (command : Command) where
           let tied = created_catalog s.access s.content sound.ties row service there (new_ids s.next_id row.id s.content sound.content (omega (arith, id))) (new_ids s.next_id (row.id + 1) s.content sound.content (omega (arith, id))) (unknown-later s sound row.id (omega (arith, id))) (unknown-later s sound (row.id + 1) (omega (arith, id))) in
           tables-sound s command (with_admin row.id service.id s.access) after (s.next_id + 2) sound within (omega arith) next (access-with_admin row service id there roles joins grants) (more_ids (s.next_id + 1) (s.next_id + 2) after (omega arith) put) tied
 
-      pub sound-create_catalog : (name base : List ℕ) (allowed : List (List ℕ)) (properties : List Property) (external : Bool) (first : Option Refusal) → first_refusal (create_catalog s command name base allowed properties external).rules ≡ first
-          → IsSound (stamped s command (rows_by first s (create_catalog s command name base allowed properties external).after))
-      sound-create_catalog name base allowed properties external (Some why) fails = stamped-sound s command sound within
-      sound-create_catalog name base allowed properties external None none =
-          let passes = EachPasses-none (create_catalog s command name base allowed properties external).rules none in
-          by (principal_role_named (codes "service_admin") s.access) refl passes.1.1.1.1.1.1.0
-        where
-          by : (found : Option PrincipalRoleRow) → principal_role_named (codes "service_admin") s.access ≡ found → over_limit (done s found (with_catalog s (new_catalog s name base allowed properties))) ≡ None → IsSound (stamped s command (done s found (with_catalog s (new_catalog s name base allowed properties))))
-          by None there few = stamped-sound s command sound within
-          by (Some service) there few =
-              let passes = EachPasses-none (create_catalog s command name base allowed properties external).rules none in
-              sound-with_catalog (new_catalog s name base allowed properties) service refl there (catalog-free s name passes.1.1.0) few
+      pub sound-create_catalog : (name base : List ℕ) (allowed : List (List ℕ)) (properties : List Property) (external : Bool)
+          → EachPasses (create_catalog s command name base allowed properties external).rules → IsSound (stamped s command (create_catalog s command name base allowed properties external).after)
+      sound-create_catalog name base allowed properties external passes =
+          let row = new_catalog s name base allowed properties in
+          sound-done s command sound within (principal_role_named (codes "service_admin") s.access) (with_catalog s row) (λ service there.
+          sound-with_catalog row service refl there (catalog-free s name passes.1.1.0) (sym (ap (λ one. over_limit (done s one (with_catalog s row))) there) ∙ passes.1.1.1.1.1.1.0))
 
       -- a catalogue that is dropped
-      pub sound-drop_catalog : (name : List ℕ) (first : Option Refusal) (found : Option CatalogRow) → first_refusal (drop_catalog s command name).rules ≡ first → catalog_named name s.content ≡ found
-          → IsSound (stamped s command (rows_by first s (done s found (without_catalog s))))
-      sound-drop_catalog name (Some why) found fails is = stamped-sound s command sound within
-      sound-drop_catalog name None None none is = stamped-sound s command sound within
-      sound-drop_catalog name None (Some row) none is =
-          let passes = EachPasses-none (drop_catalog s command name).rules none in
+      pub sound-drop_catalog : (name : List ℕ) → EachPasses (drop_catalog s command name).rules → IsSound (stamped s command (drop_catalog s command name).after)
+      sound-drop_catalog name passes = sound-done s command sound within (catalog_named name s.content) (without_catalog s) (λ row is.
           let empty = catalog-empty s row (sym (ap (λ one. given one (catalog_holds s)) is) ∙ passes.1.1.1.0) in
           tables-sound s command (without_catalog s row).access (without_catalog s row).content s.next_id sound within (omega arith) sound.next_id_bound (dropped_catalog_roles s.next_id row.id s.access sound.access).1 (dropped_catalog s.next_id row.id s.content sound.content empty)
-          (ties.dropped_catalog s.access s.content sound.ties row.id (IdsDiffer-rising catalog_role_id s.access.catalog_roles sound.access.catalog_roles.rise))
+          (ties.dropped_catalog s.access s.content sound.ties row.id (IdsDiffer-rising catalog_role_id s.access.catalog_roles sound.access.catalog_roles.rise)))
 
       -- a namespace that is put
-      pub sound-create_namespace : (name : List ℕ) (levels : List (List ℕ)) (properties : List Property) (first : Option Refusal) (found : Option CatalogRow) → first_refusal (create_namespace s command name levels properties).rules ≡ first → catalog_named name s.content ≡ found
-          → IsSound (stamped s command (rows_by first s (done s found (with_namespace s levels properties))))
-      sound-create_namespace name levels properties (Some why) found fails is = stamped-sound s command sound within
-      sound-create_namespace name levels properties None None none is = stamped-sound s command sound within
-      sound-create_namespace name levels properties None (Some catalog) none is =
+      pub sound-create_namespace : (name : List ℕ) (levels : List (List ℕ)) (properties : List Property) → EachPasses (create_namespace s command name levels properties).rules → IsSound (stamped s command (create_namespace s command name levels properties).after)
+      sound-create_namespace name levels properties passes = sound-done s command sound within (catalog_named name s.content) (with_namespace s levels properties) (λ catalog is.
           let row : NamespaceRow = record { id = s.next_id; catalog = catalog.id; levels = levels; properties = properties } in
-          let passes = EachPasses-none (create_namespace s command name levels properties).rules none in
           let parent = sym (ap (λ one. given one (λ (catalog : CatalogRow). no_parent s catalog.id (parent_of levels))) is) ∙ passes.1.1.1.0 in
           let taken = sym (ap (λ one. given one (namespace_taken s levels)) is) ∙ passes.1.1.1.1.0 in
           let few = sym (ap (λ one. over_limit (done s one (with_namespace s levels properties))) is) ∙ passes.1.1.1.1.1.0 in
@@ -280,34 +260,26 @@ module _ (s : Rows) (command : Command) where
           let last = (new_rows_last s.next_id s.content sound.content).1 row refl in
           tables-sound s command s.access (with_namespace s levels properties catalog).content (s.next_id + 1) sound within (omega arith) next (access_more_ids s.next_id (s.next_id + 1) s.access (omega arith) sound.access)
           (subst (λ rows. IsSoundContent (s.next_id + 1) (record s.content { namespaces = rows })) (sym last) pushed)
-          (put_namespace s.access s.content sound.ties row (λ old known. unknown-row old known (knows-below namespace_id s.next_id s.content.namespaces (below-next namespace_id s.next_id s.content.namespaces sound.content.namespaces))) (unknown-later s sound s.next_id (omega arith)))
+          (put_namespace s.access s.content sound.ties row (λ old known. unknown-row catalog old known (knows-below namespace_id s.next_id s.content.namespaces (below-next namespace_id s.next_id s.content.namespaces sound.content.namespaces))) (unknown-later s sound s.next_id (omega arith))))
         where
-          unknown-row : (old : NamespaceRow) → row_of namespace_id s.next_id s.content.namespaces ≡ Some old → knows namespace_id s.next_id s.content.namespaces ≡ false → catalog.id ≡ old.catalog
-          unknown-row old there unknown = absurd (true≢false (sym (sym (is_some-row_of namespace_id s.next_id s.content.namespaces) ∙ ap is_some there) ∙ unknown))
+          unknown-row : (catalog : CatalogRow) (old : NamespaceRow) → row_of namespace_id s.next_id s.content.namespaces ≡ Some old → knows namespace_id s.next_id s.content.namespaces ≡ false → catalog.id ≡ old.catalog
+          unknown-row catalog old there unknown = absurd (true≢false (sym (sym (is_some-row_of namespace_id s.next_id s.content.namespaces) ∙ ap is_some there) ∙ unknown))
 
       -- a namespace that is dropped
-      pub sound-drop_namespace : (name : List ℕ) (levels : List (List ℕ)) (first : Option Refusal) (found : Option NamespaceRow) → first_refusal (drop_namespace s command name levels).rules ≡ first → namespace_at s name levels ≡ found
-          → IsSound (stamped s command (rows_by first s (done s found (without_namespace s))))
-      sound-drop_namespace name levels (Some why) found fails is = stamped-sound s command sound within
-      sound-drop_namespace name levels None None none is = stamped-sound s command sound within
-      sound-drop_namespace name levels None (Some row) none is =
-          let passes = EachPasses-none (drop_namespace s command name levels).rules none in
+      pub sound-drop_namespace : (name : List ℕ) (levels : List (List ℕ)) → EachPasses (drop_namespace s command name levels).rules → IsSound (stamped s command (drop_namespace s command name levels).after)
+      sound-drop_namespace name levels passes = sound-done s command sound within (namespace_at s name levels) (without_namespace s) (λ row is.
           let empty = namespace-empty s row (sym (ap (λ one. given one (namespace_holds s)) is) ∙ passes.1.1.1.1.0) in
           tables-sound s command (without_namespace s row).access (without_namespace s row).content s.next_id sound within (omega arith) sound.next_id_bound ((dropped_grants s.next_id s.access sound.access).1 (securable.Namespace row.id)) (dropped_namespace s.next_id row.id s.content sound.content empty)
-          (ties.dropped_namespace s.access s.content sound.ties row.id)
+          (ties.dropped_namespace s.access s.content sound.ties row.id))
 
       -- a namespace whose properties are removed and set
-      pub sound-update_properties : (name : List ℕ) (levels removals : List (List ℕ)) (updates : List Property) (first : Option Refusal) (found : Option NamespaceRow) → first_refusal (update_properties s command name levels removals updates).rules ≡ first → namespace_at s name levels ≡ found
-          → IsSound (stamped s command (rows_by first s (done s found (with_properties s removals updates))))
-      sound-update_properties name levels removals updates (Some why) found fails is = stamped-sound s command sound within
-      sound-update_properties name levels removals updates None None none is = stamped-sound s command sound within
-      sound-update_properties name levels removals updates None (Some old) none is =
+      pub sound-update_properties : (name : List ℕ) (levels removals : List (List ℕ)) (updates : List Property) → EachPasses (update_properties s command name levels removals updates).rules → IsSound (stamped s command (update_properties s command name levels removals updates).after)
+      sound-update_properties name levels removals updates passes = sound-done s command sound within (namespace_at s name levels) (with_properties s removals updates) (λ old is.
           let row : NamespaceRow = record old { properties = pairs_updated removals updates old.properties } in
-          let passes = EachPasses-none (update_properties s command name levels removals updates).rules none in
           let few = sym (ap (λ one. over_limit (done s one (with_properties s removals updates))) is) ∙ passes.1.1.1.1.1.0 in
           let own = namespace-own name levels old is in
           let bounds = EachPasses-none (above quantity.Properties 1000 (length row.properties) ∷ []) (sym (altered_limits s sound row old own) ∙ few) in
           let small = above-within quantity.Properties 1000 (length row.properties) bounds.0 in
           let apart = found-holds (λ kept. is_access_id kept.id s.access ≡ false) (has_id namespace_id old.id) s.content.namespaces old sound.ties.ids_apart.namespaces own in
           tables-sound s command s.access (with_altered s row).content s.next_id sound within (omega arith) sound.next_id_bound sound.access (replaced_namespace s.next_id s.content old row sound.content own refl refl small)
-          (put_namespace s.access s.content sound.ties row (λ kept there. ap (λ (one : NamespaceRow). one.catalog) (some_is old kept (sym own ∙ there))) apart)
+          (put_namespace s.access s.content sound.ties row (λ kept there. ap (λ (one : NamespaceRow). one.catalog) (some_is old kept (sym own ∙ there))) apart))

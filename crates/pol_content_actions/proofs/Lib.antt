@@ -1,8 +1,8 @@
 pub mod ActionLemmas
 pub mod ChangesLemmas
 pub mod LimitsLemmas
+pub mod OwesLemmas
 pub mod RowsLemmas
-pub mod RulesLemmas
 pub mod ScopesLemmas
 pub mod SessionsLemmas
 pub mod SoundLemmas

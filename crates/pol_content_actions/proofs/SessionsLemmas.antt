@@ -9,17 +9,17 @@ use Rattle.pol_names.specs.declared.scope.Scope.{Scope}
 use Rattle.pol_commands.specs.declared.command.Command.{Command}
 use Rattle.pol_commands.specs.declared.reply.Answer.{Answer}
 use Rattle.pol_commands.specs.declared.reply.Refusal.{Refusal}
-use Rattle.pol_state.specs.Applied.{applied}
 use Rattle.pol_state.specs.Changes.{changes_between}
 use Rattle.pol_state.specs.Rows.{Rows}
 use Rattle.pol_state.specs.Sound.{IsSound}
-use Rattle.pol_state.proofs.ChangesLemmas.{changes-timed, serials-below}
-use Rattle.pol_rules.specs.Acting.{rows_by, stamped}
+use Rattle.pol_state.proofs.ChangesLemmas.{serials-below}
+use Rattle.pol_rules.specs.Acting.{stamped}
 use Rattle.pol_rules.specs.Judged.{Acts}
 use Rattle.pol_rules.specs.declared.rules.Acted.{Acted}
 use Rattle.pol_rules.specs.declared.rules.Stop.{Stop}
 use Rattle.pol_rules.specs.declared.rules.Stop.TheVariants.{Refused}
 use Rattle.pol_rules.specs.Rules.{client_of, first_refusal, given, invalid_client, invalid_scope, over_limit, with_serial, time_of}
+use Rattle.pol_rules.proofs.LeadsLemmas.{leads-by, Leads}
 use Rattle.pol_rules.proofs.RulesLemmas.{refusal-past, refusal-stops}
 use Rattle.pol_content_actions.specs.Sessions.{open_session, opened, scope_of, session_opened, with_session}
 use Rattle.pol_content_actions.proofs.ChangesLemmas.{applied-opened, changes-opened}
@@ -59,15 +59,9 @@ module _ (s : Rows) (command : Command) (scopes : List (List ℕ)) where
       changes-opened s (opened s command scopes principal) (opened-below principal sound) (time_of s command) (s.charged + command.charge)
 
   -- the changes lead to the rows with the command's time and charge
-  pub leads-by : (first : Option Refusal) (client : Option PrincipalRow) → IsSound s
-      → applied (changes_between s (stamped s command (rows_by first s (session_opened s command scopes client)))) (time_of s command) command.charge s ≡ stamped s command (rows_by first s (session_opened s command scopes client))
-  leads-by (Some why) client sound =
-      ap (λ changes. applied changes (time_of s command) command.charge s) (changes-timed s (time_of s command) (s.charged + command.charge))
-  leads-by None None sound =
-      ap (λ changes. applied changes (time_of s command) command.charge s) (changes-timed s (time_of s command) (s.charged + command.charge))
-  leads-by None (Some principal) sound =
-      ap (λ changes. applied changes (time_of s command) command.charge s) (changes-session principal sound)
-      ∙ applied-opened s (opened s command scopes principal) (opened-below principal sound) (time_of s command) command.charge
+  pub leads-opened : (principal : PrincipalRow) → IsSound s → Leads s command (with_session s (opened s command scopes principal))
+  leads-opened principal sound =
+      leads-by s command (with_session s (opened s command scopes principal)) _ (changes-session principal sound) (applied-opened s (opened s command scopes principal) (opened-below principal sound) (time_of s command) command.charge)
 
   -- bounds are judged on the next serial alone
   limit_alike : (principal : PrincipalRow) → over_limit (with_session s (opened s command scopes principal)) ≡ over_limit (with_serial (s.next_serial + 1) s)

@@ -43,8 +43,8 @@ use Rattle.pol_commands.specs.declared.reply.Quantity.TheVariants as quantity
 use Rattle.pol_state.specs.Rows.{Rows}
 use Rattle.pol_state.specs.Sound.{AreTied, IsGiven, IsGrantOf, IsSecurableGiven, IsSound, IsSoundAccess}
 use Rattle.pol_rules.specs.AccessRules.{catalog_role_at, catalog_role_taken, grant_of, is_catalog, is_first, join_of, reserved_grant, reserved_join, securable_in}
-use Rattle.pol_rules.specs.Acting.{done, rows_by, stamped}
-use Rattle.pol_rules.specs.Rules.{above, first_refusal, given, over_limit}
+use Rattle.pol_rules.specs.Acting.{done, stamped}
+use Rattle.pol_rules.specs.Rules.{above, given, over_limit, EachPasses}
 use Rattle.pol_rules.proofs.FoundLemmas.{at-named, at-own, grant-found, join-found, known, role-at, role-is, role-own, text-same, catalog-own, found-holds}
 use Rattle.pol_rules.proofs.LimitsLemmas.{facts_with-known, next-new, above-within, length-facts_with}
 use Rattle.pol_rules.proofs.SoundLemmas.{access-sound, new-access-sound, sound-done, next_id-some, IsWithin}
@@ -71,9 +71,9 @@ module _ (s : Rows) (command : Command) (sound : IsSound s) (within : IsWithin s
   catalog_roles-differ = IdsDiffer-rising catalog_role_id s.access.catalog_roles sound.access.catalog_roles.rise
 
   -- a catalogue role that is created
-  pub sound-create_catalog_role : (catalog name : List ℕ) → IsSound (stamped s command (rows_by (first_refusal (create_catalog_role s command catalog name).rules) s (create_catalog_role s command catalog name).after))
+  pub sound-create_catalog_role : (catalog name : List ℕ) → EachPasses (create_catalog_role s command catalog name).rules → IsSound (stamped s command (create_catalog_role s command catalog name).after)
   unfolding catalog_role_taken
-  sound-create_catalog_role catalog name = sound-done s command sound within (create_catalog_role s command catalog name).rules (catalog_named catalog s.content) (with_role_in s name) (λ owner found passes.
+  sound-create_catalog_role catalog name passes = sound-done s command sound within (catalog_named catalog s.content) (with_role_in s name) (λ owner found.
       let row : CatalogRoleRow = record { id = s.next_id; catalog = owner.id; name = name } in
       let taken = sym (ap (λ one. given one (catalog_role_taken s name)) found) ∙ passes.1.1.1.0 in
       let few = sym (ap (λ one. over_limit (done s one (with_role_in s name))) found) ∙ passes.1.1.1.1.0 in
@@ -91,8 +91,8 @@ module _ (s : Rows) (command : Command) (sound : IsSound s) (within : IsWithin s
       (tied.pushed_catalog_role s.access s.content sound.ties row (next-new catalog_role_id s.next_id s.next_id s.access.catalog_roles sound.access.catalog_roles refl) (new_ids s.next_id s.next_id s.content sound.content (omega arith)) there))
 
   -- a catalogue role that is dropped
-  pub sound-drop_catalog_role : (catalog name : List ℕ) → IsSound (stamped s command (rows_by (first_refusal (drop_catalog_role s command catalog name).rules) s (drop_catalog_role s command catalog name).after))
-  sound-drop_catalog_role catalog name = sound-done s command sound within (drop_catalog_role s command catalog name).rules (catalog_role_at s catalog name) (without_catalog_role s) (λ row found passes.
+  pub sound-drop_catalog_role : (catalog name : List ℕ) → EachPasses (drop_catalog_role s command catalog name).rules → IsSound (stamped s command (drop_catalog_role s command catalog name).after)
+  sound-drop_catalog_role catalog name passes = sound-done s command sound within (catalog_role_at s catalog name) (without_catalog_role s) (λ row found.
       let at = role-at s catalog name row found in
       access-sound s command sound within (without_catalog_role s row).access
       (access.dropped_catalog_roles s.next_id row.id s.access sound.access).0
@@ -108,8 +108,8 @@ module _ (s : Rows) (command : Command) (sound : IsSound s) (within : IsWithin s
           length-facts_with join.the_row.coded row s.access.joins 100000 (above-within quantity.Joins 100000 (length s.access.joins + 1) bounds.0)
 
   -- a join that is added
-  pub sound-add_join : (catalog role catalog_role : List ℕ) → IsSound (stamped s command (rows_by (first_refusal (add_join s command catalog role catalog_role).rules) s (add_join s command catalog role catalog_role).after))
-  sound-add_join catalog role catalog_role = sound-done s command sound within (add_join s command catalog role catalog_role).rules (join_of s catalog role catalog_role) (with_join s) (λ row found passes.
+  pub sound-add_join : (catalog role catalog_role : List ℕ) → EachPasses (add_join s command catalog role catalog_role).rules → IsSound (stamped s command (add_join s command catalog role catalog_role).after)
+  sound-add_join catalog role catalog_role passes = sound-done s command sound within (join_of s catalog role catalog_role) (with_join s) (λ row found.
       let made = join-found s catalog role catalog_role row found in
       let few = sym (ap (λ one. over_limit (done s one (with_join s))) found) ∙ passes.1.1.1.1.1.0 in
       let role_known = subst (λ (one : JoinRow). knows principal_role_id one.principal_role s.access.principal_roles ≡ true) made.is (known principal_role_id made.one.id made.one s.access.principal_roles (role-own s sound role made.one made.one_there)) in
@@ -119,8 +119,8 @@ module _ (s : Rows) (command : Command) (sound : IsSound s) (within : IsWithin s
       (ties.put_join s.access s.content sound.ties row))
 
   -- a join that is ended
-  pub sound-end_join : (catalog role catalog_role : List ℕ) → IsSound (stamped s command (rows_by (first_refusal (end_join s command catalog role catalog_role).rules) s (end_join s command catalog role catalog_role).after))
-  sound-end_join catalog role catalog_role = sound-done s command sound within (end_join s command catalog role catalog_role).rules (join_of s catalog role catalog_role) (without_join s) (λ row found passes.
+  pub sound-end_join : (catalog role catalog_role : List ℕ) → EachPasses (end_join s command catalog role catalog_role).rules → IsSound (stamped s command (end_join s command catalog role catalog_role).after)
+  sound-end_join catalog role catalog_role passes = sound-done s command sound within (join_of s catalog role catalog_role) (without_join s) (λ row found.
       let made = join-found s catalog role catalog_role row found in
       let roles_differ = IdsDiffer-rising principal_role_id s.access.principal_roles sound.access.principal_roles.rise in
       access-sound s command sound within (without_join s row).access
@@ -180,8 +180,8 @@ module _ (s : Rows) (command : Command) (sound : IsSound s) (within : IsWithin s
           length-facts_with grant_row.the_row.coded row s.access.grants 100000 (above-within quantity.Grants 100000 (length s.access.grants + 1) bounds.0)
 
   -- a grant that is added, of what may be granted
-  pub sound-add_grant : (catalog role : List ℕ) (grant : Grant) → IsGrantable grant → IsSound (stamped s command (rows_by (first_refusal (add_grant s command catalog role grant).rules) s (add_grant s command catalog role grant).after))
-  sound-add_grant catalog role grant proper = sound-done s command sound within (add_grant s command catalog role grant).rules (grant_of s catalog role grant) (with_grant s) (λ row found passes.
+  pub sound-add_grant : (catalog role : List ℕ) (grant : Grant) → IsGrantable grant → EachPasses (add_grant s command catalog role grant).rules → IsSound (stamped s command (add_grant s command catalog role grant).after)
+  sound-add_grant catalog role grant proper passes = sound-done s command sound within (grant_of s catalog role grant) (with_grant s) (λ row found.
       let made = grant-found s catalog role grant row found in
       let few = sym (ap (λ one. over_limit (done s one (with_grant s))) found) ∙ passes.1.1.1.1.1.0 in
       let own = at-own s sound catalog role made.to made.to_there in
@@ -206,8 +206,8 @@ module _ (s : Rows) (command : Command) (sound : IsSound s) (within : IsWithin s
   privilege-same privilege other is = true_same the_type privilege other is
 
   -- a grant that is revoked
-  pub sound-revoke : (catalog role : List ℕ) (grant : Grant) → IsSound (stamped s command (rows_by (first_refusal (revoke s command catalog role grant).rules) s (revoke s command catalog role grant).after))
-  sound-revoke catalog role grant = sound-done s command sound within (revoke s command catalog role grant).rules (grant_of s catalog role grant) (without_grant s) (λ row found passes.
+  pub sound-revoke : (catalog role : List ℕ) (grant : Grant) → EachPasses (revoke s command catalog role grant).rules → IsSound (stamped s command (revoke s command catalog role grant).after)
+  sound-revoke catalog role grant passes = sound-done s command sound within (grant_of s catalog role grant) (without_grant s) (λ row found.
       let made = grant-found s catalog role grant row found in
       let own = at-own s sound catalog role made.to made.to_there in
       let named = at-named s catalog role made.to made.to_there in

@@ -1,3 +1,3 @@
 pub mod AgreeLemmas
 pub mod DecisionLemmas
-pub mod LiveLemmas
+pub mod OwesLemmas

@@ -1,28 +1,10 @@
--- Agreement of states: they differ at most in what no longer counts.
-use Rattle.std.specs.Prelude.{◌≡◌, ◌&&◌, Bool, filter, nat_lt}
-use Rattle.pol_access.specs.Access.{principal_id}
-use Rattle.pol_tables.specs.Table.{knows}
-use Rattle.pol_tokens.specs.Tokens.{TokenRows}
-use Rattle.pol_tokens.specs.declared.session.SessionRow.{SessionRow}
-use Rattle.pol_state.specs.Changes.{changes_between}
-use Rattle.pol_machine.specs.Machine.{next_state, reply_of}
-use Rattle.pol_state.specs.Rows.{Rows}
+-- Commands in states that agree.
+use Rattle.std.specs.Prelude.{◌≡◌}
 use Rattle.pol_commands.specs.declared.command.Command.{Command}
-
--- whether a session is live: the state's time hasn't reached its expiry, and its principal is there
-abbrev pub is_live : Rows → SessionRow → Bool
-is_live s row = nat_lt s.time row.expires && knows principal_id row.principal s.access.principals
-
-abbrev pub live_tokens : Rows → TokenRows
-live_tokens s = record { sessions = filter (is_live s) s.tokens.sessions }
-
--- the state without sessions that aren't live
-abbrev pub live_part : Rows → Rows
-live_part s = record s { tokens = live_tokens s }
-
--- the live parts of the states are equal
-abbrev pub Agree : Rows → Rows → Type 0
-Agree s t = live_part s ≡ live_part t
+use Rattle.pol_state.specs.Changes.{changes_between}
+use Rattle.pol_state.specs.Rows.{Rows}
+use Rattle.pol_rules.specs.Live.{Agree}
+use Rattle.pol_machine.specs.Machine.{next_state, reply_of}
 
 -- a command does the same in both states: its reply, its changes, and what is live after it
 pub record DoesAlike (command : Command) (s t : Rows) : Type 0 where

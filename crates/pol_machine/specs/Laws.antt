@@ -1,6 +1,7 @@
 -- Laws of the machine.
 use Rattle.std.specs.Prelude.{◌≡◌, ◌↔◌, ◌≤◌, ◌^◌, true, None, is_some}
-use Rattle.pol_machine.specs.Agree.{live_part, Agree, DoesAlike}
+use Rattle.pol_machine.specs.Agree.{DoesAlike}
+use Rattle.pol_rules.specs.Live.{live_part, Agree}
 use Rattle.pol_state.specs.Applied.{applied}
 use Rattle.pol_state.specs.Changes.{changes_between}
 use Rattle.pol_machine.specs.Machine.{acting, next_state, reply_of, rules_of}

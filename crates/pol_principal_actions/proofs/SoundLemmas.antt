@@ -22,12 +22,12 @@ use Rattle.pol_commands.specs.declared.reply.Quantity.TheVariants as quantity
 use Rattle.pol_state.specs.Rows.{Rows, digest_of}
 use Rattle.pol_state.specs.Sound.{IsSound, IsSoundAccess}
 use Rattle.pol_rules.specs.AccessRules.{client_taken, member_of, principal_role_taken, principal_taken, reserved_member}
-use Rattle.pol_rules.specs.Acting.{done, rows_by, stamped}
-use Rattle.pol_rules.specs.Rules.{above, first_refusal, over_limit}
+use Rattle.pol_rules.specs.Acting.{done, stamped}
+use Rattle.pol_rules.specs.Rules.{above, over_limit, EachPasses}
 use Rattle.pol_rules.proofs.FoundLemmas.{known, member-found, principal-is, principal-own, role-is, role-own, text-same}
 use Rattle.pol_rules.proofs.LimitsLemmas.{facts_with-known, next-new, above-within, length-facts_with}
 use Rattle.pol_rules.proofs.RulesLemmas.{nothing, refused-not, EachPasses-none}
-use Rattle.pol_rules.proofs.SoundLemmas.{next_id-some, IsWithin, sound-after, new-access-sound, sound-done, access-sound}
+use Rattle.pol_rules.proofs.SoundLemmas.{next_id-some, IsWithin, new-access-sound, sound-done, access-sound}
 use Rattle.pol_rules.proofs.AccessRulesLemmas.{both-not, not-kept}
 use Rattle.pol_principal_actions.specs.Members.{add_member, end_member, with_member, without_member}
 use Rattle.pol_principal_actions.specs.PrincipalRoles.{create_principal_role, drop_principal_role, with_principal_role, without_principal_role}
@@ -50,12 +50,11 @@ apart-unknown key is_other id (row ∷ rows) apart is = or-false (has_id key id 
 
 module _ (s : Rows) (command : Command) (sound : IsSound s) (within : IsWithin s command) where
   -- a principal that is created
-  pub sound-create_principal : (name : List ℕ) (client_id secret : Option (List ℕ)) → IsSound (stamped s command (rows_by (first_refusal (create_principal s command name client_id secret).rules) s (create_principal s command name client_id secret).after))
+  pub sound-create_principal : (name : List ℕ) (client_id secret : Option (List ℕ)) → EachPasses (create_principal s command name client_id secret).rules → IsSound (stamped s command (create_principal s command name client_id secret).after)
   unfolding principal_taken client_taken
-  sound-create_principal name client_id secret =
+  sound-create_principal name client_id secret passes =
       let client = client_id_or client_id command.words.a in
       let row : PrincipalRow = new_principal s name client (secret_or secret command.words.b command.words.c) in
-      sound-after s command sound within (create_principal s command name client_id secret).rules (with_new_principal s row) (λ passes.
       let bounds = EachPasses-none (above quantity.Principals 10000 (length s.access.principals + 1) ∷ above quantity.NextId (2 ^ 62) (s.next_id + 1) ∷ []) (sym (new_principal_limits s sound row refl) ∙ passes.1.1.1.1.0) in
       let count = above-within quantity.Principals 10000 (length s.access.principals + 1) bounds.0 in
       let next = above-within quantity.NextId (2 ^ 62) (s.next_id + 1) bounds.1.0 in
@@ -65,11 +64,11 @@ module _ (s : Rows) (command : Command) (sound : IsSound s) (within : IsWithin s
       let last = (access.new_rows_last s.next_id s.access sound.access).0 row refl in
       new-access-sound s command sound within (with_new_principal s row).access next
       (subst (λ rows. IsSoundAccess (s.next_id + 1) (record s.access { principals = rows })) (sym last) pushed)
-      (ties.put_principal s.access s.content sound.ties row (new_ids s.next_id s.next_id s.content sound.content (omega arith))))
+      (ties.put_principal s.access s.content sound.ties row (new_ids s.next_id s.next_id s.content sound.content (omega arith)))
 
   -- a principal that is dropped
-  pub sound-drop_principal : (name : List ℕ) → IsSound (stamped s command (rows_by (first_refusal (drop_principal s command name).rules) s (drop_principal s command name).after))
-  sound-drop_principal name = sound-done s command sound within (drop_principal s command name).rules (principal_named name s.access) (without_principal s) (λ row found passes.
+  pub sound-drop_principal : (name : List ℕ) → EachPasses (drop_principal s command name).rules → IsSound (stamped s command (drop_principal s command name).after)
+  sound-drop_principal name passes = sound-done s command sound within (principal_named name s.access) (without_principal s) (λ row found.
       access-sound s command sound within (without_principal s row).access
       (access.dropped_principal s.next_id s.access row sound.access (principal-own s sound name row found) (not-kept (codes "root") name row.name passes.1.1.1.0 (principal-is s sound name row found)))
       (ties.dropped_principal s.access s.content sound.ties row.id))
@@ -80,10 +79,10 @@ module _ (s : Rows) (command : Command) (sound : IsSound s) (within : IsWithin s
       or-false (knows catalog_id id s.content.catalogs) (knows namespace_id id s.content.namespaces) (apart-unknown catalog_id (λ one. is_access_id one s.access) id s.content.catalogs sound.ties.ids_apart.catalogs is) (apart-unknown namespace_id (λ one. is_access_id one s.access) id s.content.namespaces sound.ties.ids_apart.namespaces is)
 
   -- a principal that gets another secret
-  pub sound-rotate : (name : List ℕ) (secret : Option (List ℕ)) → IsSound (stamped s command (rows_by (first_refusal (rotate s command name secret).rules) s (rotate s command name secret).after))
-  sound-rotate name secret =
+  pub sound-rotate : (name : List ℕ) (secret : Option (List ℕ)) → EachPasses (rotate s command name secret).rules → IsSound (stamped s command (rotate s command name secret).after)
+  sound-rotate name secret passes =
       let opens = secret_or secret command.words.a command.words.b in
-      sound-done s command sound within (rotate s command name secret).rules (principal_named name s.access) (rotated s opens) (λ old found passes.
+      sound-done s command sound within (principal_named name s.access) (rotated s opens) (λ old found.
       let row : PrincipalRow = record old { digest = digest_of opens } in
       let own = principal-own s sound name old found in
       let is = known principal_id old.id old s.access.principals own in
@@ -101,8 +100,8 @@ module _ (s : Rows) (command : Command) (sound : IsSound s) (within : IsWithin s
           let bounds = EachPasses-none (above quantity.Members 100000 (length s.access.members + 1) ∷ []) (sym (new_member_limits s sound row new) ∙ few) in
           length-facts_with member.the_row.coded row s.access.members 100000 (above-within quantity.Members 100000 (length s.access.members + 1) bounds.0)
 
-  pub sound-add_member : (principal role : List ℕ) → IsSound (stamped s command (rows_by (first_refusal (add_member s command principal role).rules) s (add_member s command principal role).after))
-  sound-add_member principal role = sound-done s command sound within (add_member s command principal role).rules (member_of s principal role) (with_member s) (λ row found passes.
+  pub sound-add_member : (principal role : List ℕ) → EachPasses (add_member s command principal role).rules → IsSound (stamped s command (add_member s command principal role).after)
+  sound-add_member principal role passes = sound-done s command sound within (member_of s principal role) (with_member s) (λ row found.
       let made = member-found s principal role row found in
       let few = sym (ap (λ one. over_limit (done s one (with_member s))) found) ∙ passes.1.1.1.1.0 in
       let principal_known = subst (λ (one : MemberRow). knows principal_id one.principal s.access.principals ≡ true) made.is (known principal_id made.one.id made.one s.access.principals (principal-own s sound principal made.one made.one_there)) in
@@ -112,19 +111,18 @@ module _ (s : Rows) (command : Command) (sound : IsSound s) (within : IsWithin s
       (ties.members_keep s.access s.content sound.ties (with_member s row).access.members))
 
   -- a membership that is ended
-  pub sound-end_member : (principal role : List ℕ) → IsSound (stamped s command (rows_by (first_refusal (end_member s command principal role).rules) s (end_member s command principal role).after))
-  sound-end_member principal role = sound-done s command sound within (end_member s command principal role).rules (member_of s principal role) (without_member s) (λ row found passes.
+  pub sound-end_member : (principal role : List ℕ) → EachPasses (end_member s command principal role).rules → IsSound (stamped s command (end_member s command principal role).after)
+  sound-end_member principal role passes = sound-done s command sound within (member_of s principal role) (without_member s) (λ row found.
       let made = member-found s principal role row found in
       access-sound s command sound within (without_member s row).access
       (subst (λ (one : MemberRow). IsSoundAccess s.next_id (without_member s one).access) made.is (access.dropped_member s.next_id s.access made.one made.of sound.access (principal-own s sound principal made.one made.one_there) (role-own s sound role made.of made.of_there) (λ root admin. member-not-kept principal role passes.1.1.1.1.1.0 (principal-is s sound principal made.one made.one_there ∙ root) (role-is s sound role made.of made.of_there ∙ admin))))
       (ties.members_keep s.access s.content sound.ties (without_member s row).access.members))
 
   -- a principal role that is created
-  pub sound-create_principal_role : (name : List ℕ) → IsSound (stamped s command (rows_by (first_refusal (create_principal_role s command name).rules) s (create_principal_role s command name).after))
+  pub sound-create_principal_role : (name : List ℕ) → EachPasses (create_principal_role s command name).rules → IsSound (stamped s command (create_principal_role s command name).after)
   unfolding principal_role_taken
-  sound-create_principal_role name =
+  sound-create_principal_role name passes =
       let row : PrincipalRoleRow = record { id = s.next_id; name = name } in
-      sound-after s command sound within (create_principal_role s command name).rules (with_principal_role s row) (λ passes.
       let bounds = EachPasses-none (above quantity.PrincipalRoles 10000 (length s.access.principal_roles + 1) ∷ above quantity.NextId (2 ^ 62) (s.next_id + 1) ∷ []) (sym (principal_role_limits s sound row refl) ∙ passes.1.1.1.0) in
       let count = above-within quantity.PrincipalRoles 10000 (length s.access.principal_roles + 1) bounds.0 in
       let next = above-within quantity.NextId (2 ^ 62) (s.next_id + 1) bounds.1.0 in
@@ -133,11 +131,11 @@ module _ (s : Rows) (command : Command) (sound : IsSound s) (within : IsWithin s
       let last = (access.new_rows_last s.next_id s.access sound.access).1 row refl in
       new-access-sound s command sound within (with_principal_role s row).access next
       (subst (λ rows. IsSoundAccess (s.next_id + 1) (record s.access { principal_roles = rows })) (sym last) pushed)
-      (ties.pushed_principal_role s.access s.content sound.ties row (next-new principal_role_id s.next_id s.next_id s.access.principal_roles sound.access.principal_roles refl) (new_ids s.next_id s.next_id s.content sound.content (omega arith))))
+      (ties.pushed_principal_role s.access s.content sound.ties row (next-new principal_role_id s.next_id s.next_id s.access.principal_roles sound.access.principal_roles refl) (new_ids s.next_id s.next_id s.content sound.content (omega arith)))
 
   -- a principal role that is dropped
-  pub sound-drop_principal_role : (name : List ℕ) → IsSound (stamped s command (rows_by (first_refusal (drop_principal_role s command name).rules) s (drop_principal_role s command name).after))
-  sound-drop_principal_role name = sound-done s command sound within (drop_principal_role s command name).rules (principal_role_named name s.access) (without_principal_role s) (λ row found passes.
+  pub sound-drop_principal_role : (name : List ℕ) → EachPasses (drop_principal_role s command name).rules → IsSound (stamped s command (drop_principal_role s command name).after)
+  sound-drop_principal_role name passes = sound-done s command sound within (principal_role_named name s.access) (without_principal_role s) (λ row found.
       let own = role-own s sound name row found in
       let other = not-kept (codes "service_admin") name row.name passes.1.1.1.0 (role-is s sound name row found) in
       access-sound s command sound within (without_principal_role s row).access

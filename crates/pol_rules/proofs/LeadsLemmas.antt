@@ -1,5 +1,5 @@
 -- The changes of an action lead to the rows after it.
-use Rattle.std.proofs.Common.{◌≡◌, ◌+◌, [], ◌∙◌, List, Option, None, Some, ap, refl}
+use Rattle.std.proofs.Common.{◌≡◌, ◌+◌, [], ◌∙◌, List, Option, None, Some, ap}
 use Rattle.pol_content.specs.declared.change.Change.{Change}
 use Rattle.pol_commands.specs.declared.command.Command.{Command}
 use Rattle.pol_commands.specs.declared.reply.Refusal.{Refusal}
@@ -7,7 +7,7 @@ use Rattle.pol_state.specs.Changes.{changes_between}
 use Rattle.pol_state.specs.Rows.{Rows}
 use Rattle.pol_state.specs.Applied.{applied}
 use Rattle.pol_state.proofs.ChangesLemmas.{changes-timed}
-use Rattle.pol_rules.specs.Acting.{stamped, rows_by, done}
+use Rattle.pol_rules.specs.Acting.{stamped, rows_by}
 use Rattle.pol_rules.specs.Rules.{time_of}
 
 pub no_changes : (s : Rows) (command : Command) → changes_between s (stamped s command s) ≡ []
@@ -25,13 +25,5 @@ module _ (s : Rows) (command : Command) where
   leads-first None after leads = leads
   leads-first (Some why) after leads = leads-same
 
-  pub leads-reading : (first : Option Refusal) → Leads (rows_by first s s)
-  leads-reading first = leads-first first s leads-same
-
   pub leads-by : (after : Rows) (changes : List Change) → changes_between s (stamped s command after) ≡ changes → applied changes (time_of s command) command.charge s ≡ stamped s command after → Leads after
   leads-by after changes is so = ap (λ made. applied made (time_of s command) command.charge s) is ∙ so
-
-  -- an action on what it found
-  pub leads-done : {A : Type 0} (found : Option A) (after : A → Rows) → ((one : A) → found ≡ Some one → Leads (after one)) → Leads (done s found after)
-  leads-done None after leads = leads-same
-  leads-done (Some one) after leads = leads one refl

@@ -1,9 +1,12 @@
 pub mod AccessRulesLemmas
 pub mod ContentLemmas
+pub mod FairLemmas
 pub mod FoundLemmas
 pub mod JudgedLemmas
 pub mod LeadsLemmas
 pub mod LimitsLemmas
+pub mod LiveLemmas
 pub mod NeedsLemmas
+pub mod OwesLemmas
 pub mod RulesLemmas
 pub mod SoundLemmas

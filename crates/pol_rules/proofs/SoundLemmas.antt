@@ -83,11 +83,6 @@ next_id-some s sound =
     omega (arith, given.0, given.1)
 
 module _ (s : Rows) (command : Command) (sound : IsSound s) (within : IsWithin s command) where
-  -- rows that stay, at the command's time
-  pub sound-reading : (first : Option Refusal) → IsSound (stamped s command (rows_by first s s))
-  sound-reading None = stamped-sound s command sound within
-  sound-reading (Some why) = stamped-sound s command sound within
-
   -- an action whose rules pass, and one on what it found
   pub sound-after : (rules : List (Option Refusal)) (after : Rows) → (EachPasses rules → IsSound (stamped s command after)) → IsSound (stamped s command (rows_by (first_refusal rules) s after))
   sound-after rules after so = by (first_refusal rules) refl
@@ -96,12 +91,9 @@ module _ (s : Rows) (command : Command) (sound : IsSound s) (within : IsWithin s
       by (Some why) fails = stamped-sound s command sound within
       by None none = so (EachPasses-none rules none)
 
-  pub sound-done : {A : Type 0} (rules : List (Option Refusal)) (found : Option A) (after : A → Rows) → ((one : A) → found ≡ Some one → EachPasses rules → IsSound (stamped s command (after one))) → IsSound (stamped s command (rows_by (first_refusal rules) s (done s found after)))
-  sound-done rules found after so = sound-after rules (done s found after) (λ passes. by found refl passes)
-    where
-      by : (one : Option _) → found ≡ one → EachPasses rules → IsSound (stamped s command (done s one after))
-      by None is passes = stamped-sound s command sound within
-      by (Some one) is passes = so one is passes
+  pub sound-done : {A : Type 0} (found : Option A) (after : A → Rows) → ((one : A) → found ≡ Some one → IsSound (stamped s command (after one))) → IsSound (stamped s command (done s found after))
+  sound-done None after so = stamped-sound s command sound within
+  sound-done (Some one) after so = so one refl
 
   -- other rows of access are sound at the command's time, and so are they with one more id given out
   pub access-sound : (after : AccessRows) → IsSoundAccess s.next_id after → AreTied after s.content → IsSound (stamped s command (record s { access = after }))

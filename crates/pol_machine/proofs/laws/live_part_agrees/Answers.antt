@@ -1,4 +1,4 @@
-use Rattle.pol_machine.proofs.LiveLemmas.{live-agrees, live-sound}
+use Rattle.pol_rules.proofs.LiveLemmas.{live-agrees, live-sound}
 use Rattle.pol_machine.proofs.laws.live_part_agrees.Goals as goal
 
 pub returns : goal.returns

@@ -17,7 +17,7 @@ use Rattle.pol_tokens.proofs.TextLemmas.{decode-serial}
 use Rattle.pol_state.specs.Rows.{Rows}
 use Rattle.pol_state.specs.Sound.{IsSessionOf, IsSound}
 use Rattle.pol_rules.specs.Rules.{kept_if, session_of}
-use Rattle.pol_machine.specs.Agree.{is_live, live_part, Agree}
+use Rattle.pol_rules.specs.Live.{is_live, live_part, Agree}
 
 -- of what passes a test, a filter by a weaker one leaves out nothing
 pub filter-weaker : {X : Type 0} (test weaker : X → Bool) (xs : List X) → AllByRecursion (λ x. test x ≡ true → weaker x ≡ true) xs → filter test (filter weaker xs) ≡ filter test xs

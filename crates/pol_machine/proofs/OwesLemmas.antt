@@ -1,0 +1,49 @@
+-- What each action of the machine owes.
+use Rattle.pol_commands.specs.Proper.{IsProper}
+use Rattle.pol_commands.specs.declared.command.Action.{Action}
+use Rattle.pol_commands.specs.declared.command.Action.TheVariants.{OpenSession, GetConfig, ListCatalogs, CreateCatalog, GetCatalog, DropCatalog, ListNamespaces, CreateNamespace, LoadNamespace, HeadNamespace, DropNamespace, UpdateProperties, ListPrincipals, CreatePrincipal, GetPrincipal, DropPrincipal, Rotate, ListMembers, AddMember, EndMember, ListPrincipalRoles, CreatePrincipalRole, GetPrincipalRole, DropPrincipalRole, ListJoins, AddJoin, EndJoin, ListCatalogRoles, CreateCatalogRole, GetCatalogRole, DropCatalogRole, ListGrants, AddGrant, Revoke}
+use Rattle.pol_commands.specs.declared.command.Command.{Command}
+use Rattle.pol_state.specs.Rows.{Rows}
+use Rattle.pol_rules.specs.Live.{live_part}
+use Rattle.pol_rules.proofs.OwesLemmas.{Owes}
+use Rattle.pol_content_actions.proofs.OwesLemmas.{owes-create_catalog, owes-create_namespace, owes-drop_catalog, owes-drop_namespace, owes-get_catalog, owes-get_config, owes-head_namespace, owes-list_catalogs, owes-list_namespaces, owes-load_namespace, owes-open_session, owes-update_properties}
+use Rattle.pol_principal_actions.proofs.OwesLemmas.{owes-add_member, owes-create_principal, owes-create_principal_role, owes-drop_principal, owes-drop_principal_role, owes-end_member, owes-get_principal, owes-get_principal_role, owes-list_members, owes-list_principal_roles, owes-list_principals, owes-rotate}
+use Rattle.pol_grant_actions.proofs.OwesLemmas.{owes-add_grant, owes-add_join, owes-create_catalog_role, owes-drop_catalog_role, owes-end_join, owes-get_catalog_role, owes-list_catalog_roles, owes-list_grants, owes-list_joins, owes-revoke}
+use Rattle.pol_machine.specs.Machine.{acting}
+
+module _ (s : Rows) (command : Command) where
+  pub owes : (action : Action) → Owes s command (IsProper action) (acting s command action) (acting (live_part s) command action)
+  owes (OpenSession client_id secret scopes) = owes-open_session s command client_id secret scopes
+  owes (GetConfig name) = owes-get_config s command name
+  owes ListCatalogs = owes-list_catalogs s command
+  owes (CreateCatalog name base allowed properties external) = owes-create_catalog s command name base allowed properties external
+  owes (GetCatalog name) = owes-get_catalog s command name
+  owes (DropCatalog name) = owes-drop_catalog s command name
+  owes (ListNamespaces name parent) = owes-list_namespaces s command name parent
+  owes (CreateNamespace name levels properties) = owes-create_namespace s command name levels properties
+  owes (LoadNamespace name levels) = owes-load_namespace s command name levels
+  owes (HeadNamespace name levels) = owes-head_namespace s command name levels
+  owes (DropNamespace name levels) = owes-drop_namespace s command name levels
+  owes (UpdateProperties name levels removals updates) = owes-update_properties s command name levels removals updates
+  owes ListPrincipals = owes-list_principals s command
+  owes (CreatePrincipal name client_id secret) = owes-create_principal s command name client_id secret
+  owes (GetPrincipal name) = owes-get_principal s command name
+  owes (DropPrincipal name) = owes-drop_principal s command name
+  owes (Rotate name secret) = owes-rotate s command name secret
+  owes (ListMembers principal) = owes-list_members s command principal
+  owes (AddMember principal role) = owes-add_member s command principal role
+  owes (EndMember principal role) = owes-end_member s command principal role
+  owes ListPrincipalRoles = owes-list_principal_roles s command
+  owes (CreatePrincipalRole name) = owes-create_principal_role s command name
+  owes (GetPrincipalRole name) = owes-get_principal_role s command name
+  owes (DropPrincipalRole name) = owes-drop_principal_role s command name
+  owes (ListJoins catalog role) = owes-list_joins s command catalog role
+  owes (AddJoin catalog role catalog_role) = owes-add_join s command catalog role catalog_role
+  owes (EndJoin catalog role catalog_role) = owes-end_join s command catalog role catalog_role
+  owes (ListCatalogRoles catalog) = owes-list_catalog_roles s command catalog
+  owes (CreateCatalogRole catalog name) = owes-create_catalog_role s command catalog name
+  owes (GetCatalogRole catalog name) = owes-get_catalog_role s command catalog name
+  owes (DropCatalogRole catalog name) = owes-drop_catalog_role s command catalog name
+  owes (ListGrants catalog role) = owes-list_grants s command catalog role
+  owes (AddGrant catalog role grant) = owes-add_grant s command catalog role grant
+  owes (Revoke catalog role grant) = owes-revoke s command catalog role grant
