@@ -12,7 +12,7 @@ use Rattle.serde_json.specs.Written.{has_float, items_have_float, members_have_f
 use Rattle.pol_content.specs.declared.rows.CatalogRow.{CatalogRow}
 use Rattle.pol_properties.specs.declared.property.Property.{Property}
 use Rattle.pol_requests.specs.Table.{Entry, entry_of, table}
-use Rattle.pol_requests.specs.declared.table.Endpoint.{Endpoint}
+use Rattle.pol_requests.specs.declared.table.Service.{Service}
 use Rattle.pol_answers.specs.Json.{catalog_json, catalogs_json, config_json, endpoint_text, endpoints_of, is_endpoint, list_json, location_json, namespace_json, namespaces_json, prefixed, property_members, texts_json, updated_json, with_property}
 
 -- a list of what has no floats
@@ -74,7 +74,7 @@ unfolding config_json
 config_whole name = rw (texts_whole (endpoints_of table)) refl
 
 -- the endpoints of one row more
-pub endpoints_more : (texts new : List (List ℕ)) (rows : List (Bor (List ℕ) × Bor (List ℕ) × Endpoint)) (i : ℕ) (row : Bor (List ℕ) × Bor (List ℕ) × Endpoint) → i < length rows
+pub endpoints_more : (texts new : List (List ℕ)) (rows : List (Bor (List ℕ) × Bor (List ℕ) × Service)) (i : ℕ) (row : Bor (List ℕ) × Bor (List ℕ) × Service) → i < length rows
     → texts ≡ endpoints_of (map entry_of (take i rows)) → new ≡ texts ++ endpoints_of (entry_of (get_or rows i row) ∷ []) → new ≡ endpoints_of (map entry_of (take (i + 1) rows))
 endpoints_more texts new rows i row inside so_far added =
     let more = entry_of (get_or rows i row) ∷ [] in

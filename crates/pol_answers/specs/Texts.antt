@@ -13,7 +13,7 @@ use Rattle.pol_commands.specs.declared.reply.Refusal.{Refusal}
 use Rattle.pol_commands.specs.declared.reply.Reply.{Reply}
 use Rattle.pol_commands.specs.declared.reply.Reply.TheVariants.{Answered, Refused}
 use Rattle.pol_requests.specs.declared.refused.RouteRefused.{RouteRefused}
-use Rattle.pol_requests.specs.declared.refused.RouteRefused.TheVariants.{NoRoute, WrongMethod, NotBuilt, Unreadable, InvalidRequest, GrantType, OutOfMemory}
+use Rattle.pol_requests.specs.declared.refused.RouteRefused.TheVariants.{NoRoute, WrongMethod, NotBuilt, Unreadable, InvalidRequest, GrantType}
 use Rattle.pol_answers.specs.Json.{catalog_json, catalogs_json, config_json, namespace_json, namespaces_json, updated_json}
 use Rattle.pol_answers.specs.ManagementJson.{credentials_json, grants_json, principal_json, principals_json, role_json, roles_json}
 use Rattle.pol_answers.specs.Refusals.{kind_of, message_of, status_of}
@@ -107,7 +107,7 @@ answer_of (Refused refusal) = refused_answer refusal
 abbrev pub unreadable_answer : List ℕ → Answer
 unreadable_answer field = error_answer 400 (codes "Unreadable: " ++ field) (codes "BadRequestException")
 
--- the answer to a request that has no plan; want of memory has no body
+-- the answer to a request that has no plan
 unfoldable pub refusal_answer : RouteRefused → Answer
 refusal_answer NoRoute = error_answer 404 (codes "No route") (codes "NotFoundException")
 refusal_answer WrongMethod = error_answer 405 (codes "Wrong method") (codes "BadRequestException")
@@ -115,7 +115,6 @@ refusal_answer NotBuilt = error_answer 501 (codes "Not built") (codes "Unsupport
 refusal_answer (Unreadable field) = unreadable_answer field
 refusal_answer InvalidRequest = token_error 400 (codes "invalid_request")
 refusal_answer GrantType = token_error 400 (codes "unsupported_grant_type")
-refusal_answer OutOfMemory = answer_with 507 Nothing
 
 -- the answer where no random word could be drawn
 unfoldable pub draw_fault_answer : Answer

@@ -1,5 +1,5 @@
 //! The answers to replies and refusals.
-ghost use Rattle.std.specs.Prelude.{◌≡◌, IfOk, IsErr, string_bytes};
+ghost use Rattle.std.specs.Prelude.{◌≡◌, IfOk, string_bytes};
 ghost use Rattle.serde_json.specs.View.{view};
 ghost use Rattle.pol_tokens.specs.Text.{text_of_token};
 ghost use Rattle.pol_answers.specs.ManagementJson.{credentials_json};
@@ -155,11 +155,10 @@ fn refused_answer(alloc: Global, refusal: &Refusal) -> Result<Answer, OutOfMemor
     }
 }
 
-/// The answer to a request that has no plan. Want of memory has none that could be made here: it is handed back.
+/// The answer to a request that has no plan.
 #[tactic(auto, unfolding(crate::specs::Texts::refusal_answer))]
 pub fn refusal_answer(alloc: Global, refused: &RouteRefused) -> Result<Answer, OutOfMemory>
-    ensures exact { IfOk result (λ answer. answer ≡ spec.refusal_answer refused.now) }
-    ensures wanting { refused.now ≡ RouteRefused.OutOfMemory → IsErr result }
+    ensures { IfOk result (λ answer. answer ≡ spec.refusal_answer refused.now) }
 {
     match refused {
         RouteRefused::NoRoute => error_answer(alloc, 404, "No route", NOT_FOUND),
@@ -168,7 +167,6 @@ pub fn refusal_answer(alloc: Global, refused: &RouteRefused) -> Result<Answer, O
         RouteRefused::Unreadable { field } => unreadable_answer(alloc, field.as_str()),
         RouteRefused::InvalidRequest => token_error(alloc, 400, "invalid_request"),
         RouteRefused::GrantType => token_error(alloc, 400, "unsupported_grant_type"),
-        RouteRefused::OutOfMemory => Err(OutOfMemory),
     }
 }
 

@@ -4,13 +4,13 @@ ghost use Rattle.pol_requests.specs.Refused.{Gives};
 ghost use Rattle.pol_bodies.specs.Body as spec;
 
 use pol_readers::{Form, ReadError, read_body};
-use pol_requests::RouteRefused;
+use pol_requests::{RouteRefused, Unplanned};
 use pol_types::Text;
 use std::alloc::Global;
 
 /// What a body is read as. Its first bad field is told by its path.
 #[tactic(auto, using(crate::proofs::UnreadLemmas::read_body, crate::proofs::UnreadLemmas::unread_body))]
-pub fn body_of<F: Form>(alloc: Global, bytes: &[u8]) -> Result<F, RouteRefused>
+pub fn body_of<F: Form>(alloc: Global, bytes: &[u8]) -> Result<F, Unplanned>
     ensures { Gives (spec.body_of (body F.shape bytes.now)) result }
 {
     match read_body(alloc, bytes) {
@@ -20,16 +20,16 @@ pub fn body_of<F: Form>(alloc: Global, bytes: &[u8]) -> Result<F, RouteRefused>
 }
 
 /// Why a body isn't read.
-fn unread(alloc: Global, error: ReadError) -> RouteRefused
+fn unread(alloc: Global, error: ReadError) -> Unplanned
     ensures { spec.IsUnread error result }
 {
     match error {
         ReadError::Field(path) => match path.to_string(alloc) {
-            Ok(field) => RouteRefused::Unreadable {
+            Ok(field) => Unplanned::Refused(RouteRefused::Unreadable {
                 field: Text::from(field),
-            },
-            Err(_) => RouteRefused::OutOfMemory,
+            }),
+            Err(_) => Unplanned::OutOfMemory,
         },
-        ReadError::OutOfMemory => RouteRefused::OutOfMemory,
+        ReadError::OutOfMemory => Unplanned::OutOfMemory,
     }
 }

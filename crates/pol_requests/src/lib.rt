@@ -1,10 +1,16 @@
 //! The table of requests, why a message has no plan, and the keys that requests and answers share.
 #![tactic(auto)]
 
+mod endpoint;
 mod keys;
+pub mod laws;
 mod refused;
 mod table;
 
+pub use endpoint::{
+    CatalogRequest, CatalogRoleRequest, ContentRequest, Endpoint, NamespaceRequest,
+    PrincipalRequest, PrincipalRoleRequest,
+};
 pub use keys::BASE_KEY;
-pub use refused::{RouteRefused, unreadable};
-pub use table::{Endpoint, ROW_COUNT, Row, TABLE, table_rows};
+pub use refused::{RouteRefused, Unplanned, unreadable};
+pub use table::{ROW_COUNT, Row, Service, TABLE, table_rows};

@@ -1,6 +1,6 @@
-//! Why a message has no plan.
-ghost use Rattle.std.specs.Prelude.{◌≡◌};
-ghost use Rattle.pol_requests.specs.Refused.{IsUnreadable};
+//! Why a message has no plan, and why none is made.
+ghost use Rattle.pol_requests.specs.Refused.{IsRefused};
+ghost use Rattle.pol_requests.specs.declared.refused.RouteRefused.TheVariants.{Unreadable};
 
 use pol_types::{OutOfMemory, Text};
 use std::alloc::{AllocError, Global};
@@ -21,27 +21,47 @@ pub enum RouteRefused {
     InvalidRequest,
     /// A token request is of a grant type other than `client_credentials`.
     GrantType,
+}
+
+/// Why no plan of a message is made.
+#[derive(Debug, Drop)]
+pub enum Unplanned {
+    /// The message has none.
+    Refused(RouteRefused),
+    /// Memory was wanting.
     OutOfMemory,
 }
 
-impl From<OutOfMemory> for RouteRefused {
-    ghost use Rattle.pol_requests.specs.declared.refused.RouteRefused.TheVariants as why;
+impl From<RouteRefused> for Unplanned {
+    ghost use Rattle.std.specs.Prelude.{◌≡◌};
+    ghost use Rattle.pol_requests.specs.declared.refused.Unplanned.TheVariants.{Refused};
 
-    ghost from_gives = { λ _ refused. refused ≡ why.OutOfMemory };
+    ghost from_gives = { λ why unplanned. unplanned ≡ Refused why };
+
+    fn from(why: RouteRefused) -> Self {
+        Unplanned::Refused(why)
+    }
+}
+
+impl From<OutOfMemory> for Unplanned {
+    ghost use Rattle.std.specs.Prelude.{◌≡◌};
+    ghost use Rattle.pol_requests.specs.declared.refused.Unplanned.TheVariants as unplanned;
+
+    ghost from_gives = { λ _ why. why ≡ unplanned.OutOfMemory };
 
     fn from(_error: OutOfMemory) -> Self {
-        RouteRefused::OutOfMemory
+        Unplanned::OutOfMemory
     }
 }
 
 /// A refusal that names a field, or want of memory for its name.
-pub fn unreadable(alloc: Global, field: &str) -> RouteRefused
-    ensures { IsUnreadable field.now result }
+pub fn unreadable(alloc: Global, field: &str) -> Unplanned
+    ensures { IsRefused (Unreadable field.now) result }
 {
     match String::from_str(alloc, field) {
-        Ok(field) => RouteRefused::Unreadable {
+        Ok(field) => Unplanned::Refused(RouteRefused::Unreadable {
             field: Text::from(field),
-        },
-        Err(AllocError) => RouteRefused::OutOfMemory,
+        }),
+        Err(AllocError) => Unplanned::OutOfMemory,
     }
 }

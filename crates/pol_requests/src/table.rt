@@ -3,70 +3,24 @@
 ghost use Rattle.std.specs.Prelude.{◌≡◌, map};
 ghost use Rattle.pol_requests.specs.Table.{entry_of, table};
 
-/// What a request asks for.
+use crate::endpoint::{
+    CatalogRequest, CatalogRoleRequest, ContentRequest, Endpoint, NamespaceRequest,
+    PrincipalRequest, PrincipalRoleRequest,
+};
+
+/// How the requests of a method and path are served.
 #[derive(Clone, Copy, Debug)]
-pub enum Endpoint {
-    OpenSession,
-    GetConfig,
-    ListNamespaces,
-    CreateNamespace,
-    LoadNamespace,
-    HeadNamespace,
-    DropNamespace,
-    UpdateProperties,
-    ListTables,
-    CreateTable,
-    LoadTable,
-    HeadTable,
-    CommitTable,
-    DropTable,
-    LoadCredentials,
-    ReportMetrics,
-    RenameTable,
-    CommitTransaction,
-    ListViews,
-    CreateView,
-    LoadView,
-    HeadView,
-    ReplaceView,
-    DropView,
-    RenameView,
-    ListCatalogs,
-    CreateCatalog,
-    GetCatalog,
-    DropCatalog,
-    ListPrincipals,
-    CreatePrincipal,
-    GetPrincipal,
-    DropPrincipal,
-    Rotate,
-    ListMembers,
-    AddMember,
-    EndMember,
-    ListPrincipalRoles,
-    CreatePrincipalRole,
-    GetPrincipalRole,
-    DropPrincipalRole,
-    ListJoins,
-    AddJoin,
-    EndJoin,
-    ListCatalogRoles,
-    CreateCatalogRole,
-    GetCatalogRole,
-    DropCatalogRole,
-    ListGrants,
-    AddGrant,
-    Revoke,
-    GetObject,
-    HeadObject,
-    PutObject,
-    DeleteObject,
-    ListObjects,
+pub enum Service {
+    /// They ask for this, and each draws so many random words, 4 at most: the token of a session is made of two, the
+    /// client id of a new principal of one, and each secret of two.
+    Built { endpoint: Endpoint, words: u8 },
+    /// They are not served yet.
+    NotBuilt,
 }
 
-/// A method, a path, and what a request of both asks for. In a path `{name}` stands for a segment that may be any
-/// text, and `{*name}` for all that follows.
-pub type Row = (&'static str, &'static str, Endpoint);
+/// A method, a path, and how requests of both are served. In a path `{name}` stands for a segment that may be any text,
+/// and `{*name}` for all that follows.
+pub type Row = (&'static str, &'static str, Service);
 
 /// The number of rows of the table.
 pub const ROW_COUNT: usize = 56;
@@ -76,255 +30,365 @@ pub const TABLE: [Row; ROW_COUNT] = [
     (
         "POST",
         "/api/catalog/v1/oauth/tokens",
-        Endpoint::OpenSession,
+        Service::Built {
+            endpoint: Endpoint::OpenSession,
+            words: 2,
+        },
     ),
-    ("GET", "/api/catalog/v1/config", Endpoint::GetConfig),
+    (
+        "GET",
+        "/api/catalog/v1/config",
+        Service::Built {
+            endpoint: Endpoint::Content(ContentRequest::GetConfig),
+            words: 0,
+        },
+    ),
     (
         "GET",
         "/api/catalog/v1/{prefix}/namespaces",
-        Endpoint::ListNamespaces,
+        Service::Built {
+            endpoint: Endpoint::Content(ContentRequest::ListNamespaces),
+            words: 0,
+        },
     ),
     (
         "POST",
         "/api/catalog/v1/{prefix}/namespaces",
-        Endpoint::CreateNamespace,
+        Service::Built {
+            endpoint: Endpoint::Content(ContentRequest::CreateNamespace),
+            words: 0,
+        },
     ),
     (
         "GET",
         "/api/catalog/v1/{prefix}/namespaces/{namespace}",
-        Endpoint::LoadNamespace,
+        Service::Built {
+            endpoint: Endpoint::Namespace(NamespaceRequest::LoadNamespace),
+            words: 0,
+        },
     ),
     (
         "HEAD",
         "/api/catalog/v1/{prefix}/namespaces/{namespace}",
-        Endpoint::HeadNamespace,
+        Service::Built {
+            endpoint: Endpoint::Namespace(NamespaceRequest::HeadNamespace),
+            words: 0,
+        },
     ),
     (
         "DELETE",
         "/api/catalog/v1/{prefix}/namespaces/{namespace}",
-        Endpoint::DropNamespace,
+        Service::Built {
+            endpoint: Endpoint::Namespace(NamespaceRequest::DropNamespace),
+            words: 0,
+        },
     ),
     (
         "POST",
         "/api/catalog/v1/{prefix}/namespaces/{namespace}/properties",
-        Endpoint::UpdateProperties,
+        Service::Built {
+            endpoint: Endpoint::Namespace(NamespaceRequest::UpdateProperties),
+            words: 0,
+        },
     ),
     (
         "GET",
         "/api/catalog/v1/{prefix}/namespaces/{namespace}/tables",
-        Endpoint::ListTables,
+        Service::NotBuilt,
     ),
     (
         "POST",
         "/api/catalog/v1/{prefix}/namespaces/{namespace}/tables",
-        Endpoint::CreateTable,
+        Service::NotBuilt,
     ),
     (
         "GET",
         "/api/catalog/v1/{prefix}/namespaces/{namespace}/tables/{table}",
-        Endpoint::LoadTable,
+        Service::NotBuilt,
     ),
     (
         "HEAD",
         "/api/catalog/v1/{prefix}/namespaces/{namespace}/tables/{table}",
-        Endpoint::HeadTable,
+        Service::NotBuilt,
     ),
     (
         "POST",
         "/api/catalog/v1/{prefix}/namespaces/{namespace}/tables/{table}",
-        Endpoint::CommitTable,
+        Service::NotBuilt,
     ),
     (
         "DELETE",
         "/api/catalog/v1/{prefix}/namespaces/{namespace}/tables/{table}",
-        Endpoint::DropTable,
+        Service::NotBuilt,
     ),
     (
         "GET",
         "/api/catalog/v1/{prefix}/namespaces/{namespace}/tables/{table}/credentials",
-        Endpoint::LoadCredentials,
+        Service::NotBuilt,
     ),
     (
         "POST",
         "/api/catalog/v1/{prefix}/namespaces/{namespace}/tables/{table}/metrics",
-        Endpoint::ReportMetrics,
+        Service::NotBuilt,
     ),
     (
         "POST",
         "/api/catalog/v1/{prefix}/tables/rename",
-        Endpoint::RenameTable,
+        Service::NotBuilt,
     ),
     (
         "POST",
         "/api/catalog/v1/{prefix}/transactions/commit",
-        Endpoint::CommitTransaction,
+        Service::NotBuilt,
     ),
     (
         "GET",
         "/api/catalog/v1/{prefix}/namespaces/{namespace}/views",
-        Endpoint::ListViews,
+        Service::NotBuilt,
     ),
     (
         "POST",
         "/api/catalog/v1/{prefix}/namespaces/{namespace}/views",
-        Endpoint::CreateView,
+        Service::NotBuilt,
     ),
     (
         "GET",
         "/api/catalog/v1/{prefix}/namespaces/{namespace}/views/{view}",
-        Endpoint::LoadView,
+        Service::NotBuilt,
     ),
     (
         "HEAD",
         "/api/catalog/v1/{prefix}/namespaces/{namespace}/views/{view}",
-        Endpoint::HeadView,
+        Service::NotBuilt,
     ),
     (
         "POST",
         "/api/catalog/v1/{prefix}/namespaces/{namespace}/views/{view}",
-        Endpoint::ReplaceView,
+        Service::NotBuilt,
     ),
     (
         "DELETE",
         "/api/catalog/v1/{prefix}/namespaces/{namespace}/views/{view}",
-        Endpoint::DropView,
+        Service::NotBuilt,
     ),
     (
         "POST",
         "/api/catalog/v1/{prefix}/views/rename",
-        Endpoint::RenameView,
+        Service::NotBuilt,
     ),
-    ("GET", "/api/management/v1/catalogs", Endpoint::ListCatalogs),
+    (
+        "GET",
+        "/api/management/v1/catalogs",
+        Service::Built {
+            endpoint: Endpoint::Catalog(CatalogRequest::ListCatalogs),
+            words: 0,
+        },
+    ),
     (
         "POST",
         "/api/management/v1/catalogs",
-        Endpoint::CreateCatalog,
+        Service::Built {
+            endpoint: Endpoint::Catalog(CatalogRequest::CreateCatalog),
+            words: 0,
+        },
     ),
     (
         "GET",
         "/api/management/v1/catalogs/{catalog}",
-        Endpoint::GetCatalog,
+        Service::Built {
+            endpoint: Endpoint::Catalog(CatalogRequest::GetCatalog),
+            words: 0,
+        },
     ),
     (
         "DELETE",
         "/api/management/v1/catalogs/{catalog}",
-        Endpoint::DropCatalog,
+        Service::Built {
+            endpoint: Endpoint::Catalog(CatalogRequest::DropCatalog),
+            words: 0,
+        },
     ),
     (
         "GET",
         "/api/management/v1/principals",
-        Endpoint::ListPrincipals,
+        Service::Built {
+            endpoint: Endpoint::Principal(PrincipalRequest::ListPrincipals),
+            words: 0,
+        },
     ),
     (
         "POST",
         "/api/management/v1/principals",
-        Endpoint::CreatePrincipal,
+        Service::Built {
+            endpoint: Endpoint::Principal(PrincipalRequest::CreatePrincipal),
+            words: 3,
+        },
     ),
     (
         "GET",
         "/api/management/v1/principals/{principal}",
-        Endpoint::GetPrincipal,
+        Service::Built {
+            endpoint: Endpoint::Principal(PrincipalRequest::GetPrincipal),
+            words: 0,
+        },
     ),
     (
         "DELETE",
         "/api/management/v1/principals/{principal}",
-        Endpoint::DropPrincipal,
+        Service::Built {
+            endpoint: Endpoint::Principal(PrincipalRequest::DropPrincipal),
+            words: 0,
+        },
     ),
     (
         "POST",
         "/api/management/v1/principals/{principal}/rotate",
-        Endpoint::Rotate,
+        Service::Built {
+            endpoint: Endpoint::Principal(PrincipalRequest::Rotate),
+            words: 2,
+        },
     ),
     (
         "GET",
         "/api/management/v1/principals/{principal}/principal-roles",
-        Endpoint::ListMembers,
+        Service::Built {
+            endpoint: Endpoint::Principal(PrincipalRequest::ListMembers),
+            words: 0,
+        },
     ),
     (
         "PUT",
         "/api/management/v1/principals/{principal}/principal-roles",
-        Endpoint::AddMember,
+        Service::Built {
+            endpoint: Endpoint::Principal(PrincipalRequest::AddMember),
+            words: 0,
+        },
     ),
     (
         "DELETE",
         "/api/management/v1/principals/{principal}/principal-roles/{role}",
-        Endpoint::EndMember,
+        Service::Built {
+            endpoint: Endpoint::Principal(PrincipalRequest::EndMember),
+            words: 0,
+        },
     ),
     (
         "GET",
         "/api/management/v1/principal-roles",
-        Endpoint::ListPrincipalRoles,
+        Service::Built {
+            endpoint: Endpoint::PrincipalRole(PrincipalRoleRequest::ListPrincipalRoles),
+            words: 0,
+        },
     ),
     (
         "POST",
         "/api/management/v1/principal-roles",
-        Endpoint::CreatePrincipalRole,
+        Service::Built {
+            endpoint: Endpoint::PrincipalRole(PrincipalRoleRequest::CreatePrincipalRole),
+            words: 0,
+        },
     ),
     (
         "GET",
         "/api/management/v1/principal-roles/{role}",
-        Endpoint::GetPrincipalRole,
+        Service::Built {
+            endpoint: Endpoint::PrincipalRole(PrincipalRoleRequest::GetPrincipalRole),
+            words: 0,
+        },
     ),
     (
         "DELETE",
         "/api/management/v1/principal-roles/{role}",
-        Endpoint::DropPrincipalRole,
+        Service::Built {
+            endpoint: Endpoint::PrincipalRole(PrincipalRoleRequest::DropPrincipalRole),
+            words: 0,
+        },
     ),
     (
         "GET",
         "/api/management/v1/principal-roles/{role}/catalog-roles/{catalog}",
-        Endpoint::ListJoins,
+        Service::Built {
+            endpoint: Endpoint::PrincipalRole(PrincipalRoleRequest::ListJoins),
+            words: 0,
+        },
     ),
     (
         "PUT",
         "/api/management/v1/principal-roles/{role}/catalog-roles/{catalog}",
-        Endpoint::AddJoin,
+        Service::Built {
+            endpoint: Endpoint::PrincipalRole(PrincipalRoleRequest::AddJoin),
+            words: 0,
+        },
     ),
     (
         "DELETE",
         "/api/management/v1/principal-roles/{role}/catalog-roles/{catalog}/{catalog_role}",
-        Endpoint::EndJoin,
+        Service::Built {
+            endpoint: Endpoint::PrincipalRole(PrincipalRoleRequest::EndJoin),
+            words: 0,
+        },
     ),
     (
         "GET",
         "/api/management/v1/catalogs/{catalog}/catalog-roles",
-        Endpoint::ListCatalogRoles,
+        Service::Built {
+            endpoint: Endpoint::CatalogRole(CatalogRoleRequest::ListCatalogRoles),
+            words: 0,
+        },
     ),
     (
         "POST",
         "/api/management/v1/catalogs/{catalog}/catalog-roles",
-        Endpoint::CreateCatalogRole,
+        Service::Built {
+            endpoint: Endpoint::CatalogRole(CatalogRoleRequest::CreateCatalogRole),
+            words: 0,
+        },
     ),
     (
         "GET",
         "/api/management/v1/catalogs/{catalog}/catalog-roles/{catalog_role}",
-        Endpoint::GetCatalogRole,
+        Service::Built {
+            endpoint: Endpoint::CatalogRole(CatalogRoleRequest::GetCatalogRole),
+            words: 0,
+        },
     ),
     (
         "DELETE",
         "/api/management/v1/catalogs/{catalog}/catalog-roles/{catalog_role}",
-        Endpoint::DropCatalogRole,
+        Service::Built {
+            endpoint: Endpoint::CatalogRole(CatalogRoleRequest::DropCatalogRole),
+            words: 0,
+        },
     ),
     (
         "GET",
         "/api/management/v1/catalogs/{catalog}/catalog-roles/{catalog_role}/grants",
-        Endpoint::ListGrants,
+        Service::Built {
+            endpoint: Endpoint::CatalogRole(CatalogRoleRequest::ListGrants),
+            words: 0,
+        },
     ),
     (
         "PUT",
         "/api/management/v1/catalogs/{catalog}/catalog-roles/{catalog_role}/grants",
-        Endpoint::AddGrant,
+        Service::Built {
+            endpoint: Endpoint::CatalogRole(CatalogRoleRequest::AddGrant),
+            words: 0,
+        },
     ),
     (
         "POST",
         "/api/management/v1/catalogs/{catalog}/catalog-roles/{catalog_role}/grants",
-        Endpoint::Revoke,
+        Service::Built {
+            endpoint: Endpoint::CatalogRole(CatalogRoleRequest::Revoke),
+            words: 0,
+        },
     ),
-    ("GET", "/objects/{*path}", Endpoint::GetObject),
-    ("HEAD", "/objects/{*path}", Endpoint::HeadObject),
-    ("PUT", "/objects/{*path}", Endpoint::PutObject),
-    ("DELETE", "/objects/{*path}", Endpoint::DeleteObject),
-    ("GET", "/list/{*path}", Endpoint::ListObjects),
+    ("GET", "/objects/{*path}", Service::NotBuilt),
+    ("HEAD", "/objects/{*path}", Service::NotBuilt),
+    ("PUT", "/objects/{*path}", Service::NotBuilt),
+    ("DELETE", "/objects/{*path}", Service::NotBuilt),
+    ("GET", "/list/{*path}", Service::NotBuilt),
 ];
 
 /// The table's rows.

@@ -1,5 +1,4 @@
 pub mod FieldLemmas
-pub mod PlanLemmas
 pub mod ProperLemmas
 pub mod QueryLemmas
 pub mod RouteLemmas
@@ -7,5 +6,4 @@ pub mod ScopeLemmas
 pub mod SegmentLemmas
 pub mod TableLemmas
 pub mod TargetLemmas
-pub mod ToldLemmas
 pub mod WalkLemmas

@@ -9,8 +9,12 @@ use Rattle.matchit.specs.Order.{placed}
 use Rattle.matchit.specs.declared.error.InsertError.{InsertError}
 use Rattle.matchit.specs.declared.error.InsertError.TheVariants.{Conflict, InvalidParamSegment, InvalidParam, InvalidCatchAll, OutOfMemory}
 use Rattle.pol_requests.specs.Table.{entry_of}
-use Rattle.pol_requests.specs.declared.table.Endpoint.{Endpoint}
-use Rattle.pol_routes.specs.Route.{PathRoutes, with_scan, routes_from, serves, endpoint_by}
+use Rattle.pol_requests.specs.declared.table.Service.{Service}
+use Rattle.pol_routes.specs.Route.{PathRoutes, with_scan, routes_from, serves, row_by}
+
+-- a row of the table
+abbrev pub TableRow : Type 0
+TableRow = Bor (List ℕ) × Bor (List ℕ) × Service
 
 pub find_map : {A B : Type 0} (p : B → Bool) (g : A → B) (xs : List A) → find p (map g xs) ≡ option_map g (find (λ x. p (g x)) xs)
 find_map p g [] = refl
@@ -40,7 +44,7 @@ left_out read place old new error (Ok u) is other = inserted read place old new 
 left_out read place old new error (Err e) is other = tt
 
 -- the routes of rows from a place on: those with the path of the row at it, and then those of the rows behind it
-pub routes_next : (rows : List (Bor (List ℕ) × Bor (List ℕ) × Endpoint)) (place : ℕ) (row : Bor (List ℕ) × Bor (List ℕ) × Endpoint) (old new : PathRoutes)
+pub routes_next : (rows : List TableRow) (place : ℕ) (row : TableRow) (old new : PathRoutes)
     → place < length rows → new ≡ with_scan (parse_route (get_or rows place row).1.now) place old
     → routes_from (place + 1) new (map entry_of (drop (place + 1) rows)) ≡ routes_from place old (map entry_of (drop place rows))
 unfolding routes_from
@@ -49,14 +53,13 @@ routes_next rows place row old new inside added =
     ∙ ap (λ routes. routes_from (place + 1) routes (map entry_of (drop (suc place) rows))) added
     ∙ sym (ap (λ xs. routes_from place old (map entry_of xs)) (drop-cons rows place row inside))
 
--- what the row that is found asks for
-pub endpoint_found : (method path : List ℕ) (rows : List (Bor (List ℕ) × Bor (List ℕ) × Endpoint)) (found : Option (Bor (List ℕ) × Bor (List ℕ) × Endpoint))
-    → found ≡ find (λ row. serves method path (entry_of row)) rows → option_map (λ row. row.2) found ≡ endpoint_by method path (map entry_of rows)
-endpoint_found method path rows found is =
-    parts found
-    ∙ ap (λ f. option_map (λ row. row.endpoint) (option_map entry_of f)) is
-    ∙ sym (ap (option_map (λ row. row.endpoint)) (find_map (serves method path) entry_of rows))
+-- the row that is found, as a contract sees it
+pub row_found : (method path : List ℕ) (rows : List TableRow) (found : Option (Bor TableRow))
+    → option_map (λ row. row.now) found ≡ find (λ row. serves method path (entry_of row)) rows
+    → option_map (λ row. entry_of row.now) found ≡ row_by method path (map entry_of rows)
+row_found method path rows found is =
+    parts found ∙ ap (option_map entry_of) is ∙ sym (find_map (serves method path) entry_of rows)
   where
-    parts : (f : Option (Bor (List ℕ) × Bor (List ℕ) × Endpoint)) → option_map (λ row. row.2) f ≡ option_map (λ row. row.endpoint) (option_map entry_of f)
+    parts : (f : Option (Bor TableRow)) → option_map (λ row. entry_of row.now) f ≡ option_map entry_of (option_map (λ row. row.now) f)
     parts None = refl
     parts (Some row) = refl

@@ -1,7 +1,6 @@
 pub mod Bearer
 pub mod Form
 pub mod Laws
-pub mod Management
 pub mod Plan
 pub mod Query
 pub mod Requests

@@ -1,5 +1,6 @@
 -- The route of a request: the path of the table that matchit finds, and the row of its method.
-use Rattle.std.specs.Prelude.{ℕ, ◌+◌, Bool, false, ◌&&◌, not, List, [], ◌∷◌, drop, ◌==◌, if◌then◌else◌, Option, Some, None, option_map, option_and_then, is_none, find, slice_get, Result, Ok, Err}
+use Rattle.std.specs.Prelude.{◌≡◌, ℕ, ◌+◌, Bool, false, ◌&&◌, not, List, [], ◌∷◌, drop, ◌==◌, if◌then◌else◌, Option, Some, None, option_map, option_and_then, is_none, find, slice_get, Result, Ok, Err}
+use Rattle.std.specs.Borrow.{Bor}
 use Rattle.std.specs.Str.{bytes_eq}
 use Rattle.form_urlencoded.specs.Form.{is_nonempty}
 use Rattle.matchit.specs.Order.{placed}
@@ -10,8 +11,8 @@ use Rattle.matchit.specs.Seek.{first, slash}
 use Rattle.matchit.specs.declared.error.InsertError.{InsertError}
 use Rattle.pol_requests.specs.declared.refused.RouteRefused.{RouteRefused}
 use Rattle.pol_requests.specs.declared.refused.RouteRefused.TheVariants.{NoRoute, WrongMethod}
-use Rattle.pol_requests.specs.declared.table.Endpoint.{Endpoint}
-use Rattle.pol_requests.specs.Table.{Entry, table}
+use Rattle.pol_requests.specs.declared.table.Service.{Service}
+use Rattle.pol_requests.specs.Table.{Entry, entry_of, table}
 
 -- routes, each with the place in the table of the first row with its path
 abbrev pub PathRoutes : Type 0
@@ -36,28 +37,34 @@ table_routes = routes_from 0 [] table
 abbrev pub serves : List ℕ → List ℕ → Entry → Bool
 serves method path row = bytes_eq row.method method && bytes_eq row.path path
 
--- what the row of a method and path asks for
-abbrev pub endpoint_by : List ℕ → List ℕ → List Entry → Option Endpoint
-endpoint_by method path rows = option_map (λ row. row.endpoint) (find (serves method path) rows)
+-- the row of a method and path
+abbrev pub row_by : List ℕ → List ℕ → List Entry → Option Entry
+row_by method path rows = find (serves method path) rows
 
--- what a method asks for of the path of the row at a place
-abbrev pub endpoint_at : List ℕ → ℕ → List Entry → Option Endpoint
-endpoint_at method place rows = option_and_then (λ row. endpoint_by method row.path rows) (slice_get rows place)
+-- the row of a method and of the path of the row at a place
+abbrev pub row_at : List ℕ → ℕ → List Entry → Option Entry
+row_at method place rows = option_and_then (λ row. row_by method row.path rows) (slice_get rows place)
 
-abbrev pub of_method : Option Endpoint → Result Endpoint RouteRefused
+abbrev pub of_method : Option Entry → Result Entry RouteRefused
 of_method None = Err WrongMethod
-of_method (Some endpoint) = Ok endpoint
+of_method (Some row) = Ok row
 
-abbrev pub of_path : List ℕ → Option ℕ → Result Endpoint RouteRefused
+abbrev pub of_path : List ℕ → Option ℕ → Result Entry RouteRefused
 of_path method None = Err NoRoute
-of_path method (Some place) = of_method (endpoint_at method place table)
+of_path method (Some place) = of_method (row_at method place table)
 
 -- the place of the path that matchit finds
 abbrev pub path_found : List ℕ → Option ℕ
 path_found path = option_map (λ route. route.value) (first table_routes path)
 
-unfoldable pub endpoint_of : List ℕ → List ℕ → Result Endpoint RouteRefused
-endpoint_of method path = of_path method (path_found path)
+-- the row of a method and of the path that a path is found to be
+unfoldable pub row_of : List ℕ → List ℕ → Result Entry RouteRefused
+row_of method path = of_path method (path_found path)
+
+-- the code finds the expected row, or tells why there is none
+abbrev pub Finds : Result Entry RouteRefused → Result (Bor (Bor (List ℕ) × Bor (List ℕ) × Service)) RouteRefused → Type 0
+Finds expected (Ok row) = expected ≡ Ok (entry_of row.now)
+Finds expected (Err why) = expected ≡ Err why
 
 -- the bytes in front of the first slash, and those from it on
 abbrev pub first_segment : List ℕ → List ℕ

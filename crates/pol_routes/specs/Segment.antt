@@ -7,7 +7,7 @@ use Rattle.percent_encoding.specs.Percent.{percent_decode, percent_sign}
 use Rattle.pol_names.specs.Name.{name_refusal}
 use Rattle.pol_names.specs.Namespace.{levels_of, namespace_refusal}
 use Rattle.pol_names.specs.Plain.{plain_refusal}
-use Rattle.pol_requests.specs.Refused.{read_on}
+use Rattle.pol_requests.specs.Refused.{◌>>=◌}
 use Rattle.pol_requests.specs.declared.refused.RouteRefused.{RouteRefused}
 use Rattle.pol_requests.specs.declared.refused.RouteRefused.TheVariants.{Unreadable}
 
@@ -54,10 +54,10 @@ namespace_of field text =
 
 -- the names that a segment stands for
 abbrev pub plain_segment : List ℕ → Result (List ℕ) RouteRefused
-plain_segment segment = read_on (plain_of (codes "path")) (segment_text segment)
+plain_segment segment = segment_text segment >>= plain_of (codes "path")
 
 abbrev pub name_segment : List ℕ → Result (List ℕ) RouteRefused
-name_segment segment = read_on name_of (segment_text segment)
+name_segment segment = segment_text segment >>= name_of
 
 abbrev pub namespace_segment : List ℕ → Result (List (List ℕ)) RouteRefused
-namespace_segment segment = read_on (namespace_of (codes "path")) (segment_text segment)
+namespace_segment segment = segment_text segment >>= namespace_of (codes "path")

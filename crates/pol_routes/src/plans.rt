@@ -15,7 +15,7 @@ use crate::target;
 use httparse::spans::Span;
 use pol_commands::{Action, Caller, Command, Words4};
 use pol_http::Head;
-use pol_requests::{Endpoint, RouteRefused};
+use pol_requests::{Endpoint, RouteRefused, Row, Service, Unplanned};
 use std::alloc::Global;
 use std::str;
 
@@ -27,7 +27,7 @@ pub const REQUEST_CHARGE: u64 = 512;
 pub struct Planned {
     pub caller: Caller,
     pub action: Action,
-    /// How many random words the action needs, 4 at most.
+    /// How many random words the action needs, as the table says, 4 at most.
     pub words: u8,
     /// What the request counts towards the bound of a run: its bytes and `REQUEST_CHARGE`.
     pub charge: u64,
@@ -42,49 +42,50 @@ pub fn plan(
     bytes: &[u8],
     head: &Head,
     body: Span,
-) -> Result<Planned, RouteRefused>
+) -> Result<Planned, Unplanned>
     requires { LiesWithin bytes.now head.now body body.end }
     ensures exact { (message : Message) → IsMessageAt bytes.now head.now body body.end message
         → Gives (spec.plan_of message) result }
     ensures proper { IfOk result (λ planned. IsProper planned.action) }
 {
     let target = head.target.of(bytes);
-    let endpoint = endpoint_of(routes, head.method.of(bytes), target)?;
+    let row = row_of(routes, head.method.of(bytes), target)?;
     let caller = caller_of(alloc, bytes, head)?;
     let charge = body.end as u64 + REQUEST_CHARGE;
-    endpoint_plan(alloc, endpoint, charge, caller, target, body.of(bytes))
+    served_plan(alloc, row.2, charge, caller, target, body.of(bytes))
 }
 
-/// What a request of this method and target asks for.
-fn endpoint_of(routes: &Routes, method: &[u8], target: &[u8]) -> Result<Endpoint, RouteRefused>
-    ensures { IsUtf8 target.now → result ≡ route.endpoint_of method.now (path_of target.now) }
+/// The row by which a request of this method and target is served.
+fn row_of(routes: &Routes, method: &[u8], target: &[u8]) -> Result<&'static Row, RouteRefused>
+    ensures { IsUtf8 target.now → route.Finds (route.row_of method.now (path_of target.now)) result }
 {
     match str::from_utf8(target::path_of(target)) {
-        Ok(path) => routes.endpoint(method, path),
+        Ok(path) => routes.row(method, path),
         Err(_) => Err(RouteRefused::NoRoute),
     }
 }
 
-/// The plan of a request by what it asks for.
-#[tactic(auto, using(pol_requests::proofs::RefusedLemmas::read_on_refused, pol_requests::proofs::RefusedLemmas::read_on_read), unfolding(crate::specs::Plan::endpoint_plan))]
-fn endpoint_plan(
+/// The plan of a request by how such requests are served.
+#[tactic(auto, using(pol_requests::proofs::RefusedLemmas::stopped, pol_requests::proofs::RefusedLemmas::followed), unfolding(crate::specs::Plan::served_plan))]
+fn served_plan(
     alloc: Global,
-    endpoint: Endpoint,
+    service: Service,
     charge: u64,
     caller: Caller,
     target: &[u8],
     body: &[u8],
-) -> Result<Planned, RouteRefused>
-    ensures { Gives (spec.endpoint_plan charge caller target.now body.now endpoint) result }
+) -> Result<Planned, Unplanned>
+    ensures { Gives (spec.served_plan charge caller target.now body.now service) result }
 {
-    let action = action_of(alloc, endpoint, target, body)?;
-    let words = words_of(&action);
-    Ok(Planned {
-        caller: caller_for(endpoint, caller),
-        action,
-        words,
-        charge,
-    })
+    match service {
+        Service::Built { endpoint, words } => Ok(Planned {
+            action: action_of(alloc, endpoint, target, body)?,
+            caller: caller_for(endpoint, caller),
+            words,
+            charge,
+        }),
+        Service::NotBuilt => Err(Unplanned::Refused(RouteRefused::NotBuilt)),
+    }
 }
 
 /// Whose a request is. A token request is nobody's.
@@ -94,48 +95,6 @@ fn caller_for(endpoint: Endpoint, caller: Caller) -> Caller
     match endpoint {
         Endpoint::OpenSession => Caller::Nobody,
         _ => caller,
-    }
-}
-
-/// How many random words an action needs: a session's token is made of two, a new principal's client id of one and its
-/// secret of two, as is another secret.
-fn words_of(action: &Action) -> u8
-    ensures { result ≡ spec.words_of action.now }
-{
-    match action {
-        Action::CreatePrincipal { .. } => 3,
-        Action::OpenSession { .. } | Action::Rotate { .. } => 2,
-        Action::GetConfig { .. }
-        | Action::ListCatalogs
-        | Action::CreateCatalog { .. }
-        | Action::GetCatalog { .. }
-        | Action::DropCatalog { .. }
-        | Action::ListNamespaces { .. }
-        | Action::CreateNamespace { .. }
-        | Action::LoadNamespace { .. }
-        | Action::HeadNamespace { .. }
-        | Action::DropNamespace { .. }
-        | Action::UpdateProperties { .. }
-        | Action::ListPrincipals
-        | Action::GetPrincipal { .. }
-        | Action::DropPrincipal { .. }
-        | Action::ListMembers { .. }
-        | Action::AddMember { .. }
-        | Action::EndMember { .. }
-        | Action::ListPrincipalRoles
-        | Action::CreatePrincipalRole { .. }
-        | Action::GetPrincipalRole { .. }
-        | Action::DropPrincipalRole { .. }
-        | Action::ListJoins { .. }
-        | Action::AddJoin { .. }
-        | Action::EndJoin { .. }
-        | Action::ListCatalogRoles { .. }
-        | Action::CreateCatalogRole { .. }
-        | Action::GetCatalogRole { .. }
-        | Action::DropCatalogRole { .. }
-        | Action::ListGrants { .. }
-        | Action::AddGrant { .. }
-        | Action::Revoke { .. } => 0,
     }
 }
 

@@ -9,13 +9,13 @@ ghost use Rattle.pol_routes.specs.Query as spec;
 
 use crate::form::{decoded, decoded_bytes};
 use form_urlencoded::raw_pairs;
-use pol_requests::{RouteRefused, unreadable};
+use pol_requests::{Unplanned, unreadable};
 use pol_types::{OutOfMemory, Text};
 use std::alloc::Global;
 
 /// The value of a key of a query, if it is there: the last one where there are several. It is unreadable, by the name
 /// of its key, where it isn't UTF-8 once decoded. Other keys and earlier values may be any bytes.
-pub fn query_value(alloc: Global, query: &[u8], key: &str) -> Result<Option<Text>, RouteRefused>
+pub fn query_value(alloc: Global, query: &[u8], key: &str) -> Result<Option<Text>, Unplanned>
     ensures { Gives (spec.query_value key.now query.now) result }
 {
     match last_value(alloc, query, key)? {
@@ -50,8 +50,8 @@ fn has_name(alloc: Global, name: &[u8], key: &str) -> Result<bool, OutOfMemory>
 }
 
 /// The text of a key's value.
-#[tactic(auto, unfolding(crate::specs::Query::readable))]
-fn value_text(alloc: Global, value: &[u8], key: &str) -> Result<Option<Text>, RouteRefused>
+#[tactic(auto, using(pol_requests::proofs::RefusedLemmas::refused), unfolding(crate::specs::Query::readable))]
+fn value_text(alloc: Global, value: &[u8], key: &str) -> Result<Option<Text>, Unplanned>
     ensures { Gives (spec.readable key.now (Some (decode value.now))) result }
 {
     match decoded(alloc, value)? {

@@ -5,7 +5,7 @@ ghost use Rattle.pol_requests.specs.Table.{entry_of};
 ghost use Rattle.pol_routes.specs.Route as spec;
 
 use matchit::{InsertError, Router};
-use pol_requests::{Endpoint, RouteRefused, Row, table_rows};
+use pol_requests::{RouteRefused, Row, table_rows};
 use pol_types::OutOfMemory;
 use std::alloc::Global;
 use std::marker::Model;
@@ -38,16 +38,16 @@ impl Routes {
         Ok(Routes { router })
     }
 
-    /// What a request of this method and path asks for.
-    #[tactic(auto, unfolding(crate::specs::Route::endpoint_of))]
-    pub(crate) fn endpoint(&self, method: &[u8], path: &str) -> Result<Endpoint, RouteRefused>
-        ensures { result ≡ spec.endpoint_of method.now path.now }
+    /// The row of the table by which a request of this method and path is served.
+    #[tactic(auto, unfolding(crate::specs::Route::row_of))]
+    pub(crate) fn row(&self, method: &[u8], path: &str) -> Result<&'static Row, RouteRefused>
+        ensures { spec.Finds (spec.row_of method.now path.now) result }
     {
         let Some(place) = self.place(path) else {
             return Err(RouteRefused::NoRoute);
         };
-        match endpoint_at(table_rows(), method, place) {
-            Some(endpoint) => Ok(endpoint),
+        match row_at(table_rows(), method, place) {
+            Some(row) => Ok(row),
             None => Err(RouteRefused::WrongMethod),
         }
     }
@@ -63,22 +63,12 @@ impl Routes {
     }
 }
 
-/// What a method asks for of the path of the row at a place.
-fn endpoint_at(rows: &[Row], method: &[u8], place: usize) -> Option<Endpoint>
-    ensures { result ≡ spec.endpoint_at method.now place (map entry_of rows.now) }
+/// The row of a method and of the path of the row at a place.
+fn row_at<'t>(rows: &'t [Row], method: &[u8], place: usize) -> Option<&'t Row>
+    ensures { option_map (λ row. entry_of row.now) result ≡ spec.row_at method.now place (map entry_of rows.now) }
 {
     match rows.get(place) {
-        Some(row) => endpoint_by(rows, method, row.1),
-        None => None,
-    }
-}
-
-/// What the row of a method and path asks for.
-fn endpoint_by(rows: &[Row], method: &[u8], path: &str) -> Option<Endpoint>
-    ensures { result ≡ spec.endpoint_by method.now path.now (map entry_of rows.now) }
-{
-    match row_by(rows, method, path) {
-        Some(row) => Some(row.2),
+        Some(row) => row_by(rows, method, row.1),
         None => None,
     }
 }

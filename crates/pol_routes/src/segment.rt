@@ -8,7 +8,7 @@ ghost use Rattle.pol_routes.specs.Segment as spec;
 use crate::form::text_of;
 use percent_encoding::percent_decode;
 use pol_names::{Name, NameRefused, Namespace, NamespaceRefused, Plain};
-use pol_requests::{RouteRefused, unreadable};
+use pol_requests::{Unplanned, unreadable};
 use pol_types::{OutOfMemory, Text};
 use std::alloc::Global;
 
@@ -27,7 +27,7 @@ pub fn segment_at(path: &[u8], place: usize) -> &[u8]
 
 /// The text of a segment. It is unreadable where a `%` isn't followed by two hexadecimal digits, and where it isn't
 /// UTF-8 once decoded.
-pub fn segment_text(alloc: Global, segment: &[u8]) -> Result<Text, RouteRefused>
+pub fn segment_text(alloc: Global, segment: &[u8]) -> Result<Text, Unplanned>
     ensures { Gives (spec.segment_text segment.now) result }
 {
     if !has_whole_escapes(segment) {
@@ -40,8 +40,8 @@ pub fn segment_text(alloc: Global, segment: &[u8]) -> Result<Text, RouteRefused>
 }
 
 /// The plain name that a segment is, which is unreadable where it is none.
-#[tactic(auto, using(pol_requests::proofs::RefusedLemmas::read_on_refused, pol_requests::proofs::RefusedLemmas::read_on_read))]
-pub fn plain_segment(alloc: Global, segment: &[u8]) -> Result<Plain, RouteRefused>
+#[tactic(auto, using(pol_requests::proofs::RefusedLemmas::stopped, pol_requests::proofs::RefusedLemmas::followed))]
+pub fn plain_segment(alloc: Global, segment: &[u8]) -> Result<Plain, Unplanned>
     ensures { Gives (spec.plain_segment segment.now) result }
 {
     let text = segment_text(alloc, segment)?;
@@ -49,8 +49,8 @@ pub fn plain_segment(alloc: Global, segment: &[u8]) -> Result<Plain, RouteRefuse
 }
 
 /// The name that a segment is, which is unreadable where it is none.
-#[tactic(auto, using(pol_requests::proofs::RefusedLemmas::read_on_refused, pol_requests::proofs::RefusedLemmas::read_on_read))]
-pub fn name_segment(alloc: Global, segment: &[u8]) -> Result<Name, RouteRefused>
+#[tactic(auto, using(pol_requests::proofs::RefusedLemmas::stopped, pol_requests::proofs::RefusedLemmas::followed))]
+pub fn name_segment(alloc: Global, segment: &[u8]) -> Result<Name, Unplanned>
     ensures { Gives (spec.name_segment segment.now) result }
 {
     let text = segment_text(alloc, segment)?;
@@ -59,8 +59,8 @@ pub fn name_segment(alloc: Global, segment: &[u8]) -> Result<Name, RouteRefused>
 
 /// The namespace that a segment is, its levels behind one another with 0x1F between them (Iceberg REST OpenAPI,
 /// parameter `namespace`). It is unreadable where it is none.
-#[tactic(auto, using(pol_requests::proofs::RefusedLemmas::read_on_refused, pol_requests::proofs::RefusedLemmas::read_on_read))]
-pub fn namespace_segment(alloc: Global, segment: &[u8]) -> Result<Namespace, RouteRefused>
+#[tactic(auto, using(pol_requests::proofs::RefusedLemmas::stopped, pol_requests::proofs::RefusedLemmas::followed))]
+pub fn namespace_segment(alloc: Global, segment: &[u8]) -> Result<Namespace, Unplanned>
     ensures { Gives (spec.namespace_segment segment.now) result }
 {
     let text = segment_text(alloc, segment)?;
@@ -102,41 +102,37 @@ fn decoded_text(alloc: Global, written: &[u8]) -> Result<Option<Text>, OutOfMemo
 }
 
 /// The plain name that the text of a field is.
-#[tactic(auto, unfolding(crate::specs::Segment::plain_of))]
-pub(crate) fn plain_of(alloc: Global, text: &str, field: &str) -> Result<Plain, RouteRefused>
+#[tactic(auto, using(pol_requests::proofs::RefusedLemmas::refused), unfolding(crate::specs::Segment::plain_of))]
+pub(crate) fn plain_of(alloc: Global, text: &str, field: &str) -> Result<Plain, Unplanned>
     ensures { Gives (spec.plain_of field.now text.now) result }
 {
     match Plain::new(alloc, text) {
         Ok(name) => Ok(name),
-        Err(NameRefused::OutOfMemory) => Err(RouteRefused::OutOfMemory),
+        Err(NameRefused::OutOfMemory) => Err(Unplanned::OutOfMemory),
         Err(_) => Err(unreadable(alloc, field)),
     }
 }
 
 /// The name that a text is.
-#[tactic(auto, unfolding(crate::specs::Segment::name_of))]
-fn name_of(alloc: Global, text: &str) -> Result<Name, RouteRefused>
+#[tactic(auto, using(pol_requests::proofs::RefusedLemmas::refused), unfolding(crate::specs::Segment::name_of))]
+fn name_of(alloc: Global, text: &str) -> Result<Name, Unplanned>
     ensures { Gives (spec.name_of text.now) result }
 {
     match Name::new(alloc, text) {
         Ok(name) => Ok(name),
-        Err(NameRefused::OutOfMemory) => Err(RouteRefused::OutOfMemory),
+        Err(NameRefused::OutOfMemory) => Err(Unplanned::OutOfMemory),
         Err(_) => Err(unreadable(alloc, PATH_FIELD)),
     }
 }
 
 /// The namespace whose levels the text of a field has.
-#[tactic(auto, unfolding(crate::specs::Segment::namespace_of))]
-pub(crate) fn namespace_of(
-    alloc: Global,
-    text: &str,
-    field: &str,
-) -> Result<Namespace, RouteRefused>
+#[tactic(auto, using(pol_requests::proofs::RefusedLemmas::refused), unfolding(crate::specs::Segment::namespace_of))]
+pub(crate) fn namespace_of(alloc: Global, text: &str, field: &str) -> Result<Namespace, Unplanned>
     ensures { Gives (spec.namespace_of field.now text.now) result }
 {
     match Namespace::from_segment(alloc, text) {
         Ok(namespace) => Ok(namespace),
-        Err(NamespaceRefused::OutOfMemory) => Err(RouteRefused::OutOfMemory),
+        Err(NamespaceRefused::OutOfMemory) => Err(Unplanned::OutOfMemory),
         Err(_) => Err(unreadable(alloc, field)),
     }
 }

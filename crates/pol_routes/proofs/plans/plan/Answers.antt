@@ -1,5 +1,5 @@
-use Rattle.pol_routes.proofs.ProperLemmas.{endpoint_gives_proper}
+use Rattle.pol_routes.proofs.ProperLemmas.{served_gives_proper}
 use Rattle.pol_routes.proofs.plans.plan.Goals as goal
 
 pub returns-clause-proper : goal.returns-clause-proper
-returns-clause-proper c = endpoint_gives_proper _ _ _ _ _ _ c.endpoint_plan.ensures
+returns-clause-proper c = served_gives_proper _ _ _ _ _ _ c.served_plan.ensures

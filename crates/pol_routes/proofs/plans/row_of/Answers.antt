@@ -1,6 +1,6 @@
 use Rattle.std.proofs.Common.{IsUtf8, sym, subst}
 use Rattle.pol_routes.proofs.TargetLemmas.{IsUtf8-path_of}
-use Rattle.pol_routes.proofs.plans.endpoint_of.Goals as goal
+use Rattle.pol_routes.proofs.plans.row_of.Goals as goal
 
 pub returns-in-Err : goal.returns-in-Err
 returns-in-Err c = λ utf8.

@@ -1,0 +1,76 @@
+//! What a request that is served asks for.
+
+/// What a request asks for, by what it is about.
+#[derive(Clone, Copy, Debug)]
+pub enum Endpoint {
+    OpenSession,
+    Content(ContentRequest),
+    Namespace(NamespaceRequest),
+    Catalog(CatalogRequest),
+    Principal(PrincipalRequest),
+    PrincipalRole(PrincipalRoleRequest),
+    CatalogRole(CatalogRoleRequest),
+}
+
+/// What a catalogue holds.
+#[derive(Clone, Copy, Debug)]
+pub enum ContentRequest {
+    GetConfig,
+    ListNamespaces,
+    CreateNamespace,
+}
+
+/// One namespace of a catalogue.
+#[derive(Clone, Copy, Debug)]
+pub enum NamespaceRequest {
+    LoadNamespace,
+    HeadNamespace,
+    DropNamespace,
+    UpdateProperties,
+}
+
+/// The catalogues themselves.
+#[derive(Clone, Copy, Debug)]
+pub enum CatalogRequest {
+    ListCatalogs,
+    CreateCatalog,
+    GetCatalog,
+    DropCatalog,
+}
+
+/// Principals and the principal roles that they have.
+#[derive(Clone, Copy, Debug)]
+pub enum PrincipalRequest {
+    ListPrincipals,
+    CreatePrincipal,
+    GetPrincipal,
+    DropPrincipal,
+    Rotate,
+    ListMembers,
+    AddMember,
+    EndMember,
+}
+
+/// Principal roles and the roles of catalogues that they are joined to.
+#[derive(Clone, Copy, Debug)]
+pub enum PrincipalRoleRequest {
+    ListPrincipalRoles,
+    CreatePrincipalRole,
+    GetPrincipalRole,
+    DropPrincipalRole,
+    ListJoins,
+    AddJoin,
+    EndJoin,
+}
+
+/// Roles of a catalogue and their grants.
+#[derive(Clone, Copy, Debug)]
+pub enum CatalogRoleRequest {
+    ListCatalogRoles,
+    CreateCatalogRole,
+    GetCatalogRole,
+    DropCatalogRole,
+    ListGrants,
+    AddGrant,
+    Revoke,
+}
