@@ -1,11 +1,12 @@
 -- Members, joins and grants in rising order: what the sort does, and that the numbers of rows tell them apart.
-use Rattle.std.proofs.Common.{◌≡◌, ℕ, Bool, true, false, cond, List, [], ◌∷◌, refl, sym, ap, ◌∙◌, slice_index_or, nat_eq, nat_cmp, true≢false}
+use Rattle.std.proofs.Common.{◌≡◌, ℕ, Bool, true, false, cond, List, [], ◌∷◌, refl, sym, ap, ◌∙◌, slice_index_or, nat_cmp, true≢false}
 use Rattle.std.specs.Cmp.{IsTotalOrder, on_total}
 use Rattle.std.specs.Cmp.Lexicographic.{same_text, slice_cmp}
 use Rattle.std.specs.Coded.{Coded}
 use Rattle.std.specs.List.{list_all, AllByRecursion, IsDistinct}
 use Rattle.std.specs.List.Sorted.{IsPermutation, IsStrictlySortedBy}
-use Rattle.std.specs.Ordering.{is_eq, is_lt, ordering_index, ordering_reverse, ordering_then}
+use Rattle.std.specs.Ordering.{is_eq, is_lt, ordering_reverse, ordering_then}
+use Rattle.std.specs.contracts.cmp.Ordering as ordering
 use Rattle.std.specs.declared.cmp.Ordering.{Ordering}
 use Rattle.std.specs.declared.cmp.Ordering.TheVariants.{Less, Equal, Greater}
 use Rattle.std.proofs.lemmas.Cmp.{nat_list_cmp_total}
@@ -13,9 +14,9 @@ use Rattle.std.proofs.lemmas.List.Sorted.{IsPermutation-cons, IsPermutation-refl
 use Rattle.std.proofs.lemmas.Map.Keys.{IsDistinct-head, IsDistinct-tail}
 use Rattle.std.proofs.lemmas.Map.Text.{is_eq-slice_cmp}
 use Rattle.pol_tables.specs.Changes.{in_order, placed}
-use Rattle.pol_tables.specs.Same.{same}
+use Rattle.pol_tables.specs.Same.{same, same_code}
 use Rattle.pol_tables.proofs.ListLemmas.{each-weaken}
-use Rattle.pol_tables.proofs.SameLemmas.{same-refl}
+use Rattle.pol_tables.proofs.SameLemmas.{same-refl, same-true}
 use Rattle.pol_access.specs.Laws.{AreListedInOrder, FactsAreInOrder}
 use Rattle.pol_access.specs.Order.{by_numbers, grant_cmp, grant_numbers, grants_in_order, join_cmp, join_numbers, joins_in_order, member_cmp, member_numbers, members_in_order, securable_numbers}
 use Rattle.pol_access.specs.Privilege.{privilege_is, privilege_number, privileges, same_privilege}
@@ -153,23 +154,13 @@ then_equal Less = refl
 then_equal Equal = refl
 then_equal Greater = refl
 
-index-tells : (a b : Ordering) → nat_eq (ordering_index a) (ordering_index b) ≡ true → a ≡ b
-index-tells Less Less same_ = refl
-index-tells Less Equal same_ = absurd (true≢false (sym same_))
-index-tells Less Greater same_ = absurd (true≢false (sym same_))
-index-tells Equal Less same_ = absurd (true≢false (sym same_))
-index-tells Equal Equal same_ = refl
-index-tells Equal Greater same_ = absurd (true≢false (sym same_))
-index-tells Greater Less same_ = absurd (true≢false (sym same_))
-index-tells Greater Equal same_ = absurd (true≢false (sym same_))
-index-tells Greater Greater same_ = refl
-
 privilege-compared : (left right : Privilege) → privilege_order.ghosts.cmp left right ≡ nat_cmp (privilege_number left) (privilege_number right)
+unfolding same same_code
 privilege-compared left right =
-    index-tells (privilege_order.ghosts.cmp left right) (nat_cmp (privilege_number left) (privilege_number right)) (each-privilege (agree left) (each-privilege (λ one. list_all (agree one) privileges) refl left) right)
+    same-true ordering.the_row.coded (privilege_order.ghosts.cmp left right) (nat_cmp (privilege_number left) (privilege_number right)) (each-privilege (agree left) (each-privilege (λ one. list_all (agree one) privileges) refl left) right)
   where
     agree : Privilege → Privilege → Bool
-    agree one other = nat_eq (ordering_index (privilege_order.ghosts.cmp one other)) (ordering_index (nat_cmp (privilege_number one) (privilege_number other)))
+    agree one other = same ordering.the_row.coded (privilege_order.ghosts.cmp one other) (nat_cmp (privilege_number one) (privilege_number other))
 
 securable-compared : (left right : Securable) → securable_order.ghosts.cmp left right ≡ slice_cmp nat_cmp (securable_numbers left) (securable_numbers right)
 securable-compared Realm Realm = refl

@@ -40,6 +40,25 @@ module _ {R : Type 0} (test : R → Bool) where
   found-alone key rows None once finds = sym finds
   found-alone key rows (Some row) once finds = only_found key rows row once finds.0 finds.1
 
+  -- where rows differ of which two that pass are the same, one at most passes
+  pass-once : (same : R → R → Bool) → ((left right : R) → test left ≡ true → test right ≡ true → same left right ≡ true) → (rows : List R) → IsDistinct same rows → PassOnce rows
+  pass-once same alike [] differ = tt
+  pass-once same alike (row ∷ rows) differ = (
+    λ passes. each-weaken (λ later. same row later ≡ false) (λ later. test later ≡ false) rows (λ later apart. fails later passes apart) (IsDistinct-head same row rows differ),
+    pass-once same alike rows (IsDistinct-tail same row rows differ),
+  )
+    where
+      fails : (later : R) → test row ≡ true → same row later ≡ false → test later ≡ false
+      fails later passes apart = elim (cases_Bool (test later)) [
+        | inl also ↦ absurd (true≢false (sym (alike row later passes also) ∙ apart))
+        | inr so ↦ so
+      ]
+
+-- where rows differ by a name, the row that is found by it is the first
+pub first_found : {R : Type 0} (key : R → ℕ) (test : R → Bool) (same : R → R → Bool) → ((left right : R) → test left ≡ true → test right ≡ true → same left right ≡ true)
+    → (rows : List R) → IsDistinct same rows → (found : Option R) → Finds key test rows found → found ≡ find test rows
+first_found key test same alike rows differ found finds = found-alone test key rows found (pass-once test same alike rows differ) finds
+
 -- where names differ, one row at most has a name
 pub names-once : {R : Type 0} (name : R → List ℕ) (sought : List ℕ) (rows : List R) → IsDistinct bytes_eq (map name rows) → PassOnce (λ row. bytes_eq sought (name row)) rows
 names-once name sought [] differ = tt
@@ -52,15 +71,8 @@ names-once {R} name sought (row ∷ rows) differ = (
     past [] none = tt
     past (first ∷ rows) none = (none.0, past rows none.1)
 
--- and one role at most of a catalogue
-pub role-names-once : (catalog : ℕ) (sought : List ℕ) (rows : List CatalogRoleRow) → IsDistinct same_role_name rows → PassOnce (has_catalog_role_name catalog sought) rows
-role-names-once catalog sought [] differ = tt
-role-names-once catalog sought (row ∷ rows) differ = (
-  λ passes. each-weaken (λ later. same_role_name row later ≡ false) (λ later. has_catalog_role_name catalog sought later ≡ false) rows (λ later apart. same passes later ∙ apart) (IsDistinct-head same_role_name row rows differ),
-  role-names-once catalog sought rows (IsDistinct-tail same_role_name row rows differ),
-)
-  where
-    same : has_catalog_role_name catalog sought row ≡ true → (later : CatalogRoleRow) → has_catalog_role_name catalog sought later ≡ same_role_name row later
-    same passes later =
-        let both = and_parts (nat_eq row.catalog catalog) (bytes_eq sought row.name) passes in
-        λ i. nat_eq later.catalog (sym (eqb-true row.catalog catalog both.0) i) && bytes_eq (same_text sought row.name (sym both.1) i) later.name
+-- roles of one name in a catalogue have the same name
+pub roles_alike : (catalog : ℕ) (sought : List ℕ) (left right : CatalogRoleRow) → has_catalog_role_name catalog sought left ≡ true → has_catalog_role_name catalog sought right ≡ true → same_role_name left right ≡ true
+roles_alike catalog sought left right one other =
+    let both = and_parts (nat_eq left.catalog catalog) (bytes_eq sought left.name) one in
+    sym (λ i. nat_eq right.catalog (sym (eqb-true left.catalog catalog both.0) i) && bytes_eq (same_text sought left.name (sym both.1) i) right.name) ∙ other

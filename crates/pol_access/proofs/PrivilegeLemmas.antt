@@ -1,5 +1,5 @@
 -- Rules for every privilege, from tests that are computed over all of them.
-use Rattle.std.proofs.Common.{◌≡◌, Bool, true, ◌||◌, List, [], ◌∷◌, Some, refl, sym, ap, subst, ◌∙◌, inl, inr}
+use Rattle.std.proofs.Common.{◌≡◌, Bool, true, false, ◌||◌, List, [], ◌∷◌, Option, Some, None, refl, sym, ap, subst, ◌∙◌, inl, inr, true≢false}
 use Rattle.std.specs.List.{find, list_all}
 use Rattle.std.specs.Str.{bytes_eq}
 use Rattle.std.proofs.lemmas.Bool.{and_parts, cases_Bool}
@@ -68,31 +68,15 @@ implies-through held between wanted first then_ =
     then_
 
 -- each privilege is found by its text
+abbrev is_one : Option Privilege → Privilege → Bool
+is_one None one = false
+is_one (Some found) one = same_privilege found one
+
+found-one : (found : Option Privilege) (one : Privilege) → is_one found one ≡ true → found ≡ Some one
+found-one None one contrary = absurd (true≢false (sym contrary))
+found-one (Some found) one is = ap Some (privilege_is found one is)
+
 pub text-read : (one : Privilege) → find (λ kept. bytes_eq (text_of kept) (text_of one)) privileges ≡ Some one
 unfolding text_of
-text-read NamespaceCreate = refl
-text-read NamespaceDrop = refl
-text-read NamespaceList = refl
-text-read NamespaceReadProperties = refl
-text-read NamespaceWriteProperties = refl
-text-read NamespaceFullMetadata = refl
-text-read TableCreate = refl
-text-read TableDrop = refl
-text-read TableList = refl
-text-read TableReadProperties = refl
-text-read TableWriteProperties = refl
-text-read TableFullMetadata = refl
-text-read ViewCreate = refl
-text-read ViewDrop = refl
-text-read ViewList = refl
-text-read ViewReadProperties = refl
-text-read ViewWriteProperties = refl
-text-read ViewFullMetadata = refl
-text-read TableReadData = refl
-text-read TableWriteData = refl
-text-read CatalogManageAccess = refl
-text-read CatalogManageContent = refl
-text-read CatalogManageMetadata = refl
-text-read CatalogReadProperties = refl
-text-read CatalogWriteProperties = refl
-text-read ServiceManageAccess = refl
+text-read one =
+    found-one (find (λ kept. bytes_eq (text_of kept) (text_of one)) privileges) one (each-privilege (λ one. is_one (find (λ kept. bytes_eq (text_of kept) (text_of one)) privileges) one) refl one)

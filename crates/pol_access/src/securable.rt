@@ -31,7 +31,7 @@ impl Securable {
         }
     }
 
-    pub fn is_realm(self) -> bool
+    pub(crate) fn is_realm(self) -> bool
         ensures { result ≡ is_realm self }
     {
         match self {

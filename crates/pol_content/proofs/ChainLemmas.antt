@@ -10,16 +10,17 @@ use Rattle.pol_types.specs.Exact.{pointwise_exact}
 use Rattle.pol_access.specs.declared.securable.Securable.{Securable}
 use Rattle.pol_access.specs.declared.securable.Securable.TheVariants.{Realm, Catalog, Namespace, Table, View}
 use Rattle.pol_names.specs.Namespace.{parent_of}
-use Rattle.pol_tables.specs.Table.{row_of, IdsDiffer}
+use Rattle.pol_tables.specs.Table.{row_of, IdsDiffer, has_id}
 use Rattle.pol_tables.proofs.TableLemmas.{key-row_of, some_is}
 use Rattle.pol_content.specs.Chain.{first_or, namespace_at, parents_out, Encloses, EnclosesRow, uppers_of_found}
 use Rattle.pol_content.specs.Content.{is_namespace_named, lies_below, namespace_id, namespace_named, same_levels, ContentRows, NamespaceNamesDiffer}
 use Rattle.pol_content.specs.Laws.{ChainsHaveWhatContains, DeepestPartsAreFirst}
 use Rattle.pol_content.specs.declared.rows.NamespaceRow.{NamespaceRow}
-use Rattle.pol_content.proofs.NamesLemmas.{each-row_of, first_found, namespaces_alike}
+use Rattle.pol_content.proofs.NamesLemmas.{namespaces_alike}
 use Rattle.pol_content.proofs.SoundLemmas.{parent_front}
 use Rattle.pol_content.proofs.TiesLemmas.{found-own}
-use Rattle.pol_access.proofs.KeptLemmas.{found-passes}
+use Rattle.pol_access.proofs.KeptLemmas.{found-holds, found-passes}
+use Rattle.pol_access.proofs.NamesLemmas.{first_found}
 
 -- a list of one item has no other
 only : {X : Type 0} (x y : X) → Contains (x ∷ []) y → x ≡ y
@@ -133,7 +134,7 @@ module _ (content : ContentRows) (ids : IdsDiffer namespace_id content.namespace
         let parts = and_parts (nat_eq row.catalog upper.catalog && nat_lt (length upper.levels) (length row.levels)) (same_levels upper.levels (take (length upper.levels) row.levels)) below in
         let firsts = and_parts (nat_eq row.catalog upper.catalog) (nat_lt (length upper.levels) (length row.levels)) parts.0 in
         let depth = length upper.levels in
-        let some : 0 < depth = each-row_of namespace_id (λ one. 0 < length one.levels) id upper content.namespaces filled there in
+        let some : 0 < depth = found-holds (has_id namespace_id id) (λ one. 0 < length one.levels) content.namespaces upper filled there in
         let deeper : depth < length row.levels = ltb-true depth (length row.levels) firsts.1 in
         let parent = take (length row.levels - 1) row.levels in
         let has_parent : parent_of row.levels ≡ Some parent = ap (λ b. cond b (Some parent) None) (lt-ltb 1 (length row.levels) (omega (arith, some, deeper))) in

@@ -1,12 +1,11 @@
 -- Rows whose names differ: a look-up by name finds the one row of the name.
-use Rattle.std.proofs.Common.{◌≡◌, ℕ, ◌+◌, Bool, true, false, not, cond, List, [], ◌∷◌, map, Option, Some, None, is_none, is_some, nat_eq, refl, sym, ap, subst, ◌∙◌, inl, inr, true≢false, suc}
+use Rattle.std.proofs.Common.{◌≡◌, ℕ, ◌+◌, Bool, true, false, not, cond, List, [], ◌∷◌, map, Option, Some, None, is_none, is_some, nat_eq, refl, sym, ap, ◌∙◌, inl, inr, true≢false, suc}
 use Rattle.std.specs.Borrow.{Bor}
 use Rattle.std.specs.Option.{option_copied}
 use Rattle.std.specs.Cmp.{IsEquivalence, nat_eq_equiv}
 use Rattle.std.specs.Cmp.Lexicographic.{lists_equiv, nat_list_eq_equiv}
-use Rattle.std.specs.List.{find, range_with_len, AllByRecursion, IsDistinct}
+use Rattle.std.specs.List.{find, range_with_len}
 use Rattle.std.proofs.lemmas.Bool.{and_from, and_parts, cases_Bool}
-use Rattle.std.proofs.lemmas.Map.Keys.{IsDistinct-head, IsDistinct-tail}
 use Rattle.pol_tables.specs.Named.{Finds}
 use Rattle.pol_tables.specs.Table.{has_id, row_of}
 use Rattle.pol_tables.proofs.TableLemmas.{some_is}
@@ -22,37 +21,6 @@ module _ {R : Type 0} (key : R → ℕ) where
   at_first : (id : ℕ) (first row : R) (rows : List R) → has_id key id first ≡ true → row_of key id (first ∷ rows) ≡ Some row → first ≡ row
   at_first id first row rows here found =
       some_is first row (sym (ap (λ b. cond b (Some first) (row_of key id rows)) here) ∙ found)
-
-  -- what holds of each row holds of the row of an id
-  pub each-row_of : (P : R → Type 0) (id : ℕ) (row : R) (rows : List R) → AllByRecursion P rows → row_of key id rows ≡ Some row → P row
-  each-row_of P id row [] all found = let contrary : None ≡ Some row = found in cc
-  each-row_of P id row (first ∷ rows) all found = elim (cases_Bool (has_id key id first)) [
-    | inl here ↦ subst P (at_first id first row rows here found) all.0
-    | inr apart ↦ each-row_of P id row rows all.1 (past_first id first row rows apart found)
-  ]
-
-  module _ (test : R → Bool) (same : R → R → Bool) (alike : (left right : R) → test left ≡ true → test right ≡ true → same left right ≡ true) where
-    only_found : (id : ℕ) (row : R) (rows : List R) → IsDistinct same rows → row_of key id rows ≡ Some row → test row ≡ true → find test rows ≡ Some row
-    only_found id row [] differ found passes = let contrary : None ≡ Some row = found in cc
-    only_found id row (first ∷ rows) differ found passes = elim (cases_Bool (has_id key id first)) [
-      | inl here ↦
-          let is = at_first id first row rows here found in
-          ap (λ b. cond b (Some first) (find test rows)) (ap test is ∙ passes) ∙ ap Some is
-      | inr apart ↦
-          let later = past_first id first row rows apart found in
-          elim (cases_Bool (test first)) [
-            | inl also ↦
-                let differs = each-row_of (λ other. same first other ≡ false) id row rows (IsDistinct-head same first rows differ) later in
-                absurd (true≢false (sym (alike first row also passes) ∙ differs))
-            | inr fails ↦
-                ap (λ b. cond b (Some first) (find test rows)) fails ∙ only_found id row rows (IsDistinct-tail same first rows differ) later passes
-          ]
-    ]
-
-    -- where no two rows have one name, the row that is found is the first
-    pub first_found : (rows : List R) → IsDistinct same rows → (found : Option R) → Finds key test rows found → found ≡ find test rows
-    first_found rows differ None none = sym none
-    first_found rows differ (Some row) found = sym (only_found (key row) row rows differ found.0 found.1)
 
   module _ (test : R → Bool) where
     found-some : (id : ℕ) (row : R) (rows : List R) → row_of key id rows ≡ Some row → test row ≡ true → is_none (find test rows) ≡ false

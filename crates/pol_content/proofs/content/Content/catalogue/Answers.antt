@@ -1,6 +1,7 @@
 use Rattle.std.specs.Option.{option_copied}
 use Rattle.pol_content.specs.Content.{catalog_id, is_catalog_named}
-use Rattle.pol_content.proofs.NamesLemmas.{catalogs_alike, first_found}
+use Rattle.pol_access.proofs.NamesLemmas.{first_found}
+use Rattle.pol_content.proofs.NamesLemmas.{catalogs_alike}
 use Rattle.pol_content.proofs.content.Content.catalogue.Goals as goal
 
 pub returns-clause-first : goal.returns-clause-first
