@@ -58,6 +58,8 @@ pub const NAME: &str = "name";
 
 pub const NULL_ORDER: &str = "null-order";
 
+pub const OPERATION: &str = "operation";
+
 pub const ORDER_ID: &str = "order-id";
 
 pub const PARENT_SNAPSHOT_ID: &str = "parent-snapshot-id";
@@ -112,9 +114,13 @@ pub const VALUE_REQUIRED: &str = "value-required";
 
 pub const WRITE_ORDER: &str = "write-order";
 
+pub const APPEND: &str = "append";
+
 pub const ASC: &str = "asc";
 
 pub const BRANCH: &str = "branch";
+
+pub const DELETE: &str = "delete";
 
 pub const DESC: &str = "desc";
 
@@ -125,6 +131,10 @@ pub const MAP: &str = "map";
 pub const NULLS_FIRST: &str = "nulls-first";
 
 pub const NULLS_LAST: &str = "nulls-last";
+
+pub const OVERWRITE: &str = "overwrite";
+
+pub const REPLACE: &str = "replace";
 
 pub const STRUCT: &str = "struct";
 
