@@ -1,4 +1,3 @@
 pub mod Bodies
 pub mod Body
-pub mod Laws
 pub mod ManagementBodies

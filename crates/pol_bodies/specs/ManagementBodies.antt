@@ -6,12 +6,13 @@ use Rattle.pol_access.specs.Privilege.{grantable, privileges}
 use Rattle.pol_access.specs.declared.privilege.Privilege.{Privilege}
 use Rattle.pol_access.specs.declared.securable.SecurableKind.{SecurableKind}
 use Rattle.pol_access.specs.declared.securable.SecurableKind.TheVariants as kind
+use Rattle.pol_commands.specs.Grants.{grant_on}
 use Rattle.pol_commands.specs.declared.grants.Grant.{Grant}
 use Rattle.pol_commands.specs.declared.grants.GrantedOn.{GrantedOn}
 use Rattle.pol_commands.specs.declared.grants.GrantedOn.TheVariants as on
 use Rattle.pol_names.specs.Name.{name_refusal}
 use Rattle.pol_names.specs.declared.identifier.Identifier.{Identifier}
-use Rattle.pol_readers.specs.Shape.{Shape, ◌>>=◌, an_object, done, field, holds_at, one_of, rule, text, text_of}
+use Rattle.pol_readers.specs.Shape.{Shape, ◌>>=◌, an_object, done, field, holds_at, one_found, one_of, rule, text, text_of}
 use Rattle.pol_bodies.specs.Bodies.{levels, plain_name}
 use Rattle.pol_bodies.specs.declared.keys.TheConstants.{CATALOG, CATALOG_ROLE, GRANT, NAME, NAMESPACE, PRINCIPAL, PRINCIPAL_ROLE, PRIVILEGE, TABLE, TABLE_NAME, TYPE, VIEW, VIEW_NAME}
 use Rattle.pol_bodies.specs.declared.management_bodies.CatalogRoleBody.{CatalogRoleBody}
@@ -102,7 +103,7 @@ granted_on View = do
   view ← identifier VIEW_NAME.now
   done (on.View view)
 
--- a grant, whose privilege may be granted on what it is on (GrantResource)
+-- a grant (GrantResource); whether its privilege may be granted is judged before what it is on is read
 unfoldable pub grant : Shape Grant
 grant = do
   _ ← an_object
@@ -110,7 +111,7 @@ grant = do
   given ← field PRIVILEGE.now privilege_text
   _ ← holds_at PRIVILEGE.now (grantable given (kind_of_type type))
   granted ← granted_on type
-  done (record { privilege = given; on = granted })
+  one_found (grant_on given granted)
 
 -- the body that adds or revokes a grant (AddGrantRequest, RevokeGrantRequest)
 unfoldable pub grant_body : Shape GrantBody

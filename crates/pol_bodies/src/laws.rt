@@ -1,7 +1,6 @@
 //! Laws of bodies: theorems over the definitions in `specs/`. Their bodies are empty.
 ghost use Rattle.std.specs.Prelude.{◌≡◌, codes};
 ghost use Rattle.pol_requests.specs.Keys.{base_key};
-ghost use Rattle.pol_bodies.specs.Laws.{GrantsMayBeGranted};
 
 use crate::keys::{
     ALLOWED_LOCATIONS, CATALOG, CATALOG_ROLE, GRANT, INTERNAL, NAME, NAMESPACE, PRINCIPAL,
@@ -31,9 +30,4 @@ pub fn keys_are_those()
     ensures updates { UPDATES.now ≡ codes "updates" }
     ensures view { VIEW.now ≡ codes "view" }
     ensures view_name { VIEW_NAME.now ≡ codes "viewName" }
-{}
-
-/// A grant that is read of a body may be granted: its privilege, on the kind of what it is on.
-pub fn grants_may_be_granted()
-    ensures { GrantsMayBeGranted }
 {}

@@ -165,7 +165,7 @@ impl Form for GrantType {
     }
 }
 
-/// A grant, whose privilege may be granted on what it is on (GrantResource).
+/// A grant (GrantResource). Whether its privilege may be granted is judged before what it is on is read.
 #[tactic(auto, unfolding(crate::specs::ManagementBodies::grant))]
 impl Form for Held<Grant> {
     ghost shape = { spec.grant };
@@ -178,7 +178,10 @@ impl Form for Held<Grant> {
         let may = holds(alloc, grantable(privilege, kind.kind()));
         under_key(alloc, keys::PRIVILEGE, may)?;
         let on = granted_on(alloc, value, kind)?;
-        Ok(Held::new(Grant { privilege, on }))
+        match Grant::new(privilege, on) {
+            Some(grant) => Ok(Held::new(grant)),
+            None => Err(ReadError::here(alloc)),
+        }
     }
 }
 

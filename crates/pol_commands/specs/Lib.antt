@@ -1,3 +1,4 @@
-pub mod Proper
+pub mod Grants
+pub mod Kind
 pub mod Reply
 pub mod Securables

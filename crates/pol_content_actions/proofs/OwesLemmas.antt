@@ -1,6 +1,5 @@
 -- What each action on sessions, catalogues and namespaces owes.
 use Rattle.std.proofs.Common.{◌≡◌, ℕ, ◌+◌, ◌≤◌, ◌^◌, Bool, codes, List, [], ◌∷◌, ◌++◌, filter, Option, None, Some, refl, sym, ap, subst, ◌∙◌}
-use Rattle.std.specs.Bool.{⊤}
 use Rattle.std.proofs.lemmas.List.Elements.{filter-append}
 use Rattle.pol_access.specs.Names.{principal_role_named}
 use Rattle.pol_access.specs.declared.privilege.Privilege.{Privilege}
@@ -41,7 +40,7 @@ module _ (s : Rows) (command : Command) where
 
   -- each action owes this, where it is like in the live part
   abbrev OwesAlike : (Rows → Acting) → Type 0
-  OwesAlike act = Owes s command ⊤ (act s) (act live)
+  OwesAlike act = Owes s command (act s) (act live)
 
   -- a session that is opened is the same one
   opened-alike : (scopes : List (List ℕ)) (principal : PrincipalRow) → opened s command scopes principal ≡ opened live command scopes principal
@@ -93,7 +92,7 @@ module _ (s : Rows) (command : Command) where
       let rows = rows-opened scopes (client_of s client_id secret) in
       record {
         rows = rows;
-        sound = λ proper sound within passes. sound-opened client_id secret scopes sound within passes (client_of s client_id secret) refl;
+        sound = λ sound within passes. sound-opened client_id secret scopes sound within passes (client_of s client_id secret) refl;
         fair = fair-client client_id secret ⊳ fair-given (client_of s client_id secret) (λ principal. fair-scope principal.id scopes) ⊳ fair-limit s command rows ⊳ none-fair;
         answer = refl;
       }
@@ -111,7 +110,7 @@ module _ (s : Rows) (command : Command) where
       let rows = owes-done s command (principal_role_named (codes "service_admin") s.access) (with_catalog s row) (with_catalog live row) (λ role found. owes-apart s command (with_catalog s row role) refl (λ sound. leads-with_catalog s command sound row role refl)) in
       record {
         rows = rows;
-        sound = λ proper sound within passes. sound-create_catalog s command sound within name base allowed properties external passes;
+        sound = λ sound within passes. sound-create_catalog s command sound within name base allowed properties external passes;
         fair = fair-caller command ⊳ fair-need command _ ⊳ fair-catalog_taken name ⊳ fair-bad_text base ⊳ fair-bad_texts allowed ⊳ fair-unsupported_type external ⊳ fair-limit s command rows ⊳ none-fair;
         answer = refl;
       }
@@ -123,7 +122,7 @@ module _ (s : Rows) (command : Command) where
   pub owes-drop_catalog : (name : List ℕ) → OwesAlike (λ t. drop_catalog t command name)
   owes-drop_catalog name = record {
     rows = owes-done s command (catalog_named name s.content) _ _ (λ row found. owes-apart s command (without_catalog s row) refl (λ sound. leads-without_catalog s command sound name row found));
-    sound = λ proper sound within passes. sound-drop_catalog s command sound within name passes;
+    sound = λ sound within passes. sound-drop_catalog s command sound within name passes;
     fair = fair-caller command ⊳ fair-no_catalogue name ⊳ fair-need command _ ⊳ fair-inside name fair-catalog_holds ⊳ none-fair;
     answer = refl;
   }
@@ -138,7 +137,7 @@ module _ (s : Rows) (command : Command) where
       let rows = owes-done s command (catalog_named name s.content) (with_namespace s levels properties) (with_namespace live levels properties) (λ catalog found. owes-apart s command (with_namespace s levels properties catalog) refl (λ sound. leads-with_namespace s command sound levels properties catalog)) in
       record {
         rows = rows;
-        sound = λ proper sound within passes. sound-create_namespace s command sound within name levels properties passes;
+        sound = λ sound within passes. sound-create_namespace s command sound within name levels properties passes;
         fair = fair-caller command ⊳ fair-no_catalogue name ⊳ fair-inside name (λ catalog. fair-need command _) ⊳ fair-inside name (λ catalog. fair-no_parent catalog.id (parent_of levels)) ⊳ fair-inside name (fair-namespace_taken levels) ⊳ fair-limit s command rows ⊳ none-fair;
         answer = refl;
       }
@@ -158,7 +157,7 @@ module _ (s : Rows) (command : Command) where
   unfolding namespace_at
   owes-drop_namespace name levels = record {
     rows = owes-done s command (namespace_at s name levels) _ _ (λ row found. owes-apart s command (without_namespace s row) refl (λ sound. leads-without_namespace s command sound name levels row found));
-    sound = λ proper sound within passes. sound-drop_namespace s command sound within name levels passes;
+    sound = λ sound within passes. sound-drop_namespace s command sound within name levels passes;
     fair = fair-on_namespace _ name levels (fair-given (namespace_at s name levels) fair-namespace_holds ⊳ none-fair);
     answer = refl;
   }
@@ -169,7 +168,7 @@ module _ (s : Rows) (command : Command) where
       let rows = owes-done s command (namespace_at s name levels) (with_properties s removals updates) (with_properties live removals updates) (λ row found. owes-apart s command (with_properties s removals updates row) refl (λ sound. leads-with_properties s command sound name levels removals updates row found)) in
       record {
         rows = rows;
-        sound = λ proper sound within passes. sound-update_properties s command sound within name levels removals updates passes;
+        sound = λ sound within passes. sound-update_properties s command sound within name levels removals updates passes;
         fair = fair-on_namespace _ name levels (fair-key_twice removals updates ⊳ fair-limit s command rows ⊳ none-fair);
         answer = refl;
       }

@@ -1,8 +1,6 @@
 -- What each action on catalogue roles, joins and grants owes.
 use Rattle.std.proofs.Common.{ℕ, codes, List, refl}
-use Rattle.std.specs.Bool.{⊤}
 use Rattle.pol_content.specs.Content.{catalog_named}
-use Rattle.pol_commands.specs.Proper.{IsGrantable}
 use Rattle.pol_commands.specs.declared.command.Command.{Command}
 use Rattle.pol_commands.specs.declared.grants.Grant.{Grant}
 use Rattle.pol_state.specs.Rows.{Rows}
@@ -23,80 +21,80 @@ module _ (s : Rows) (command : Command) where
   live = live_part s
 
   -- each action owes this, where it is like in the live part
-  abbrev OwesAlike : Type 0 → (Rows → Acting) → Type 0
-  OwesAlike proper act = Owes s command proper (act s) (act live)
+  abbrev OwesAlike : (Rows → Acting) → Type 0
+  OwesAlike act = Owes s command (act s) (act live)
 
   -- roles of catalogues
-  pub owes-list_catalog_roles : (catalog : List ℕ) → OwesAlike ⊤ (λ t. list_catalog_roles t command catalog)
+  pub owes-list_catalog_roles : (catalog : List ℕ) → OwesAlike (λ t. list_catalog_roles t command catalog)
   owes-list_catalog_roles catalog = owes-reading s command (fair-in_catalog command catalog none-fair)
 
-  pub owes-create_catalog_role : (catalog name : List ℕ) → OwesAlike ⊤ (λ t. create_catalog_role t command catalog name)
+  pub owes-create_catalog_role : (catalog name : List ℕ) → OwesAlike (λ t. create_catalog_role t command catalog name)
   owes-create_catalog_role catalog name =
       let rows = owes-done s command (catalog_named catalog s.content) (with_role_in s name) (with_role_in live name) (λ owner found. owes-apart s command (with_role_in s name owner) refl (λ sound. leads-with_catalog_role s command sound (record { id = s.next_id; catalog = owner.id; name = name }) refl)) in
       record {
         rows = rows;
-        sound = λ proper sound within passes. sound-create_catalog_role s command sound within catalog name passes;
+        sound = λ sound within passes. sound-create_catalog_role s command sound within catalog name passes;
         fair = fair-in_catalog command catalog (fair-inside catalog (fair-catalog_role_taken name) ⊳ fair-limit s command rows ⊳ none-fair);
         answer = refl;
       }
 
-  pub owes-get_catalog_role : (catalog name : List ℕ) → OwesAlike ⊤ (λ t. get_catalog_role t command catalog name)
+  pub owes-get_catalog_role : (catalog name : List ℕ) → OwesAlike (λ t. get_catalog_role t command catalog name)
   owes-get_catalog_role catalog name =
       owes-reading s command (fair-in_catalog command catalog (fair-inside catalog (fair-no_catalog_role name) ⊳ none-fair))
 
-  pub owes-drop_catalog_role : (catalog name : List ℕ) → OwesAlike ⊤ (λ t. drop_catalog_role t command catalog name)
+  pub owes-drop_catalog_role : (catalog name : List ℕ) → OwesAlike (λ t. drop_catalog_role t command catalog name)
   owes-drop_catalog_role catalog name = record {
     rows = owes-done s command (catalog_role_at s catalog name) _ _ (λ row found. owes-apart s command (without_catalog_role s row) refl (λ sound. leads-without_catalog_role s command sound row (at-own s sound catalog name row (role-at s catalog name row found))));
-    sound = λ proper sound within passes. sound-drop_catalog_role s command sound within catalog name passes;
+    sound = λ sound within passes. sound-drop_catalog_role s command sound within catalog name passes;
     fair = fair-in_catalog command catalog (fair-inside catalog (fair-no_catalog_role name) ⊳ fair-reserved (codes "catalog_admin") name ⊳ none-fair);
     answer = refl;
   }
 
   -- joins
-  pub owes-list_joins : (catalog role : List ℕ) → OwesAlike ⊤ (λ t. list_joins t command catalog role)
+  pub owes-list_joins : (catalog role : List ℕ) → OwesAlike (λ t. list_joins t command catalog role)
   owes-list_joins catalog role = owes-reading s command (fair-in_catalog command catalog (fair-no_principal_role role ⊳ none-fair))
 
-  pub owes-add_join : (catalog role catalog_role : List ℕ) → OwesAlike ⊤ (λ t. add_join t command catalog role catalog_role)
+  pub owes-add_join : (catalog role catalog_role : List ℕ) → OwesAlike (λ t. add_join t command catalog role catalog_role)
   unfolding join_of
   owes-add_join catalog role catalog_role =
       let rows = owes-done s command (join_of s catalog role catalog_role) (with_join s) (with_join live) (λ row found. owes-apart s command (with_join s row) refl (λ sound. leads-with_join s command row)) in
       record {
         rows = rows;
-        sound = λ proper sound within passes. sound-add_join s command sound within catalog role catalog_role passes;
+        sound = λ sound within passes. sound-add_join s command sound within catalog role catalog_role passes;
         fair = fair-in_catalog command catalog (fair-no_principal_role role ⊳ fair-inside catalog (fair-no_catalog_role catalog_role) ⊳ fair-limit s command rows ⊳ none-fair);
         answer = refl;
       }
 
-  pub owes-end_join : (catalog role catalog_role : List ℕ) → OwesAlike ⊤ (λ t. end_join t command catalog role catalog_role)
+  pub owes-end_join : (catalog role catalog_role : List ℕ) → OwesAlike (λ t. end_join t command catalog role catalog_role)
   unfolding join_of
   owes-end_join catalog role catalog_role = record {
     rows = owes-done s command (join_of s catalog role catalog_role) _ _ (λ row found. owes-apart s command (without_join s row) refl (λ sound. leads-without_join s command sound row));
-    sound = λ proper sound within passes. sound-end_join s command sound within catalog role catalog_role passes;
+    sound = λ sound within passes. sound-end_join s command sound within catalog role catalog_role passes;
     fair = fair-in_catalog command catalog (fair-no_principal_role role ⊳ fair-inside catalog (fair-no_catalog_role catalog_role) ⊳ fair-given (join_of s catalog role catalog_role) (fair-no_join catalog_role) ⊳ fair-reserved_join role catalog_role ⊳ none-fair);
     answer = refl;
   }
 
   -- grants
-  pub owes-list_grants : (catalog role : List ℕ) → OwesAlike ⊤ (λ t. list_grants t command catalog role)
+  pub owes-list_grants : (catalog role : List ℕ) → OwesAlike (λ t. list_grants t command catalog role)
   owes-list_grants catalog role =
       owes-reading s command (fair-in_catalog command catalog (fair-inside catalog (fair-no_catalog_role role) ⊳ none-fair))
 
-  pub owes-add_grant : (catalog role : List ℕ) (grant : Grant) → OwesAlike (IsGrantable grant) (λ t. add_grant t command catalog role grant)
+  pub owes-add_grant : (catalog role : List ℕ) (grant : Grant) → OwesAlike (λ t. add_grant t command catalog role grant)
   unfolding grant_of
   owes-add_grant catalog role grant =
       let rows = owes-done s command (grant_of s catalog role grant) (with_grant s) (with_grant live) (λ row found. owes-apart s command (with_grant s row) refl (λ sound. leads-with_grant s command row)) in
       record {
         rows = rows;
-        sound = λ proper sound within passes. sound-add_grant s command sound within catalog role grant proper passes;
+        sound = λ sound within passes. sound-add_grant s command sound within catalog role grant passes;
         fair = fair-in_catalog command catalog (fair-inside catalog (fair-no_securable grant.on) ⊳ fair-inside catalog (fair-no_catalog_role role) ⊳ fair-limit s command rows ⊳ none-fair);
         answer = refl;
       }
 
-  pub owes-revoke : (catalog role : List ℕ) (grant : Grant) → OwesAlike ⊤ (λ t. revoke t command catalog role grant)
+  pub owes-revoke : (catalog role : List ℕ) (grant : Grant) → OwesAlike (λ t. revoke t command catalog role grant)
   unfolding grant_of
   owes-revoke catalog role grant = record {
     rows = owes-done s command (grant_of s catalog role grant) _ _ (λ row found. owes-apart s command (without_grant s row) refl (λ sound. leads-without_grant s command sound row));
-    sound = λ proper sound within passes. sound-revoke s command sound within catalog role grant passes;
+    sound = λ sound within passes. sound-revoke s command sound within catalog role grant passes;
     fair = fair-in_catalog command catalog (fair-inside catalog (fair-no_securable grant.on) ⊳ fair-inside catalog (fair-no_catalog_role role) ⊳ fair-given (grant_of s catalog role grant) fair-no_grant ⊳ fair-reserved_grant role grant ⊳ none-fair);
     answer = refl;
   }

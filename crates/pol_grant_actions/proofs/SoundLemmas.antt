@@ -33,8 +33,7 @@ use Rattle.pol_content.proofs.TiedContentLemmas as tied
 use Rattle.pol_content.proofs.TiesLemmas as ties
 use Rattle.pol_access.proofs.KeptLemmas.{found-passes}
 use Rattle.pol_content.proofs.TiesLemmas.{found-own, new_ids}
-use Rattle.pol_commands.specs.Proper as proper
-use Rattle.pol_commands.specs.Proper.{IsGrantable}
+use Rattle.pol_commands.specs.Kind as named_kind
 use Rattle.pol_commands.specs.declared.command.Command.{Command}
 use Rattle.pol_commands.specs.declared.grants.Grant.{Grant}
 use Rattle.pol_commands.specs.declared.grants.GrantedOn.{GrantedOn}
@@ -152,7 +151,7 @@ module _ (s : Rows) (command : Command) (sound : IsSound s) (within : IsWithin s
   record LiesIn (catalog : CatalogRow) (named : GrantedOn) (one : Securable) : Type 0 where
     lies : catalog_of one s.content ≡ Some catalog.id
     given_id : IsSecurableGiven s.next_id one
-    kind : kind_of one ≡ proper.kind_of named
+    kind : kind_of one ≡ named_kind.kind_of named
 
   lies-in : (name : List ℕ) (catalog : CatalogRow) (named : GrantedOn) (one : Securable) → catalog_named name s.content ≡ Some catalog → securable_in s named catalog ≡ Some one → LiesIn catalog named one
   lies-in name catalog on.Catalog one there found = subst (LiesIn catalog on.Catalog) (some_is (securable.Catalog catalog.id) one found) (record {
@@ -179,15 +178,15 @@ module _ (s : Rows) (command : Command) (sound : IsSound s) (within : IsWithin s
           let bounds = EachPasses-none (above quantity.Grants 100000 (length s.access.grants + 1) ∷ []) (sym (new_grant_limits s sound row new) ∙ few) in
           length-facts_with grant_row.the_row.coded row s.access.grants 100000 (above-within quantity.Grants 100000 (length s.access.grants + 1) bounds.0)
 
-  -- a grant that is added, of what may be granted
-  pub sound-add_grant : (catalog role : List ℕ) (grant : Grant) → IsGrantable grant → EachPasses (add_grant s command catalog role grant).rules → IsSound (stamped s command (add_grant s command catalog role grant).after)
-  sound-add_grant catalog role grant proper passes = sound-done s command sound within (grant_of s catalog role grant) (with_grant s) (λ row found.
+  -- a grant that is added
+  pub sound-add_grant : (catalog role : List ℕ) (grant : Grant) → EachPasses (add_grant s command catalog role grant).rules → IsSound (stamped s command (add_grant s command catalog role grant).after)
+  sound-add_grant catalog role grant passes = sound-done s command sound within (grant_of s catalog role grant) (with_grant s) (λ row found.
       let made = grant-found s catalog role grant row found in
       let few = sym (ap (λ one. over_limit (done s one (with_grant s))) found) ∙ passes.1.1.1.1.1.0 in
       let own = at-own s sound catalog role made.to made.to_there in
       let in_catalog = lies-in catalog made.to_there.owner grant.on made.one made.to_there.owner_there made.one_there in
       let to_known = known catalog_role_id made.to.id made.to s.access.catalog_roles own in
-      let allowed : grantable grant.privilege (kind_of made.one) ≡ true = ap (grantable grant.privilege) in_catalog.kind ∙ proper in
+      let allowed : grantable grant.privilege (kind_of made.one) ≡ true = ap (grantable grant.privilege) in_catalog.kind ∙ grant.proper in
       let lies : catalog_of made.one s.content ≡ Some made.to.catalog = in_catalog.lies ∙ ap Some (sym (at-named s catalog role made.to made.to_there).0) in
       access-sound s command sound within (with_grant s row).access
       (access.put_grant s.next_id s.access row sound.access (subst (IsGrantOf s.next_id s.access.catalog_roles) made.is (record { role = to_known; securable = in_catalog.given_id; allowed = allowed })) (grant-count row few))

@@ -1,5 +1,5 @@
 -- The actions on the grants of catalogue roles.
-use Rattle.std.specs.Prelude.{ℕ, List, [], ◌∷◌, filter, filter_map, Option, Some, None}
+use Rattle.std.specs.Prelude.{ℕ, List, [], ◌∷◌, filter, filter_map, Option, Some, None, option_and_then}
 use Rattle.std.specs.Option.{option_map}
 use Rattle.pol_access.specs.Order.{grants_in_order}
 use Rattle.pol_access.specs.Referent.{grant_names}
@@ -9,6 +9,7 @@ use Rattle.pol_access.specs.declared.rows.CatalogRoleRow.{CatalogRoleRow}
 use Rattle.pol_access.specs.declared.rows.GrantRow.{GrantRow}
 use Rattle.pol_access.specs.declared.securable.Securable.{Securable}
 use Rattle.pol_access.specs.declared.securable.Securable.TheVariants as securable
+use Rattle.pol_commands.specs.Grants.{grant_on}
 use Rattle.pol_commands.specs.declared.command.Command.{Command}
 use Rattle.pol_commands.specs.declared.grants.Grant.{Grant}
 use Rattle.pol_commands.specs.declared.grants.GrantedOn.{GrantedOn}
@@ -32,7 +33,7 @@ named_on s (securable.View id) = None
 
 -- a grant by the name of what it is on
 abbrev pub named_grant : Rows → GrantRow → Option Grant
-named_grant s row = option_map (λ one. record { privilege = row.privilege; on = one }) (named_on s row.securable)
+named_grant s row = option_and_then (grant_on row.privilege) (named_on s row.securable)
 
 -- the grants of a role, in the order of their rows
 abbrev pub grants_held : Rows → CatalogRoleRow → List Grant

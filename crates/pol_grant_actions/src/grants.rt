@@ -84,10 +84,7 @@ fn named_grant(state: &State, row: &GrantRow) -> Result<Option<Grant>, OutOfMemo
     ensures { IfOk result (λ grant. grant ≡ named_grant state.now.rows row.now) }
 {
     match named_on(state, row.securable)? {
-        Some(on) => Ok(Some(Grant {
-            privilege: row.privilege,
-            on,
-        })),
+        Some(on) => Ok(Grant::new(row.privilege, on)),
         None => Ok(None),
     }
 }

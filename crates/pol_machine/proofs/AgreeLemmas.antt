@@ -1,6 +1,5 @@
 -- A command does the same in a state and in its live part, and so in states that agree.
 use Rattle.std.proofs.Common.{◌∷◌, Option, None, Some, sym, ap, subst, ◌∙◌}
-use Rattle.pol_commands.specs.Proper.{IsProper}
 use Rattle.pol_commands.specs.declared.command.Command.{Command}
 use Rattle.pol_commands.specs.declared.reply.Refusal.{Refusal}
 use Rattle.pol_state.specs.Changes.{changes_between}
@@ -35,7 +34,7 @@ module _ (s : Rows) (sound : IsSound s) (command : Command) where
   abbrev other : Acting
   other = acting live command command.action
 
-  abbrev owed : Owes s command (IsProper command.action) action other
+  abbrev owed : Owes s command action other
   owed = owes s command command.action
 
   ends : DoSame s (next_state s command) (next_state live command)

@@ -1,6 +1,5 @@
 -- The first of the rules that fails.
 use Rattle.std.proofs.Common.{◌≡◌, [], ◌∷◌, Option, None, Some, refl, ◌∙◌, ◌≤◌, ◌+◌, ◌^◌, List, sym, ap, true, false, is_some, true≢false}
-use Rattle.pol_commands.specs.Proper.{IsProper}
 use Rattle.pol_commands.specs.Reply.{is_run_full}
 use Rattle.pol_commands.specs.declared.command.Command.{Command}
 use Rattle.pol_commands.specs.declared.reply.Answer.{Answer}
@@ -72,15 +71,15 @@ module _ (s : Rows) (command : Command) where
       ap (λ next. applied (changes_between s next) (time_of s command) command.charge s) (next-open open_) ∙ leads-first s command (first_refusal rules) action ((owes s command command.action).rows.leads sound) ∙ sym (next-open open_)
 
   -- the next state is sound
-  pub next-sound : IsSound s → command.moment ≤ 2 ^ 62 → IsProper command.action → IsSound (next_state s command)
+  pub next-sound : IsSound s → command.moment ≤ 2 ^ 62 → IsSound (next_state s command)
   unfolding next_state
-  next-sound sound moment proper = by (run_full s command.charge) refl
+  next-sound sound moment = by (run_full s command.charge) refl
     where
       by : (full : Option Refusal) → run_full s command.charge ≡ full → IsSound (next_by full s (stamped s command (rows_by (first_refusal rules) s action)))
       by (Some why) full = sound
       by None open_ =
           let within = within-bounds s command sound moment open_ in
-          sound-after s command sound within rules action ((owes s command command.action).sound proper sound within)
+          sound-after s command sound within rules action ((owes s command command.action).sound sound within)
 
   told_by : (first : Option Refusal) → is_run_full (reply_by first answer) ≡ tells_full first
   told_by None = refl

@@ -1,5 +1,4 @@
 -- What each action of the machine owes.
-use Rattle.pol_commands.specs.Proper.{IsProper}
 use Rattle.pol_commands.specs.declared.command.Action.{Action}
 use Rattle.pol_commands.specs.declared.command.Action.TheVariants.{OpenSession, GetConfig, ListCatalogs, CreateCatalog, GetCatalog, DropCatalog, ListNamespaces, CreateNamespace, LoadNamespace, HeadNamespace, DropNamespace, UpdateProperties, ListPrincipals, CreatePrincipal, GetPrincipal, DropPrincipal, Rotate, ListMembers, AddMember, EndMember, ListPrincipalRoles, CreatePrincipalRole, GetPrincipalRole, DropPrincipalRole, ListJoins, AddJoin, EndJoin, ListCatalogRoles, CreateCatalogRole, GetCatalogRole, DropCatalogRole, ListGrants, AddGrant, Revoke}
 use Rattle.pol_commands.specs.declared.command.Command.{Command}
@@ -12,7 +11,7 @@ use Rattle.pol_grant_actions.proofs.OwesLemmas.{owes-add_grant, owes-add_join, o
 use Rattle.pol_machine.specs.Machine.{acting}
 
 module _ (s : Rows) (command : Command) where
-  pub owes : (action : Action) → Owes s command (IsProper action) (acting s command action) (acting (live_part s) command action)
+  pub owes : (action : Action) → Owes s command (acting s command action) (acting (live_part s) command action)
   owes (OpenSession client_id secret scopes) = owes-open_session s command client_id secret scopes
   owes (GetConfig name) = owes-get_config s command name
   owes ListCatalogs = owes-list_catalogs s command

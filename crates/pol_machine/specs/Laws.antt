@@ -5,7 +5,6 @@ use Rattle.pol_rules.specs.Live.{live_part, Agree}
 use Rattle.pol_state.specs.Applied.{applied}
 use Rattle.pol_state.specs.Changes.{changes_between}
 use Rattle.pol_machine.specs.Machine.{acting, next_state, reply_of, rules_of}
-use Rattle.pol_commands.specs.Proper.{IsProper}
 use Rattle.pol_commands.specs.Reply.{is_run_full}
 use Rattle.pol_state.specs.Rows.{Rows}
 use Rattle.pol_rules.specs.Rules.{EachPasses, run_full, time_of}
@@ -13,9 +12,9 @@ use Rattle.pol_state.specs.Sound.{IsSound}
 use Rattle.pol_commands.specs.declared.command.Command.{Command}
 use Rattle.pol_commands.specs.declared.reply.Reply.TheVariants.{Answered}
 
--- the state after a command is sound, where a grant that it adds is of what may be granted
+-- the state after a command is sound
 abbrev pub NextStateIsSound : Type 0
-NextStateIsSound = (s : Rows) (command : Command) → IsSound s → command.moment ≤ 2 ^ 62 → IsProper command.action → IsSound (next_state s command)
+NextStateIsSound = (s : Rows) (command : Command) → IsSound s → command.moment ≤ 2 ^ 62 → IsSound (next_state s command)
 
 -- a command is answered exactly where each of its rules passes
 abbrev pub AnsweredWhereEachRulePasses : Type 0

@@ -1,8 +1,7 @@
 //! Laws of the machine: each is a function without a body, whose clause is the law.
 ghost use Rattle.pol_machine.specs.Laws.{AgreeingStatesDoAlike, AnsweredWhereEachRulePasses, ChangesLeadToNextState, FullRunChangesNothing, FullRunIsTold, LivePartAgrees, NextStateIsSound};
 
-/// The state after a command is sound, where the state before it is, its moment is at most 2^62, and a grant that it
-/// adds is of a privilege that may be granted there.
+/// The state after a command is sound, where the state before it is and its moment is at most 2^62.
 pub fn next_state_is_sound()
     ensures { NextStateIsSound }
 {}

@@ -1,6 +1,5 @@
 -- What each action on principals, principal roles and memberships owes.
 use Rattle.std.proofs.Common.{◌≡◌, ℕ, Bool, true, false, codes, List, Option, None, Some, refl, sym, ap, ◌∙◌, inl, inr, arith, true≢false}
-use Rattle.std.specs.Bool.{⊤}
 use Rattle.std.proofs.lemmas.Bool.{cases_Bool, eqb-true}
 use Rattle.pol_access.specs.Access.{principal_dropped, principal_id}
 use Rattle.pol_access.specs.Names.{principal_named, principal_role_named}
@@ -31,7 +30,7 @@ module _ (s : Rows) (command : Command) where
 
   -- each action owes this, where it is like in the live part
   abbrev OwesAlike : (Rows → Acting) → Type 0
-  OwesAlike act = Owes s command ⊤ (act s) (act live)
+  OwesAlike act = Owes s command (act s) (act live)
 
   -- a principal that is put is the one that was there, or takes the next id, which no session names
   put-returns : IsSound s → (row : PrincipalRow) → (knows principal_id row.id s.access.principals ≡ false → row.id ≡ s.next_id) → NoneReturns s (with_principal s row)
@@ -72,7 +71,7 @@ module _ (s : Rows) (command : Command) where
       let rows = owes-returning s command (with_new_principal s row) (λ sound. put-returns sound row (λ unknown. refl)) (λ sound. leads-with_new_principal s command sound row refl) in
       record {
         rows = rows;
-        sound = λ proper sound within passes. sound-create_principal s command sound within name client_id secret passes;
+        sound = λ sound within passes. sound-create_principal s command sound within name client_id secret passes;
         fair = fair-in_realm command (fair-principal_taken name ⊳ fair-client_taken client ⊳ fair-limit s command rows ⊳ none-fair);
         answer = refl;
       }
@@ -83,7 +82,7 @@ module _ (s : Rows) (command : Command) where
   pub owes-drop_principal : (name : List ℕ) → OwesAlike (λ t. drop_principal t command name)
   owes-drop_principal name = record {
     rows = owes-done s command (principal_named name s.access) _ _ (λ row found. owes-returning s command (without_principal s row) (λ sound. without-returns row.id) (λ sound. leads-without_principal s command sound row (principal-own s sound name row found)));
-    sound = λ proper sound within passes. sound-drop_principal s command sound within name passes;
+    sound = λ sound within passes. sound-drop_principal s command sound within name passes;
     fair = fair-in_realm command (fair-no_principal name ⊳ fair-reserved (codes "root") name ⊳ none-fair);
     answer = refl;
   }
@@ -99,7 +98,7 @@ module _ (s : Rows) (command : Command) where
       let opens = secret_or secret command.words.a command.words.b in
       record {
         rows = owes-done s command (principal_named name s.access) (rotated s opens) (rotated live opens) (λ row found. owes-returning s command (rotated s opens row) (λ sound. rotated-returns sound name opens row found) (λ sound. leads-rotated s command sound opens row (principal-own s sound name row found)));
-        sound = λ proper sound within passes. sound-rotate s command sound within name secret passes;
+        sound = λ sound within passes. sound-rotate s command sound within name secret passes;
         fair = fair-in_realm command (fair-no_principal name ⊳ none-fair);
         answer = refl;
       }
@@ -114,7 +113,7 @@ module _ (s : Rows) (command : Command) where
       let rows = owes-done s command (member_of s principal role) (with_member s) (with_member live) (λ row found. owes-apart s command (with_member s row) refl (λ sound. leads-with_member s command row)) in
       record {
         rows = rows;
-        sound = λ proper sound within passes. sound-add_member s command sound within principal role passes;
+        sound = λ sound within passes. sound-add_member s command sound within principal role passes;
         fair = fair-in_realm command (fair-no_principal principal ⊳ fair-no_principal_role role ⊳ fair-limit s command rows ⊳ none-fair);
         answer = refl;
       }
@@ -123,7 +122,7 @@ module _ (s : Rows) (command : Command) where
   unfolding member_of
   owes-end_member principal role = record {
     rows = owes-done s command (member_of s principal role) _ _ (λ row found. owes-apart s command (without_member s row) refl (λ sound. leads-without_member s command sound row));
-    sound = λ proper sound within passes. sound-end_member s command sound within principal role passes;
+    sound = λ sound within passes. sound-end_member s command sound within principal role passes;
     fair = fair-in_realm command (fair-no_principal principal ⊳ fair-no_principal_role role ⊳ fair-given (member_of s principal role) (fair-no_member role) ⊳ fair-reserved_member principal role ⊳ none-fair);
     answer = refl;
   }
@@ -138,7 +137,7 @@ module _ (s : Rows) (command : Command) where
       let rows = owes-apart s command (with_principal_role s row) refl (λ sound. leads-with_principal_role s command sound row refl) in
       record {
         rows = rows;
-        sound = λ proper sound within passes. sound-create_principal_role s command sound within name passes;
+        sound = λ sound within passes. sound-create_principal_role s command sound within name passes;
         fair = fair-in_realm command (fair-principal_role_taken name ⊳ fair-limit s command rows ⊳ none-fair);
         answer = refl;
       }
@@ -149,7 +148,7 @@ module _ (s : Rows) (command : Command) where
   pub owes-drop_principal_role : (name : List ℕ) → OwesAlike (λ t. drop_principal_role t command name)
   owes-drop_principal_role name = record {
     rows = owes-done s command (principal_role_named name s.access) _ _ (λ row found. owes-apart s command (without_principal_role s row) refl (λ sound. leads-without_principal_role s command sound row (role-own s sound name row found)));
-    sound = λ proper sound within passes. sound-drop_principal_role s command sound within name passes;
+    sound = λ sound within passes. sound-drop_principal_role s command sound within name passes;
     fair = fair-in_realm command (fair-no_principal_role name ⊳ fair-reserved (codes "service_admin") name ⊳ none-fair);
     answer = refl;
   }

@@ -1,5 +1,4 @@
 pub mod FieldLemmas
-pub mod ProperLemmas
 pub mod QueryLemmas
 pub mod RouteLemmas
 pub mod ScopeLemmas

@@ -1,18 +1,10 @@
--- Laws of plans.
+-- Laws of routes.
 use Rattle.std.specs.Prelude.{◌≡◌, ℕ, true, List, Ok}
 use Rattle.std.specs.List.{All}
 use Rattle.matchit.specs.Level.{IsText}
 use Rattle.matchit.specs.Route.{Scan, parse_route}
-use Rattle.pol_http.specs.Message.{Message}
-use Rattle.pol_commands.specs.Proper.{IsProper}
-use Rattle.pol_routes.specs.declared.plans.Planned.{Planned}
 use Rattle.pol_requests.specs.Table.{Entry, table}
-use Rattle.pol_routes.specs.Plan.{plan_of}
 use Rattle.pol_routes.specs.Route.{fits, row_of}
-
--- the action of each plan is proper
-abbrev pub PlansAreProper : Type 0
-PlansAreProper = (message : Message) (planned : Planned) → plan_of message ≡ Ok planned → IsProper planned.action
 
 -- the path of the row is a route, and the row of each path of its pattern that is asked for by its method is this one
 unfoldable pub IsServed : Entry → Type 0

@@ -2,12 +2,7 @@
 ghost use Rattle.std.specs.Prelude.{◌≡◌};
 ghost use Rattle.pol_routes.specs.declared.plans.TheConstants.{REQUEST_CHARGE};
 ghost use Rattle.pol_routes.specs.declared.token_form.TheConstants.{SCOPE_LIMIT};
-ghost use Rattle.pol_routes.specs.Laws.{EachRowIsServed, PlansAreProper};
-
-/// No message is planned as a grant, or as the end of one, of a privilege that may not be granted on what it is on.
-pub fn plans_are_proper()
-    ensures { PlansAreProper }
-{}
+ghost use Rattle.pol_routes.specs.Laws.{EachRowIsServed};
 
 /// A request is charged 512 beside its bytes, and a token request has at most 16 scopes.
 pub fn bounds_are_those()

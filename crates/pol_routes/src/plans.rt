@@ -1,8 +1,7 @@
 //! What a message asks of the catalogue, and the command of such a plan.
-ghost use Rattle.std.specs.Prelude.{◌≡◌, IfOk, IsUtf8};
+ghost use Rattle.std.specs.Prelude.{◌≡◌, IsUtf8};
 ghost use Rattle.pol_http.specs.Message.{Message};
 ghost use Rattle.pol_http.specs.Next.{IsMessageAt, LiesWithin};
-ghost use Rattle.pol_commands.specs.Proper.{IsProper};
 ghost use Rattle.pol_requests.specs.Refused.{Gives};
 ghost use Rattle.pol_routes.specs.Plan as spec;
 ghost use Rattle.pol_routes.specs.Route as route;
@@ -34,7 +33,7 @@ pub struct Planned {
 }
 
 /// The plan of the message of which these are the ranges: its route, its method, whether such requests are served
-/// yet, and then what it holds, in this order. A privilege that is granted or revoked may be granted on what it is on.
+/// yet, and then what it holds, in this order.
 #[tactic(auto, unfolding(crate::specs::Plan::plan_of))]
 pub fn plan(
     alloc: Global,
@@ -44,9 +43,8 @@ pub fn plan(
     body: Span,
 ) -> Result<Planned, Unplanned>
     requires { LiesWithin bytes.now head.now body body.end }
-    ensures exact { (message : Message) → IsMessageAt bytes.now head.now body body.end message
+    ensures { (message : Message) → IsMessageAt bytes.now head.now body body.end message
         → Gives (spec.plan_of message) result }
-    ensures proper { IfOk result (λ planned. IsProper planned.action) }
 {
     let target = head.target.of(bytes);
     let row = row_of(routes, head.method.of(bytes), target)?;

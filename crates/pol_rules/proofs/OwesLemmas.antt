@@ -1,6 +1,5 @@
 -- What each action owes: its changes lead to its rows after, it keeps soundness, and the live part does the same.
 use Rattle.std.proofs.Common.{◌≡◌, ◌+◌, true, ◌++◌, ◌∙◌, List, filter, Option, None, Some, nat_lt, refl, sym, subst, arith}
-use Rattle.std.specs.Bool.{⊤}
 use Rattle.std.specs.List.{AllByRecursion}
 use Rattle.std.proofs.lemmas.Bool.{and_parts}
 use Rattle.pol_access.specs.Access.{principal_id}
@@ -45,11 +44,11 @@ module _ (s : Rows) (command : Command) where
     pub same : IsSound s → DoSame s (stamped s command after) (stamped (live_part s) command live)
     pub bounds : over_limit after ≡ over_limit live
 
-  -- what is owed of an action, where it is proper: besides, it keeps soundness where its rules pass, none of them tells
-  -- that the run is full, and in the live part they are judged alike and the answer is the same
-  pub record Owes (proper : Type 0) (action live : Acting) : Type 0 where
+  -- what is owed of an action: besides, it keeps soundness where its rules pass, none of them tells that the run is
+  -- full, and in the live part they are judged alike and the answer is the same
+  pub record Owes (action live : Acting) : Type 0 where
     pub rows : OwesRows action.after live.after
-    pub sound : proper → IsSound s → IsWithin s command → EachPasses action.rules → IsSound (stamped s command action.after)
+    pub sound : IsSound s → IsWithin s command → EachPasses action.rules → IsSound (stamped s command action.after)
     pub fair : AreFair s action.rules live.rules
     pub answer : action.answer ≡ live.answer
 
@@ -106,10 +105,10 @@ module _ (s : Rows) (command : Command) where
   owes-done (Some one) after live rows = rows one refl
 
   -- an action that changes nothing
-  pub owes-reading : {rules live : List (Option Refusal)} {answer : Answer} → AreFair s rules live → Owes ⊤ (reading s rules answer) (reading (live_part s) live answer)
+  pub owes-reading : {rules live : List (Option Refusal)} {answer : Answer} → AreFair s rules live → Owes (reading s rules answer) (reading (live_part s) live answer)
   owes-reading fair = record {
     rows = owes-same;
-    sound = λ proper sound within passes. stamped-sound s command sound within;
+    sound = λ sound within passes. stamped-sound s command sound within;
     fair = fair;
     answer = refl;
   }

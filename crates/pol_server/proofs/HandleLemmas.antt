@@ -52,10 +52,6 @@ pub charge-command : (planned : Planned) (moment : ℕ) (words : Words4) → (co
 unfolding command_of
 charge-command planned moment words = refl
 
-pub action-command : (planned : Planned) (moment : ℕ) (words : Words4) → (command_of planned moment words).action ≡ planned.action
-unfolding command_of
-action-command planned moment words = refl
-
 -- what a plan that was answered tells of the one that is expected
 pub planned-by : (expected : Result Planned RouteRefused) (plan : Planned) → Gives expected (Ok plan) → expected ≡ Ok plan
 planned-by expected plan (inl is) = sym is

@@ -3,7 +3,6 @@ ghost use Rattle.std.specs.Prelude.{◌≡◌, ◌≢◌, ◌≤◌, ◌^◌, Ok
 ghost use Rattle.std.specs.Option.{option_map};
 ghost use Rattle.std.specs.Str.{bytes_eq};
 ghost use Rattle.httparse.specs.Spans.{span_bytes, IsWithin};
-ghost use Rattle.pol_commands.specs.Proper.{IsProper};
 ghost use Rattle.pol_http.specs.Answer.{answer_text};
 ghost use Rattle.pol_http.specs.Head.{closes};
 ghost use Rattle.pol_http.specs.Message.{Message};
@@ -145,7 +144,6 @@ fn answer_plan<L: Linked>(
     planned: Planned,
     framing: Framing,
 ) -> Handled
-    requires { IsProper planned.action }
     ensures { (message : Message) → plan_of message ≡ Ok planned → framing.close ≡ closes message.head → framing.head_only ≡ is_head message
         → Handles (L.ends link.old) (L.ends link.new) catalogue.old catalogue.new message result.place (option_map (λ text. text.items) result.text) }
 {
@@ -166,8 +164,7 @@ fn answer_plan<L: Linked>(
 
 /// Steps a command.
 fn step(alloc: Global, catalogue: &mut Kept, command: Command, framing: Framing) -> Handled
-    requires moment { command.moment ≤ 2 ^ 62 }
-    requires proper { IsProper command.action }
+    requires { command.moment ≤ 2 ^ 62 }
     ensures { IsEntered catalogue.old catalogue.new command framing.close framing.head_only result.place (option_map (λ text. text.items) result.text) }
 {
     match catalogue.step(alloc, FOUNDING, command, &framing) {

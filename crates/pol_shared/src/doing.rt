@@ -1,6 +1,5 @@
 //! The parts of a step, over the state and the history themselves.
 ghost use Rattle.std.specs.Prelude.{ℕ, ◌≡◌, ◌≢◌, ◌<◌, ◌≤◌, ◌+◌, ◌^◌, [], ◌∷◌, ◌++◌, length, vec_len, vec_capacity, IfOk, MatchOption, OnOk};
-ghost use Rattle.pol_commands.specs.Proper.{IsProper};
 ghost use Rattle.pol_state.specs.Applied.{HasRoom};
 ghost use Rattle.pol_state.specs.Changes.{changes_between};
 ghost use Rattle.pol_machine.specs.Machine.{next_state, reply_of};
@@ -66,7 +65,6 @@ pub(crate) fn enter(
 ) -> u64
     requires sound { IsSound state.old.rows }
     requires moment { entry.command.moment ≤ 2 ^ 62 }
-    requires proper { IsProper entry.command.action }
     requires open { state.old.rows.charged + entry.command.charge ≤ 2 ^ 30 }
     requires changes { changes.items ≡ changes_between state.old.rows (next_state state.old.rows entry.command) }
     requires room { HasRoom changes.items state.old.room }

@@ -1,5 +1,4 @@
 ghost use Rattle.std.specs.Prelude.{◌≡◌, ◌≤◌, ◌^◌, [], IfOk};
-ghost use Rattle.pol_commands.specs.Proper.{IsProper};
 ghost use Rattle.pol_state.specs.Rows.{fresh_state};
 ghost use Rattle.pol_state.specs.Sound.{IsSound};
 ghost use Rattle.pol_shared.specs.History.{state_of};
@@ -59,8 +58,7 @@ impl Kept {
         command: Command,
         render: &R,
     ) -> Stepped<R::Out>
-        requires moment { command.moment ≤ 2 ^ 62 }
-        requires proper { IsProper command.action }
+        requires { command.moment ≤ 2 ^ 62 }
         ensures { Steps (R.renders render.now) self.old self.new number command result }
     {
         let Ok((decision, out)) = answer(alloc, &self.state, &command, render) else {

@@ -1,6 +1,5 @@
 //! A run whose charges are at their bound, and a state without a serial left.
 ghost use Rattle.std.specs.Prelude.{◌≡◌, ◌≤◌, ◌^◌, IfOk, ⊤};
-ghost use Rattle.pol_commands.specs.Proper.{IsProper};
 ghost use Rattle.pol_state.specs.Sound.{IsSound};
 
 use pol_machine::{
@@ -22,8 +21,7 @@ fn opening(
     scope: Option<&str>,
     charge: u64,
 ) -> Result<Command, AllocError>
-    ensures moment { IfOk result (λ command. command.moment ≡ 1000) }
-    ensures proper { IfOk result (λ command. IsProper command.action) }
+    ensures { IfOk result (λ command. command.moment ≡ 1000) }
 {
     let client_id = Text::from(String::from_str(alloc, "root")?);
     let secret = Text::from(String::from_str(alloc, secret)?);

@@ -1,20 +1,15 @@
 use Rattle.std.proofs.Common.{◌≡◌, ◌≤◌, ◌^◌, arith, sym, subst, ◌∙◌, ap, Ok, Err}
 use Rattle.std.specs.Option.{option_map}
-use Rattle.pol_commands.specs.Proper.{IsProper}
 use Rattle.pol_answers.specs.Texts.{draw_fault_answer}
 use Rattle.pol_routes.specs.Plan.{command_of}
 use Rattle.pol_server.specs.Serving.{Handles, IsEntered}
 use Rattle.pol_server.specs.Turn.{words_of}
 use Rattle.pol_server.specs.declared.served.Place.TheVariants.{NoEntry}
-use Rattle.pol_server.proofs.HandleLemmas.{action-command, handles-entered, handles-undrawn, kept-text, moment-command, read-for, reads-draws}
+use Rattle.pol_server.proofs.HandleLemmas.{handles-entered, handles-undrawn, kept-text, moment-command, read-for, reads-draws}
 use Rattle.pol_server.proofs.handle.answer_plan.Goals as goal
 
-pub step-requires-clause-proper : goal.step-requires-clause-proper
-step-requires-clause-proper g c =
-    subst IsProper (sym (ap (λ command. command.action) c.command_of.ensures ∙ action-command c.args.planned c.now-moment.result c.in-Ok.words)) c.requires
-
-pub step-requires-clause-moment : goal.step-requires-clause-moment
-step-requires-clause-moment g c =
+pub step-requires : goal.step-requires
+step-requires g c =
     subst (λ moment. moment ≤ 2 ^ 62) (sym (ap (λ command. command.moment) c.command_of.ensures ∙ moment-command c.args.planned c.now-moment.result c.in-Ok.words)) c.now-moment.ensures.bound
 
 pub returns-in-Ok : goal.returns-in-Ok

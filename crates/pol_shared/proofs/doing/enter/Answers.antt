@@ -10,7 +10,7 @@ apply-requires-clause-sound c =
     let s = c.args.state.now.rows in
     let command = c.args.entry.command in
     let time_is : c.max-time.result ≡ time_of s command = omega arith in
-    subst IsSound (sym (changes-enter s command c.args.changes.items c.max-time.result c.requires.sound c.requires.open c.requires.changes time_is)) (next-sound s command c.requires.sound c.requires.moment c.requires.proper)
+    subst IsSound (sym (changes-enter s command c.args.changes.items c.max-time.result c.requires.sound c.requires.open c.requires.changes time_is)) (next-sound s command c.requires.sound c.requires.moment)
 
 pub returns-clause-rows : goal.returns-clause-rows
 returns-clause-rows c =
