@@ -1,6 +1,6 @@
 -- One message: what was read for it, and how it was answered.
 use Rattle.std.proofs.Common.{◌≡◌, ◌<◌, ◌≤◌, ◌+◌, ◌-◌, ◌^◌, ◌⊎◌, ℕ, Bool, List, [], ◌∷◌, ◌++◌, length, take, Option, Some, None, Result, Ok, Err, Vec, Global, refl, sym, ap, subst, ◌∙◌, inl, inr, arith, append-nil, length-append}
-use Rattle.std.specs.Prelude.{◌≢◌, IfOk, IfSome, OnOk, slice_get}
+use Rattle.std.specs.Prelude.{IfOk, IfSome, slice_get}
 use Rattle.std.specs.Option.{option_map}
 use Rattle.std.specs.Result.{result_ok}
 use Rattle.std.proofs.Math.Seq.{get_or-append_seam, take-append_seam, take-length}
@@ -15,9 +15,7 @@ use Rattle.pol_commands.specs.declared.command.Command.{Command}
 use Rattle.pol_commands.specs.declared.command.Words4.{Words4}
 use Rattle.pol_commands.specs.declared.reply.Refusal.TheVariants as refusal
 use Rattle.pol_commands.specs.declared.reply.Reply.TheVariants.{Refused}
-use Rattle.pol_requests.specs.Refused.{Gives}
 use Rattle.pol_requests.specs.declared.refused.RouteRefused.{RouteRefused}
-use Rattle.pol_requests.specs.declared.refused.RouteRefused.TheVariants as refused
 use Rattle.pol_answers.specs.Texts.{answer_of, draw_fault_answer, refusal_answer}
 use Rattle.pol_routes.specs.Plan.{command_of, plan_of}
 use Rattle.pol_routes.specs.declared.plans.Planned.{Planned}
@@ -51,15 +49,6 @@ moment-command planned moment words = refl
 pub charge-command : (planned : Planned) (moment : ℕ) (words : Words4) → (command_of planned moment words).charge ≡ planned.charge
 unfolding command_of
 charge-command planned moment words = refl
-
--- what a plan that was answered tells of the one that is expected
-pub planned-by : (expected : Result Planned RouteRefused) (plan : Planned) → Gives expected (Ok plan) → expected ≡ Ok plan
-planned-by expected plan (inl is) = sym is
-planned-by expected plan (inr contrary) = cc
-
-refused-by : (expected : Result Planned RouteRefused) (why : RouteRefused) → Gives expected (Err why) → why ≢ refused.OutOfMemory → expected ≡ Err why
-refused-by expected why (inl is) other = sym is
-refused-by expected why (inr contrary) other = let is : why ≡ refused.OutOfMemory = cc in absurd (other is)
 
 module _ (ends : Ends) (log : Log) (message : Message) where
   -- memory was wanting before the clock was read
@@ -102,13 +91,13 @@ module _ (ends : Ends) (log : Log) (message : Message) where
   }
 
   -- the plan was refused, and the text was made or not
-  pub handles-refusal : {E : Type 0} (why : RouteRefused) (result : Result (Vec ℕ Global) E) (close head_only : Bool) → Gives (plan_of message) (Err why) → close ≡ closes message.head → head_only ≡ is_head message
-      → OnOk result (why ≢ refused.OutOfMemory) → IfOk result (λ bytes. bytes.items ≡ answer_text (framed close head_only (refusal_answer why)))
+  pub handles-refusal : {E : Type 0} (why : RouteRefused) (result : Result (Vec ℕ Global) E) (close head_only : Bool) → plan_of message ≡ Err why → close ≡ closes message.head → head_only ≡ is_head message
+      → IfOk result (λ bytes. bytes.items ≡ answer_text (framed close head_only (refusal_answer why)))
       → Handles ends ends log log message NoEntry (option_map (λ bytes. bytes.items) (result_ok result))
-  handles-refusal why (Ok bytes) close head_only plans closing heading other text_is =
-      handles-refused why (Some bytes.items) (refused-by (plan_of message) why plans other)
+  handles-refusal why (Ok bytes) close head_only refused closing heading text_is =
+      handles-refused why (Some bytes.items) refused
       (text_is ∙ ap (λ close. answer_text (framed close head_only (refusal_answer why))) closing ∙ ap (λ head_only. answer_text (framed (closes message.head) head_only (refusal_answer why))) heading)
-  handles-refusal why (Err error) close head_only plans closing heading other text_is = handles-nothing
+  handles-refusal why (Err error) close head_only refused closing heading text_is = handles-nothing
 
 -- reading the clock leaves the draw
 pub reads-draws : (old now : Ends) (moment : ℕ) → Reads old now moment → now.draw_faults ≡ old.draw_faults

@@ -1,5 +1,5 @@
 //! One message, from its plan to the text of its answer.
-ghost use Rattle.std.specs.Prelude.{◌≡◌, ◌≢◌, ◌≤◌, ◌^◌, Ok, IfOk, OnOk, codes, length};
+ghost use Rattle.std.specs.Prelude.{◌≡◌, ◌≤◌, ◌^◌, Ok, IfOk, codes, length};
 ghost use Rattle.std.specs.Option.{option_map};
 ghost use Rattle.std.specs.Str.{bytes_eq};
 ghost use Rattle.httparse.specs.Spans.{span_bytes, IsWithin};
@@ -19,7 +19,7 @@ use httparse::spans::Span;
 use pol_answers::{answer_of, draw_fault_answer, head_refused_answer, refusal_answer};
 use pol_http::{Answer, Head, HeadRefused, write_answer};
 use pol_machine::{Command, Reply};
-use pol_requests::RouteRefused;
+use pol_requests::{RouteRefused, Unplanned};
 use pol_routes::{Planned, Routes, command_of, plan};
 use pol_shared::{Kept, Render, Stepped};
 use pol_types::OutOfMemory;
@@ -97,26 +97,26 @@ pub(crate) fn handle<L: Linked>(
     let framing = framing_of(bytes, head);
     match plan(alloc, routes, bytes, head, body) {
         Ok(planned) => answer_plan(alloc, catalogue, link, planned, framing),
-        Err(refused) => Handled {
+        Err(Unplanned::Refused(refused)) => Handled {
             place: Place::NoEntry,
             text: refusal_text(alloc, &refused, framing).ok(),
+        },
+        Err(Unplanned::OutOfMemory) => Handled {
+            place: Place::NoEntry,
+            text: None,
         },
     }
 }
 
-/// The text of a refusal, which has none where memory was wanting.
+/// The text of a refusal.
 fn refusal_text(
     alloc: Global,
     refused: &RouteRefused,
     framing: Framing,
 ) -> Result<Vec<u8>, OutOfMemory>
-    ensures refused { OnOk result (refused.now ≢ RouteRefused.OutOfMemory) }
-    ensures text { IfOk result (λ bytes. bytes.items ≡ answer_text (framed framing.close framing.head_only (text.refusal_answer refused.now))) }
+    ensures { IfOk result (λ bytes. bytes.items ≡ answer_text (framed framing.close framing.head_only (text.refusal_answer refused.now))) }
 {
-    match refused {
-        RouteRefused::OutOfMemory => Err(OutOfMemory),
-        _ => text(alloc, refusal_answer(alloc, refused)?, framing),
-    }
+    text(alloc, refusal_answer(alloc, refused)?, framing)
 }
 
 /// The text of a refused head, after which the connection ends.
