@@ -17,6 +17,10 @@ TRANSFORMS = ["identity", "void", "year", "month", "day", "hour", "bucket[16]", 
 ODD_TRANSFORMS = ["bucket[0]", "truncate[0]", "bucket[2147483648]", "bucket[016]", "bucket", "bucket[-1]", "years", ""]
 NUMBERS = [0, -1, 1, 3, 999, 1000, 1001, 2147483446, 2147483447, 2147483448, 2147483646, 2147483647, 2147483648, 2**64]
 # Numbers as they are written, in place of a text that holds them.
+UUIDS = ["00010203-0405-0607-0809-0a0b0c0d0e0f", "00010203-0405-0607-0809-0A0B0C0D0E0F"]
+UUIDS += ["000102030405060708090a0b0c0d0e0f", "{00010203-0405-0607-0809-0a0b0c0d0e0f}"]
+UUIDS += ["URN:uuid:00010203-0405-0607-0809-0a0b0c0d0e0f"]
+ODD_UUIDS = ["", "00010203-0405-0607-08090a0b-0c0d0e0f0", "g0010203-0405-0607-0809-0a0b0c0d0e0f", "{" + "0" * 37]
 WRITTEN = ["1.0", "1e0", "-0", "0.0", "1E400", "1e308", "18446744073709551616", "-1", "00", "[", "nul"]
 MARK = "written:"
 
@@ -29,14 +33,16 @@ class RandomTables:
 
     def next(self):
         """The text of a body."""
-        self.ids = self.random.sample(range(1, 60), 40)
-        if self.random.random() < 0.03:
-            self.ids[0] = 2_147_483_447
-        self.columns, self.fields = [], []
-        body = self.body()
+        return self.printed(self.broken_at_times(self.body()))
+
+    def next_metadata(self):
+        """The text of a whole metadata."""
+        return self.printed(self.broken_at_times(self.metadata()))
+
+    def broken_at_times(self, body):
         for _ in range(self.random.choice([0, 1, 1, 1, 1, 2])):
             body = self.broken(body)
-        return self.printed(body)
+        return body
 
     def pick(self, *found):
         return self.random.choice(found)
@@ -53,16 +59,23 @@ class RandomTables:
 
     # What is right
 
-    def body(self):
-        schema = {"type": "struct", "fields": self.struct_fields(3), "schema-id": self.pick(0, 7, 2147483647, None)}
+    def schema(self):
+        self.ids = self.random.sample(range(1, 60), 40)
+        if self.random.random() < 0.03:
+            self.ids[0] = 2_147_483_447
+        self.columns, self.fields = [], []
+        schema = {"type": "struct", "fields": self.struct_fields(3), "schema-id": self.pick(0, 7, 2147483647)}
         identifiers = self.random.sample(self.fields, self.random.randint(0, min(2, len(self.fields))))
         schema["identifier-field-ids"] = self.pick(identifiers, None)
+        return self.without_some(schema, "identifier-field-ids")
+
+    def body(self):
         body = {
             "name": self.pick("t", "x" * 128, "a/b", "é"),
             "location": self.random.choice(LOCATIONS),
-            "schema": self.without_some(schema, "schema-id", "identifier-field-ids"),
-            "partition-spec": self.spec(),
-            "write-order": self.order(),
+            "schema": self.without_some(self.schema(), "schema-id"),
+            "partition-spec": self.without_some(self.spec(), "spec-id"),
+            "write-order": self.without_some(self.order(), "order-id"),
             "stage-create": self.pick(True, False, None),
             "properties": {key: self.pick("v", "", "é") for key in self.names(3)},
             "more": {"fields": 1},
@@ -111,7 +124,7 @@ class RandomTables:
             for id, name in zip(given, names)
         ]
         fields = [self.without_some(field, "field-id") for field in fields]
-        return self.without_some({"spec-id": self.pick(0, 3, None), "fields": fields}, "spec-id")
+        return {"spec-id": self.pick(0, 3, 2147483647), "fields": fields}
 
     def order(self):
         fields = [
@@ -123,7 +136,60 @@ class RandomTables:
             }
             for _ in range(self.random.randint(0, 2) if self.columns else 0)
         ]
-        return self.without_some({"order-id": self.pick(0, 1, None), "fields": fields}, "order-id")
+        return {"order-id": self.pick(0, 1, 2147483647), "fields": fields}
+
+    def long(self):
+        return self.pick(0, 1, 1700000000000, 2**63 - 1)
+
+    def some(self, make):
+        return [make() for _ in range(self.random.randint(0, 2))]
+
+    def snapshot(self):
+        snapshot = {
+            "snapshot-id": self.long(),
+            "parent-snapshot-id": self.pick(self.long(), None),
+            "sequence-number": self.long(),
+            "timestamp-ms": self.long(),
+            "manifest-list": self.pick("lake://b/t/m", ""),
+            "summary": {"operation": self.pick("append", "replace", "overwrite", "delete"), "é": "1"},
+            "schema-id": self.pick(0, 7, None),
+        }
+        return self.without_some(snapshot, "parent-snapshot-id", "schema-id")
+
+    def reference(self):
+        keys = ("max-ref-age-ms", "max-snapshot-age-ms", "min-snapshots-to-keep")
+        kept = {key: self.pick(1, 5, 2**63 - 1, None) for key in keys}
+        return {"type": self.pick("branch", "tag"), "snapshot-id": self.long(), **self.without_some(kept, *kept)}
+
+    def metadata(self):
+        schemas = self.some(self.schema) + [self.schema()]
+        specs = self.some(self.spec)
+        for spec in specs:
+            for place, field in enumerate(spec["fields"]):
+                field["field-id"] = 1000 + place
+        metadata = {
+            "current-schema-id": 0,
+            "current-snapshot-id": self.pick(self.long(), None),
+            "default-sort-order-id": 0,
+            "default-spec-id": 2147483647,
+            "format-version": 2,
+            "last-column-id": self.pick(0, 2147483447),
+            "last-partition-id": self.pick(999, 2147483647),
+            "last-sequence-number": self.long(),
+            "last-updated-ms": self.long(),
+            "location": self.pick("lake://b/t", ""),
+            "metadata-log": self.some(lambda: {"metadata-file": "f", "timestamp-ms": self.long()}),
+            "partition-specs": specs,
+            "properties": {key: "v" for key in self.names(2)},
+            "refs": {name: self.reference() for name in self.names(2)},
+            "schemas": schemas,
+            "snapshot-log": self.some(lambda: {"snapshot-id": self.long(), "timestamp-ms": self.long()}),
+            "snapshots": self.some(self.snapshot),
+            "sort-orders": self.some(self.order),
+            "table-uuid": self.random.choice(UUIDS),
+            "more": 1,
+        }
+        return self.without_some(metadata, "current-snapshot-id", "more")
 
     # What is broken
 
@@ -157,6 +223,7 @@ class RandomTables:
     def odd_word(self, places):
         odd = dict.fromkeys(["type", "element", "key", "value"], ODD_TYPES) | {"transform": ODD_TRANSFORMS}
         odd |= {"direction": ["ASC", "asc "], "null-order": ["nulls-First", ""], "name": ["", "x" * 129, "\x7f", "\n"]}
+        odd |= {"table-uuid": ODD_UUIDS, "operation": ["Append", ""]}
         holder, key = self.place(places, lambda _, key, value: key in odd and isinstance(value, str))
         holder[key] = self.random.choice(odd.get(key, [""]))
 

@@ -14,6 +14,7 @@ from reading import (
     required,
     text,
     text_map,
+    under,
     unreadable,
 )
 
@@ -26,6 +27,8 @@ NUMERAL = "(0|[1-9][0-9]*)"
 DECIMAL = re.compile(rf"decimal\({NUMERAL}, ?{NUMERAL}\)")
 FIXED = re.compile(rf"fixed\[{NUMERAL}\]")
 SIZED_TRANSFORM = re.compile(rf"(?:bucket|truncate)\[{NUMERAL}\]")
+HYPHENATED = "[0-9a-fA-F]{8}(-[0-9a-fA-F]{4}){3}-[0-9a-fA-F]{12}"
+UUID_FORMS = re.compile(rf"[0-9a-fA-F]{{32}}|(?i:urn:uuid:)?{HYPHENATED}|\{{{HYPHENATED}\}}", re.ASCII)
 UUID = "00010203-0405-0607-0809-0a0b0c0d0e0f"
 MOMENT = 1000
 
@@ -42,6 +45,14 @@ def told(content):
         return refused.message
     except NotMade as why:
         return str(why)
+
+
+def read_again(content):
+    """What is told of a metadata: the same as JSON, or the first bad field."""
+    try:
+        return compact(metadata(body_of(content), ""))
+    except Refused as refused:
+        return refused.message
 
 
 # Forms
@@ -86,9 +97,26 @@ def listed(read):
     return read_all
 
 
+def members(*rows):
+    """The reader of an object, whose members are tested in the order of these rows: a key, which ends in `?` where the
+    member may be absent, and its form."""
+
+    def read(value, path):
+        object_at(value, path)
+        shown = {}
+        for key, form in rows:
+            found = optional(value, key[:-1], form, None, path) if key[-1] == "?" else required(value, key, form, path)
+            shown[key.rstrip("?")] = found
+        return {key: found for key, found in shown.items() if found is not None}
+
+    return read
+
+
 column_id = number(0, HIGHEST_COLUMN_ID)
 any_id = number(0, HIGHEST_ID)
 partition_id = number(1000, HIGHEST_ID)
+long = number(0, 2**63 - 1)
+kept = number(1, 2**63 - 1)
 
 
 def is_sized(pattern, found):
@@ -169,34 +197,24 @@ class Schema:
         return shown | {"identifier-field-ids": self.identifiers} if self.identifiers else shown
 
 
-def partition_field(value, path):
-    object_at(value, path)
-    source = required(value, "source-id", column_id, path)
-    given = optional(value, "field-id", partition_id, None, path)
-    shown = {"source-id": source, "field-id": given, "name": required(value, "name", text, path)}
-    return shown | {"transform": required(value, "transform", transform, path)}
-
-
-def sort_field(value, path):
-    readers = {
-        "transform": transform,
-        "source-id": column_id,
-        "direction": one_of("asc", "desc"),
-        "null-order": one_of("nulls-first", "nulls-last"),
-    }
-    object_at(value, path)
-    return {key: required(value, key, read, path) for key, read in readers.items()}
+partition_field = members(
+    ("source-id", column_id),
+    ("field-id?", partition_id),
+    ("name", text),
+    ("transform", transform),
+)
+sort_field = members(
+    ("transform", transform),
+    ("source-id", column_id),
+    ("direction", one_of("asc", "desc")),
+    ("null-order", one_of("nulls-first", "nulls-last")),
+)
 
 
 def fields_beside(key, field):
     """The reader of a spec or an order, whose own id is read for its form alone."""
-
-    def read(value, path):
-        object_at(value, path)
-        optional(value, key, any_id, None, path)
-        return required(value, "fields", listed(field), path)
-
-    return read
+    read = members((f"{key}?", any_id), ("fields", listed(field)))
+    return lambda value, path: read(value, path)["fields"]
 
 
 def request_of(content):
@@ -213,16 +231,92 @@ def request_of(content):
     }
 
 
+# Metadata
+
+
+def with_id(key, read_id, read):
+    """The reader of what is read as one that is asked for, and has its id."""
+
+    def read_both(value, path):
+        shown = read(value, path)
+        return shown | {key: required(value, key, read_id, path)}
+
+    return read_both
+
+
+def entries(read):
+    """The reader of an object whose members are all of one form, and are tested in byte order of their keys."""
+
+    def read_all(value, path):
+        object_at(value, path)
+        return {key: read(value[key], under(path, key)) for key in sorted(value, key=str.encode)}
+
+    return read_all
+
+
+def summary(value, path):
+    shown = text_map(value, path)
+    required(value, "operation", one_of("append", "replace", "overwrite", "delete"), path)
+    return shown
+
+
+def uuid(value, path):
+    """A UUID (RFC 9562, section 4), in any of its usual forms, as it is printed."""
+    found = word(UUID_FORMS.fullmatch)(value, path).lower()
+    digits = re.sub("^urn:uuid:|[^0-9a-f]", "", found)
+    return "-".join((digits[:8], digits[8:12], digits[12:16], digits[16:20], digits[20:]))
+
+
+snapshot = members(
+    ("snapshot-id", long),
+    ("parent-snapshot-id?", long),
+    ("sequence-number", long),
+    ("timestamp-ms", long),
+    ("manifest-list", text),
+    ("summary", summary),
+    ("schema-id?", any_id),
+)
+reference = members(
+    ("type", one_of("branch", "tag")),
+    ("snapshot-id", long),
+    ("max-ref-age-ms?", kept),
+    ("max-snapshot-age-ms?", kept),
+    ("min-snapshots-to-keep?", kept),
+)
+bound_field = with_id("field-id", partition_id, partition_field)
+metadata = members(
+    ("current-schema-id", any_id),
+    ("current-snapshot-id?", long),
+    ("default-sort-order-id", any_id),
+    ("default-spec-id", any_id),
+    ("format-version", number(2, 2)),
+    ("last-column-id", column_id),
+    ("last-partition-id", number(999, HIGHEST_ID)),
+    ("last-sequence-number", long),
+    ("last-updated-ms", long),
+    ("location", text),
+    ("metadata-log", listed(members(("metadata-file", text), ("timestamp-ms", long)))),
+    ("partition-specs", listed(members(("spec-id", any_id), ("fields", listed(bound_field))))),
+    ("properties", text_map),
+    ("refs", entries(reference)),
+    ("schemas", listed(with_id("schema-id", any_id, lambda *at: Schema(*at).printed()))),
+    ("snapshot-log", listed(members(("snapshot-id", long), ("timestamp-ms", long)))),
+    ("snapshots", listed(snapshot)),
+    ("sort-orders", listed(members(("order-id", any_id), ("fields", listed(sort_field))))),
+    ("table-uuid", uuid),
+)
+
+
 # Creation
 
 
 def numbered(fields):
     """Partition fields with their ids: those without one get the next above all that are given."""
-    following = max([999, *(field["field-id"] or 0 for field in fields)]) + 1
+    following = max([999, *(field.get("field-id", 0) for field in fields)]) + 1
     shown = []
     for field in fields:
-        shown.append(field | {"field-id": field["field-id"] or following})
-        following += field["field-id"] is None
+        shown.append({"field-id": following} | field)
+        following += "field-id" not in field
     if following - 1 > HIGHEST_ID:
         raise NotMade("IdsUsedUp")
     return shown
@@ -241,7 +335,7 @@ def created(request):
     """The metadata of a new table, as it is printed."""
     schema, spec, order = request["schema"], request["spec"], request["order"]
     judge_sources(spec, schema.columns)
-    given = [field["field-id"] for field in spec if field["field-id"] is not None]
+    given = [field["field-id"] for field in spec if "field-id" in field]
     if is_repeated(given) or is_repeated([field["name"] for field in spec]):
         raise NotMade("FieldTwice")
     spec = numbered(spec)

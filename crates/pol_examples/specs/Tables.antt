@@ -1,4 +1,4 @@
--- What the body that creates a table tells.
+-- What the body that creates a table tells, and what a metadata does.
 use Rattle.std.specs.Prelude.{◌≡◌, ◌⊎◌, ℕ, List, [], ◌∷◌, ◌++◌, Option, Some, None, Ok, Err, codes, unwrap_or}
 use Rattle.serde_json.specs.Written.{compact_text}
 use Rattle.pol_readers.specs.Forms as form
@@ -8,6 +8,7 @@ use Rattle.pol_meta.specs.Creation.{create_refusal, created}
 use Rattle.pol_meta.specs.declared.metadata.TableMetadata.{TableMetadata}
 use Rattle.pol_meta.specs.declared.why.Why.{Why}
 use Rattle.pol_meta.specs.declared.why.Why.TheVariants as why
+use Rattle.pol_metajson.specs.Metadata.{table_metadata}
 use Rattle.pol_metajson.specs.Table.{table_request}
 use Rattle.pol_metajson.specs.declared.table.TableRequest.{TableRequest}
 use Rattle.pol_metaprint.specs.Metadata.{table_json}
@@ -55,3 +56,9 @@ abbrev pub TellsTable : List ℕ → List ℕ → Type 0
 TellsTable body told =
     ((request : TableRequest) × (form.body table_request.read body ≡ Ok request) × TellsRequest request told)
     ⊎ ((path : List Step) × (form.body table_request.read body ≡ Err path) × (told ≡ codes "Unreadable: " ++ path_text path))
+
+-- a metadata is told by the JSON that it is printed as, and what is none by the path to its first bad field
+abbrev pub TellsMetadata : List ℕ → List ℕ → Type 0
+TellsMetadata text told =
+    ((meta : TableMetadata) × (form.body table_metadata.read text ≡ Ok meta) × (told ≡ compact_text (table_json meta)))
+    ⊎ ((path : List Step) × (form.body table_metadata.read text ≡ Err path) × (told ≡ codes "Unreadable: " ++ path_text path))

@@ -8,7 +8,7 @@ use Rattle.pol_names.specs.declared.namespace.NamespaceRefused.{NamespaceRefused
 use Rattle.pol_locations.specs.Location.{IsLocation, IsParseRefusal, is_cover, is_overlap, location_text, segments_of}
 use Rattle.pol_locations.specs.LocationRefused.{word_of}
 use Rattle.pol_locations.specs.declared.refused.LocationRefused.{LocationRefused}
-use Rattle.pol_examples.specs.Tables.{TellsTable}
+use Rattle.pol_examples.specs.Tables.{TellsMetadata, TellsTable}
 use Rattle.pol_examples.specs.declared.values.Question.{Question}
 use Rattle.pol_examples.specs.declared.values.Question.TheVariants as question
 use Rattle.pol_examples.specs.declared.values.Value.{Value}
@@ -80,6 +80,7 @@ Tells question.Join arguments told = OfFirst (λ base segments. TellsJoin base s
 Tells question.Covers arguments told = OfTwo (λ a b. TellsTest (is_cover (segments_of a) (segments_of b)) told) arguments
 Tells question.Overlaps arguments told = OfTwo (λ a b. TellsTest (is_overlap (segments_of a) (segments_of b)) told) arguments
 Tells question.TableRequest arguments told = OfOne (λ body. TellsTable body told) arguments
+Tells question.TableMetadata arguments told = OfOne (λ text. TellsMetadata text told) arguments
 
 -- a value is told to be what is wanted
 abbrev pub IsAsWanted : Value → Type 0

@@ -1,4 +1,4 @@
-//! What the body that creates a table makes.
+//! What the body that creates a table makes, and what metadata are read as.
 ghost use Rattle.std.specs.Prelude.{◌≡◌, IfErr, IfOk, None, OnOk, string_bytes};
 ghost use Rattle.serde_json.specs.Written.{compact_text};
 ghost use Rattle.pol_meta.specs.Creation.{IsCreateRefusal};
@@ -7,7 +7,7 @@ ghost use Rattle.pol_examples.specs.Tables as spec;
 
 use crate::unread::Unread;
 use pol_meta::{CreateRefused, TableMetadata, Why};
-use pol_metajson::{TableRequest, read_create_table};
+use pol_metajson::{TableRequest, read_create_table, read_table};
 use pol_metaprint::table_value;
 use pol_readers::ReadError;
 use std::alloc::{AllocError, Global};
@@ -22,6 +22,17 @@ pub(crate) fn table(alloc: Global, body: &str) -> Result<String, Unread>
 {
     match read_create_table(alloc, body.as_bytes()) {
         Ok(request) => request_text(alloc, request.into_value()),
+        Err(ReadError::Field(path)) => Ok(format!(in alloc; "Unreadable: {path}")?),
+        Err(ReadError::OutOfMemory) => Err(Unread::NoMemory),
+    }
+}
+
+/// How a metadata is told: by the JSON that it is printed as, or by its first bad field.
+pub(crate) fn metadata(alloc: Global, text: &str) -> Result<String, Unread>
+    ensures { IfOk result (λ told. spec.TellsMetadata text.now (string_bytes told)) }
+{
+    match read_table(alloc, text.as_bytes()) {
+        Ok(meta) => metadata_text(alloc, &meta.into_value()),
         Err(ReadError::Field(path)) => Ok(format!(in alloc; "Unreadable: {path}")?),
         Err(ReadError::OutOfMemory) => Err(Unread::NoMemory),
     }

@@ -5,7 +5,7 @@ ghost use Rattle.pol_examples.specs.Values.{Differs, IsAnother, IsAsWanted, Tell
 
 use crate::comparing::Difference;
 use crate::escapes::{shown, unescaped, unescaped_text};
-use crate::tables::table;
+use crate::tables::{metadata, table};
 use crate::unread::Unread;
 use pol_locations::{Location, LocationRefused, covers, overlaps};
 use pol_names::{Name, NameRefused, Namespace, NamespaceRefused, Plain};
@@ -35,6 +35,7 @@ pub enum Question {
     Covers,
     Overlaps,
     TableRequest,
+    TableMetadata,
 }
 
 impl Value {
@@ -90,6 +91,7 @@ impl Question {
             "covers" => Some(Question::Covers),
             "overlaps" => Some(Question::Overlaps),
             "table-request" => Some(Question::TableRequest),
+            "table-metadata" => Some(Question::TableMetadata),
             _ => None,
         }
     }
@@ -109,6 +111,7 @@ fn told(alloc: Global, question: Question, arguments: &[Text]) -> Result<String,
         (Question::Covers, [a, b]) => cover(alloc, a.as_str(), b.as_str()),
         (Question::Overlaps, [a, b]) => overlap(alloc, a.as_str(), b.as_str()),
         (Question::TableRequest, [body]) => table(alloc, body.as_str()),
+        (Question::TableMetadata, [text]) => metadata(alloc, text.as_str()),
         _ => Err(Unread::Form),
     }
 }
