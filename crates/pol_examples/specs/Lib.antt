@@ -1,3 +1,1 @@
 pub mod Comparing
-pub mod Tables
-pub mod Values

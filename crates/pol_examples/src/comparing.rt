@@ -2,22 +2,11 @@
 ghost use Rattle.std.specs.Prelude.{◌≡◌, ◌↔◌, IfOk, IfSome, None, unwrap_or, nat_lt, position};
 ghost use Rattle.pol_examples.specs.Comparing.{IsFirstDifference, index_at, line_at};
 
-use crate::escapes::shown;
 use crate::example::Example;
 use crate::script::Part;
 use pol_types::{OutOfMemory, Text};
+use pol_values::{Difference, shown};
 use std::alloc::{AllocError, Global};
-
-/// Where what came differs from what is wanted. The texts are as they are shown.
-#[derive(Debug, Drop)]
-pub struct Difference {
-    /// The line of the part that differs.
-    pub line: usize,
-    /// What differs.
-    pub what: Text,
-    pub wanted: Text,
-    pub got: Text,
-}
 
 /// How many bytes are shown before the first that differs.
 const BEFORE: usize = 30;

@@ -3,9 +3,8 @@ use crate::example::{End, Example, Opening};
 use crate::numbers::number_of;
 use crate::settings::Settings;
 use crate::turns::Turns;
-use crate::unread::Unread;
-use crate::values::Value;
 use pol_types::Text;
+use pol_values::{Unread, Value};
 use std::alloc::{AllocError, Global};
 
 /// An example or an opening whose lines are being read.

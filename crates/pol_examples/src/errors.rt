@@ -1,7 +1,6 @@
 //! The bodies of errors, and the tokens of others.
-use crate::escapes::unescaped_text;
-use crate::unread::Unread;
 use pol_types::Text;
+use pol_values::{Unread, unescaped_text};
 use std::alloc::{AllocError, Global};
 
 /// The body of an error that is said as `TYPE: MESSAGE` (Iceberg REST OpenAPI, `ErrorModel`).

@@ -1,8 +1,8 @@
 //! Examples and their parts.
 use crate::script::Script;
 use crate::settings::Settings;
-use crate::values::Value;
 use pol_types::Text;
+use pol_values::Value;
 
 /// A worked example.
 #[derive(Drop)]

@@ -1,5 +1,5 @@
 //! Numbers in lines.
-use crate::unread::Unread;
+use pol_values::Unread;
 use std::alloc::Global;
 
 /// A number below 2^64 in decimal digits, or in hexadecimal ones behind `0x`.

@@ -1,7 +1,7 @@
 //! The lines of files, and the examples that they tell.
 use crate::draft::{Draft, Whole, is_remark};
 use crate::example::{Example, Opening};
-use crate::unread::Unread;
+use pol_values::Unread;
 use std::alloc::Global;
 
 /// Reads files line by line. The openings of the first file serve all, and those of another one that file alone.

@@ -1,8 +1,8 @@
 //! The bytes of requests and of their answers.
 ghost use Rattle.std.specs.Prelude.{◌≡◌, ◌++◌, ◌∷◌, [], IfOk, OnOk, length};
 
-use crate::unread::Unread;
 use pol_types::Text;
+use pol_values::Unread;
 use std::alloc::{AllocError, Global};
 
 /// The bytes of requests and of their answers.

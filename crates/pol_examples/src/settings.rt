@@ -1,8 +1,7 @@
 //! What an example is played with.
-use crate::escapes::unescaped_text;
 use crate::numbers::{number_of, numbers};
-use crate::unread::Unread;
 use pol_types::{Listed, Text};
+use pol_values::{Unread, unescaped_text};
 use std::alloc::{AllocError, Global};
 
 /// What an example is played with.

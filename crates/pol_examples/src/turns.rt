@@ -1,11 +1,10 @@
 //! Requests and answers in turn while their lines are read.
 use crate::errors::{error_body, given_token};
-use crate::escapes::unescaped;
 use crate::making::{Answer, Field, Request, Said};
 use crate::numbers::number_of;
 use crate::script::{Script, Token};
-use crate::unread::Unread;
 use pol_types::Text;
+use pol_values::{Unread, unescaped};
 use std::alloc::{AllocError, Global};
 
 /// Requests and answers in turn.

@@ -2,11 +2,8 @@
 //! The openings of the first file serve all others, and those of another one that file alone.
 #![tactic(auto)]
 
-mod playing;
-mod telling;
-
-use crate::telling::Played;
 use pol_examples::Reader;
+use pol_player::Played;
 use std::process::ExitCode;
 use std::{env, fs, io};
 

@@ -1,6 +1,6 @@
 //! What is told of texts in memory that agree, that differ in one place, and that can't be read.
-use crate::telling::Played;
 use pol_examples::Reader;
+use pol_player::Played;
 use std::test::Fail;
 
 /// Texts, what is told of them, and at last.

@@ -1,0 +1,119 @@
+//! What the body that creates a table makes, and what metadata are read as.
+ghost use Rattle.std.specs.Prelude.{◌≡◌, IfErr, IfOk, None, OnOk, string_bytes};
+ghost use Rattle.serde_json.specs.Written.{compact_text};
+ghost use Rattle.pol_meta.specs.Creation.{IsCreateRefusal};
+ghost use Rattle.pol_metaprint.specs.Metadata.{table_json};
+ghost use Rattle.pol_values.specs.Tables as spec;
+
+use crate::unread::Unread;
+use pol_meta::{CreateRefused, TableMetadata, Why};
+use pol_metajson::{TableRequest, read_create_table, read_table};
+use pol_metaprint::table_value;
+use pol_readers::ReadError;
+use std::alloc::{AllocError, Global};
+use uuid::Uuid;
+
+/// The moment at which tables are made, in milliseconds since the Unix epoch.
+const MOMENT: u64 = 1000;
+
+/// How the body of a table is told: by the metadata that it makes, by its first bad field, or by why no table is made.
+pub(crate) fn table(alloc: Global, body: &str) -> Result<String, Unread>
+    ensures { IfOk result (λ told. spec.TellsTable body.now (string_bytes told)) }
+{
+    match read_create_table(alloc, body.as_bytes()) {
+        Ok(request) => request_text(alloc, request.into_value()),
+        Err(ReadError::Field(path)) => Ok(format!(in alloc; "Unreadable: {path}")?),
+        Err(ReadError::OutOfMemory) => Err(Unread::NoMemory),
+    }
+}
+
+/// How a metadata is told: by the JSON that it is printed as, or by its first bad field.
+pub(crate) fn metadata(alloc: Global, text: &str) -> Result<String, Unread>
+    ensures { IfOk result (λ told. spec.TellsMetadata text.now (string_bytes told)) }
+{
+    match read_table(alloc, text.as_bytes()) {
+        Ok(meta) => metadata_text(alloc, &meta.into_value()),
+        Err(ReadError::Field(path)) => Ok(format!(in alloc; "Unreadable: {path}")?),
+        Err(ReadError::OutOfMemory) => Err(Unread::NoMemory),
+    }
+}
+
+/// How a table that is asked for is told.
+fn request_text(alloc: Global, request: TableRequest) -> Result<String, Unread>
+    ensures { IfOk result (λ told. spec.TellsRequest request (string_bytes told)) }
+{
+    match created(alloc, request) {
+        Ok(meta) => metadata_text(alloc, &meta),
+        Err(CreateRefused::OutOfMemory) => Err(Unread::NoMemory),
+        Err(CreateRefused::Refused { why }) => Ok(String::from_str(alloc, word_of(why))?),
+    }
+}
+
+/// The metadata of a table that is asked for.
+fn created(alloc: Global, request: TableRequest) -> Result<TableMetadata, CreateRefused>
+    ensures made { IfOk result (λ meta. meta ≡ spec.made request) }
+    ensures passes { OnOk result (spec.refusal request ≡ None) }
+    ensures refused { IfErr result (IsCreateRefusal request.schema request.partition_spec request.write_order) }
+{
+    let location = location_of(alloc, &request)?;
+    let TableRequest {
+        schema,
+        partition_spec,
+        write_order,
+        properties,
+        ..
+    } = request;
+    let uuid = Uuid::from_bytes([0, 1, 2, 3, 4, 5, 6, 7, 8, 9, 10, 11, 12, 13, 14, 15]);
+    TableMetadata::create(
+        alloc,
+        uuid,
+        location.as_str(),
+        schema,
+        partition_spec,
+        write_order,
+        properties,
+        MOMENT,
+    )
+}
+
+/// Where a table lies: where it is asked to, or below `lake://b` by its name.
+fn location_of(alloc: Global, request: &TableRequest) -> Result<String, AllocError>
+    ensures { IfOk result (λ location. string_bytes location ≡ spec.location_of request.now) }
+{
+    match &request.location {
+        Some(location) => String::from_str(alloc, location.as_str()),
+        None => {
+            let name = request.name.as_str();
+            format!(in alloc; "lake://b/{name}")
+        }
+    }
+}
+
+/// The JSON that a metadata is printed as.
+fn metadata_text(alloc: Global, meta: &TableMetadata) -> Result<String, Unread>
+    ensures { IfOk result (λ text. string_bytes text ≡ compact_text (table_json meta.now)) }
+{
+    let value = table_value(alloc, meta)?;
+    Ok(value.to_string(alloc)?)
+}
+
+/// The word of a refusal.
+fn word_of(why: Why) -> &'static str
+    ensures { result.now ≡ spec.word_of why }
+{
+    match why {
+        Why::UuidDiffers => "UuidDiffers",
+        Why::FormatVersion => "FormatVersion",
+        Why::IdsUsedUp => "IdsUsedUp",
+        Why::NoneAdded => "NoneAdded",
+        Why::NoSuchId => "NoSuchId",
+        Why::NoSuchField => "NoSuchField",
+        Why::FieldTwice => "FieldTwice",
+        Why::SnapshotThere => "SnapshotThere",
+        Why::SequenceNotAbove => "SequenceNotAbove",
+        Why::NoSuchSnapshot => "NoSuchSnapshot",
+        Why::MainNotBranch => "MainNotBranch",
+        Why::BranchOnly => "BranchOnly",
+        Why::InUse => "InUse",
+    }
+}
