@@ -23,7 +23,7 @@ use Rattle.pol_metajson.specs.declared.columns.Nested.{Nested}
 use Rattle.pol_metajson.specs.declared.columns.Nested.TheVariants as nested
 use Rattle.pol_metajson.specs.declared.columns.Typed.{Typed}
 use Rattle.pol_metajson.specs.Kind.{kind_of}
-use Rattle.pol_metajson.specs.declared.keys.TheConstants.{ELEMENT, ELEMENT_ID, ID, KEY, KEY_ID, VALUE, VALUE_ID}
+use Rattle.pol_metakeys.specs.declared.keys.TheConstants.{ELEMENT, ELEMENT_ID, ID, KEY, KEY_ID, VALUE, VALUE_ID}
 use Rattle.pol_metajson.proofs.ColumnsLemmas.{IsDistinct-push, AreFields-push, StandAt-after, after, listed-after, named-parts, parts-after}
 use Rattle.pol_metajson.proofs.WordLemmas.{kind_plain, mapped}
 

@@ -19,7 +19,7 @@ use Rattle.pol_metajson.specs.declared.columns.Inner.{Inner}
 use Rattle.pol_metajson.specs.declared.columns.Nested.{Nested}
 use Rattle.pol_metajson.specs.declared.columns.Nested.TheVariants as nested
 use Rattle.pol_metajson.specs.declared.columns.Typed.{Typed}
-use Rattle.pol_metajson.specs.declared.keys.TheConstants.{DOC, ELEMENT, ELEMENT_ID, ELEMENT_REQUIRED, FIELDS, ID, IDENTIFIER_FIELD_IDS, KEY, KEY_ID, LIST, MAP, NAME, REQUIRED, SCHEMA_ID, STRUCT, TYPE, VALUE, VALUE_ID, VALUE_REQUIRED}
+use Rattle.pol_metakeys.specs.declared.keys.TheConstants.{DOC, ELEMENT, ELEMENT_ID, ELEMENT_REQUIRED, FIELDS, ID, IDENTIFIER_FIELD_IDS, KEY, KEY_ID, LIST, MAP, NAME, REQUIRED, SCHEMA_ID, STRUCT, TYPE, VALUE, VALUE_ID, VALUE_REQUIRED}
 
 -- a type whose columns stand in as many columns as the first number says, after columns that have the ids
 abbrev KindForm : Type 1

@@ -10,9 +10,9 @@ ghost use Rattle.pol_metajson.specs.Schema as spec;
 
 use crate::failed::{failed_at, failed_under};
 use crate::ids::ColumnId;
-use crate::keys;
 use crate::kind::kind_of;
 use pol_meta::{Column, Kind, Part};
+use pol_metakeys::keys;
 use pol_readers::{Form, ReadError, Word, field, holds, object, one_of, optional, under_key};
 use pol_types::{Listed, OutOfMemory, Text};
 use serde_json::Value;

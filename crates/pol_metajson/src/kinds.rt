@@ -10,8 +10,8 @@ use crate::columns::{
     Inner, Nested, Typed, holds_at, is_new_name, joined, read_id, read_plain, with_inner,
 };
 use crate::failed::{failed_at, failed_under};
-use crate::keys;
 use pol_meta::{Column, Kind, Part};
+use pol_metakeys::keys;
 use pol_readers::{ReadError, field, object, optional};
 use pol_types::{Listed, OutOfMemory, Text};
 use serde_json::Value;

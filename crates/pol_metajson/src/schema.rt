@@ -4,11 +4,12 @@ ghost use Rattle.pol_readers.specs.Reading.{Gives};
 ghost use Rattle.pol_metajson.specs.Known.{all_known, known_from};
 ghost use Rattle.pol_metajson.specs.Schema as spec;
 
+use crate::Body;
 use crate::failed::failed_at;
 use crate::ids::{ColumnId, Id};
 use crate::kinds::read_fields;
-use crate::{Body, keys};
 use pol_meta::{Column, Ids, Part, Schema};
+use pol_metakeys::keys;
 use pol_readers::{Form, ReadError, field, fixed, object, optional, under_key};
 use pol_types::{Listed, OutOfMemory};
 use serde_json::Value;

@@ -1,10 +1,12 @@
 //! Snapshots, references to them, and both logs.
 ghost use Rattle.std.specs.Prelude.{◌≡◌, IfOk, map};
-ghost use Rattle.pol_metajson.specs.Snapshot as spec;
+ghost use Rattle.pol_metaread.specs.Snapshot as spec;
 
-use crate::ids::{Id, Kept, Long};
-use crate::{Body, keys};
+use crate::ids::{Kept, Long};
+use crate::stored::Stored;
 use pol_meta::{MetadataLogEntry, NamedRef, RefKind, Snapshot, SnapshotLogEntry, SnapshotRef};
+use pol_metajson::{Body, Id};
+use pol_metakeys::keys;
 use pol_properties::Properties;
 use pol_readers::{Entries, Form, ReadError, Word, field, object, one_of, optional};
 use pol_types::{Listed, OutOfMemory, Text};
@@ -60,7 +62,7 @@ impl Form for Made {
 }
 
 #[tactic(auto, unfolding(crate::specs::Snapshot::snapshot))]
-impl Form for Body<Snapshot> {
+impl Form for Stored<Snapshot> {
     ghost shape = { spec.snapshot };
 
     fn read(alloc: Global, value: &Value) -> Result<Self, ReadError> {
@@ -73,7 +75,7 @@ impl Form for Body<Snapshot> {
         let summary: Body<Properties> = field(alloc, value, keys::SUMMARY)?;
         let _made: Made = field(alloc, value, keys::SUMMARY)?;
         let schema: Option<Id> = optional(alloc, value, keys::SCHEMA_ID)?;
-        Ok(Body::new(Snapshot {
+        Ok(Stored::new(Snapshot {
             snapshot_id: id.get(),
             parent_snapshot_id: long_of(parent),
             sequence_number: sequence.get(),
@@ -113,20 +115,20 @@ fn id_of(given: Option<Id>) -> Option<u32>
     }
 }
 
-impl Word for Body<RefKind> {
+impl Word for Stored<RefKind> {
     ghost words = { spec.ref_kinds };
 
     fn of_word(word: &str) -> Option<Self> {
         match word {
-            keys::BRANCH => Some(Body::new(RefKind::Branch)),
-            keys::TAG => Some(Body::new(RefKind::Tag)),
+            keys::BRANCH => Some(Stored::new(RefKind::Branch)),
+            keys::TAG => Some(Stored::new(RefKind::Tag)),
             _ => None,
         }
     }
 }
 
 #[tactic(auto, unfolding(crate::specs::Snapshot::ref_kind))]
-impl Form for Body<RefKind> {
+impl Form for Stored<RefKind> {
     ghost shape = { spec.ref_kind };
 
     fn read(alloc: Global, value: &Value) -> Result<Self, ReadError> {
@@ -135,17 +137,17 @@ impl Form for Body<RefKind> {
 }
 
 #[tactic(auto, unfolding(crate::specs::Snapshot::reference))]
-impl Form for Body<SnapshotRef> {
+impl Form for Stored<SnapshotRef> {
     ghost shape = { spec.reference };
 
     fn read(alloc: Global, value: &Value) -> Result<Self, ReadError> {
         object(alloc, value)?;
-        let kind: Body<RefKind> = field(alloc, value, keys::TYPE)?;
+        let kind: Stored<RefKind> = field(alloc, value, keys::TYPE)?;
         let snapshot: Long = field(alloc, value, keys::SNAPSHOT_ID)?;
         let age: Option<Kept> = optional(alloc, value, keys::MAX_REF_AGE_MS)?;
         let snapshot_age: Option<Kept> = optional(alloc, value, keys::MAX_SNAPSHOT_AGE_MS)?;
         let count: Option<Kept> = optional(alloc, value, keys::MIN_SNAPSHOTS_TO_KEEP)?;
-        Ok(Body::new(SnapshotRef {
+        Ok(Stored::new(SnapshotRef {
             kind: kind.into_value(),
             snapshot_id: snapshot.get(),
             max_ref_age_ms: kept_of(age),
@@ -156,24 +158,24 @@ impl Form for Body<SnapshotRef> {
 }
 
 #[tactic(auto, unfolding(crate::specs::Snapshot::refs))]
-impl Form for Body<Listed<NamedRef>> {
+impl Form for Stored<Listed<NamedRef>> {
     ghost shape = { spec.refs };
 
     fn read(alloc: Global, value: &Value) -> Result<Self, ReadError> {
-        let entries: Entries<Body<SnapshotRef>> = Entries::read(alloc, value)?;
+        let entries: Entries<Stored<SnapshotRef>> = Entries::read(alloc, value)?;
         let refs = named_refs(alloc, entries)?;
-        Ok(Body::new(refs))
+        Ok(Stored::new(refs))
     }
 }
 
 /// The references that entries make.
 fn named_refs(
     alloc: Global,
-    entries: Entries<Body<SnapshotRef>>,
+    entries: Entries<Stored<SnapshotRef>>,
 ) -> Result<Listed<NamedRef>, OutOfMemory>
     ensures { IfOk result (λ refs. refs ≡ map spec.named_of entries) }
 {
-    let entries: Vec<(Text, Body<SnapshotRef>)> = entries.into();
+    let entries: Vec<(Text, Stored<SnapshotRef>)> = entries.into();
     let mut refs = Vec::with_capacity(alloc, entries.len())?;
     for (name, reference) in entries {
         refs.push(NamedRef {
@@ -185,14 +187,14 @@ fn named_refs(
 }
 
 #[tactic(auto, unfolding(crate::specs::Snapshot::metadata_log_entry))]
-impl Form for Body<MetadataLogEntry> {
+impl Form for Stored<MetadataLogEntry> {
     ghost shape = { spec.metadata_log_entry };
 
     fn read(alloc: Global, value: &Value) -> Result<Self, ReadError> {
         object(alloc, value)?;
         let metadata_file: Text = field(alloc, value, keys::METADATA_FILE)?;
         let moment: Long = field(alloc, value, keys::TIMESTAMP_MS)?;
-        Ok(Body::new(MetadataLogEntry {
+        Ok(Stored::new(MetadataLogEntry {
             metadata_file,
             timestamp_ms: moment.get(),
         }))
@@ -200,14 +202,14 @@ impl Form for Body<MetadataLogEntry> {
 }
 
 #[tactic(auto, unfolding(crate::specs::Snapshot::snapshot_log_entry))]
-impl Form for Body<SnapshotLogEntry> {
+impl Form for Stored<SnapshotLogEntry> {
     ghost shape = { spec.snapshot_log_entry };
 
     fn read(alloc: Global, value: &Value) -> Result<Self, ReadError> {
         object(alloc, value)?;
         let snapshot: Long = field(alloc, value, keys::SNAPSHOT_ID)?;
         let moment: Long = field(alloc, value, keys::TIMESTAMP_MS)?;
-        Ok(Body::new(SnapshotLogEntry {
+        Ok(Stored::new(SnapshotLogEntry {
             snapshot_id: snapshot.get(),
             timestamp_ms: moment.get(),
         }))

@@ -1,6 +1,6 @@
 use Rattle.std.proofs.Common.{◌≡◌, ℕ, Bool, false, true, List, Option, None, Some, refl}
 use Rattle.uuid.specs.Text.{parsed}
-use Rattle.pol_metajson.proofs.metadata.uuid_of.Goals as goal
+use Rattle.pol_metaread.proofs.metadata.uuid_of.Goals as goal
 
 none_there : (found : Option (List ℕ)) → (((uuid : List ℕ) × (found ≡ Some uuid)) → false ≡ true) → None ≡ found
 none_there None nothing = refl

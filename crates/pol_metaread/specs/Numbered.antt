@@ -9,7 +9,7 @@ use Rattle.pol_metajson.specs.Ids.{field_id, id}
 use Rattle.pol_metajson.specs.Order.{sort_field}
 use Rattle.pol_metajson.specs.Partition.{unbound_field}
 use Rattle.pol_metajson.specs.Schema.{schema}
-use Rattle.pol_metajson.specs.declared.keys.TheConstants.{FIELD_ID, FIELDS, ORDER_ID, SCHEMA_ID, SPEC_ID}
+use Rattle.pol_metakeys.specs.declared.keys.TheConstants.{FIELD_ID, FIELDS, ORDER_ID, SCHEMA_ID, SPEC_ID}
 
 -- what is read as one that is asked for, and has its id
 unfoldable pub numbered_schema : Shape Schema

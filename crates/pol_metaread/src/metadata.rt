@@ -3,17 +3,17 @@ ghost use Rattle.std.specs.Prelude.{◌≡◌};
 ghost use Rattle.uuid.specs.Text.{parsed};
 ghost use Rattle.pol_readers.specs.Reading.{Gives};
 ghost use Rattle.pol_readers.specs.Forms as form;
-ghost use Rattle.pol_metajson.specs.Metadata as spec;
+ghost use Rattle.pol_metaread.specs.Metadata as spec;
 
-use crate::body::values;
-use crate::ids::{ColumnId, Id, LastFieldId, Long, Version};
-use crate::numbered::{NumberedSchema, schemas_of};
+use crate::ids::{LastFieldId, Long, Version};
 use crate::snapshot::long_of;
-use crate::{Body, keys};
+use crate::stored::{Stored, parts};
 use pol_meta::{
     MetadataLogEntry, NamedRef, PartitionSpec, Schema, Snapshot, SnapshotLogEntry, SortOrder,
     TableMetadata,
 };
+use pol_metajson::{Body, ColumnId, Id};
+use pol_metakeys::keys;
 use pol_properties::Properties;
 use pol_readers::{Form, ReadError, field, object, optional, read_body};
 use pol_types::{Listed, Text};
@@ -23,10 +23,11 @@ use uuid::Uuid;
 
 /// Reads the metadata of a table as it is printed (Iceberg table spec, Table Metadata Fields). Its fields are tested in
 /// byte order of their keys.
-pub fn read_table(alloc: Global, text: &[u8]) -> Result<Body<TableMetadata>, ReadError>
+pub fn read_table(alloc: Global, text: &[u8]) -> Result<TableMetadata, ReadError>
     ensures { Gives result (form.body spec.table_metadata.read text.now) }
 {
-    read_body(alloc, text)
+    let stored: Stored<TableMetadata> = read_body(alloc, text)?;
+    Ok(stored.into_value())
 }
 
 /// Which members are current.
@@ -101,11 +102,11 @@ impl Form for Described {
 
     fn read(alloc: Global, value: &Value) -> Result<Self, ReadError> {
         let location: Text = field(alloc, value, keys::LOCATION)?;
-        let log: Listed<Body<MetadataLogEntry>> = field(alloc, value, keys::METADATA_LOG)?;
-        let specs: Listed<Body<PartitionSpec>> = field(alloc, value, keys::PARTITION_SPECS)?;
+        let log: Listed<Stored<MetadataLogEntry>> = field(alloc, value, keys::METADATA_LOG)?;
+        let specs: Listed<Stored<PartitionSpec>> = field(alloc, value, keys::PARTITION_SPECS)?;
         let properties: Body<Properties> = field(alloc, value, keys::PROPERTIES)?;
-        let metadata_log = values(alloc, log)?;
-        let partition_specs = values(alloc, specs)?;
+        let metadata_log = parts(alloc, log)?;
+        let partition_specs = parts(alloc, specs)?;
         Ok(Described {
             location,
             metadata_log,
@@ -129,13 +130,13 @@ impl Form for Listing {
     ghost shape = { spec.listing };
 
     fn read(alloc: Global, value: &Value) -> Result<Self, ReadError> {
-        let refs: Body<Listed<NamedRef>> = field(alloc, value, keys::REFS)?;
-        let schemas: Listed<NumberedSchema> = field(alloc, value, keys::SCHEMAS)?;
-        let log: Listed<Body<SnapshotLogEntry>> = field(alloc, value, keys::SNAPSHOT_LOG)?;
-        let snapshots: Listed<Body<Snapshot>> = field(alloc, value, keys::SNAPSHOTS)?;
-        let schemas = schemas_of(alloc, schemas)?;
-        let snapshot_log = values(alloc, log)?;
-        let snapshots = values(alloc, snapshots)?;
+        let refs: Stored<Listed<NamedRef>> = field(alloc, value, keys::REFS)?;
+        let schemas: Listed<Stored<Schema>> = field(alloc, value, keys::SCHEMAS)?;
+        let log: Listed<Stored<SnapshotLogEntry>> = field(alloc, value, keys::SNAPSHOT_LOG)?;
+        let snapshots: Listed<Stored<Snapshot>> = field(alloc, value, keys::SNAPSHOTS)?;
+        let schemas = parts(alloc, schemas)?;
+        let snapshot_log = parts(alloc, log)?;
+        let snapshots = parts(alloc, snapshots)?;
         Ok(Listing {
             refs: refs.into_value(),
             schemas,
@@ -146,12 +147,12 @@ impl Form for Listing {
 }
 
 #[tactic(auto, unfolding(crate::specs::Metadata::uuid, pol_readers::specs::Forms::text))]
-impl Form for Body<Uuid> {
+impl Form for Stored<Uuid> {
     ghost shape = { spec.uuid };
 
     fn read(alloc: Global, value: &Value) -> Result<Self, ReadError> {
         match value.as_str().and_then(|text| uuid_of(text)) {
-            Some(uuid) => Ok(Body::new(uuid)),
+            Some(uuid) => Ok(Stored::new(uuid)),
             None => Err(ReadError::here(alloc)),
         }
     }
@@ -168,7 +169,7 @@ fn uuid_of(text: &str) -> Option<Uuid>
 }
 
 #[tactic(auto, unfolding(crate::specs::Metadata::table_metadata))]
-impl Form for Body<TableMetadata> {
+impl Form for Stored<TableMetadata> {
     ghost shape = { spec.table_metadata };
 
     fn read(alloc: Global, value: &Value) -> Result<Self, ReadError> {
@@ -177,10 +178,10 @@ impl Form for Body<TableMetadata> {
         let numbers = Numbers::read(alloc, value)?;
         let described = Described::read(alloc, value)?;
         let listing = Listing::read(alloc, value)?;
-        let orders: Listed<Body<SortOrder>> = field(alloc, value, keys::SORT_ORDERS)?;
-        let uuid: Body<Uuid> = field(alloc, value, keys::TABLE_UUID)?;
-        let sort_orders = values(alloc, orders)?;
-        Ok(Body::new(TableMetadata {
+        let orders: Listed<Stored<SortOrder>> = field(alloc, value, keys::SORT_ORDERS)?;
+        let uuid: Stored<Uuid> = field(alloc, value, keys::TABLE_UUID)?;
+        let sort_orders = parts(alloc, orders)?;
+        Ok(Stored::new(TableMetadata {
             current_schema_id: current.schema,
             current_snapshot_id: current.snapshot,
             default_sort_order_id: current.order,

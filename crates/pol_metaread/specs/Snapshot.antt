@@ -8,12 +8,13 @@ use Rattle.pol_meta.specs.declared.reference.RefKind.{RefKind}
 use Rattle.pol_meta.specs.declared.reference.RefKind.TheVariants.{Branch, Tag}
 use Rattle.pol_meta.specs.declared.reference.SnapshotRef.{SnapshotRef}
 use Rattle.pol_meta.specs.declared.snapshot.Snapshot.{Snapshot}
-use Rattle.pol_metajson.specs.Ids.{id, kept, long}
+use Rattle.pol_metajson.specs.Ids.{id}
 use Rattle.pol_metajson.specs.Table.{text_map}
-use Rattle.pol_metajson.specs.declared.keys.TheConstants as key
-use Rattle.pol_metajson.specs.declared.snapshot.Made.{Made}
-use Rattle.pol_metajson.specs.declared.snapshot.Operation.{Operation}
-use Rattle.pol_metajson.specs.declared.snapshot.Operation.TheVariants.{Append, Delete, Overwrite, Replace}
+use Rattle.pol_metakeys.specs.declared.keys.TheConstants as key
+use Rattle.pol_metaread.specs.Ids.{kept, long}
+use Rattle.pol_metaread.specs.declared.snapshot.Made.{Made}
+use Rattle.pol_metaread.specs.declared.snapshot.Operation.{Operation}
+use Rattle.pol_metaread.specs.declared.snapshot.Operation.TheVariants.{Append, Delete, Overwrite, Replace}
 
 abbrev pub operations : List (List ℕ × Operation)
 operations = (key.APPEND.now, Append) ∷ (key.REPLACE.now, Replace) ∷ (key.OVERWRITE.now, Overwrite) ∷ (key.DELETE.now, Delete) ∷ []

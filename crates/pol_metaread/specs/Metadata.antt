@@ -3,15 +3,16 @@ use Rattle.std.specs.Prelude.{ℕ, List}
 use Rattle.uuid.specs.Text.{parsed}
 use Rattle.pol_readers.specs.Shape.{Shape, ◌>>=◌, an_object, done, field, list, optional, text, text_of}
 use Rattle.pol_meta.specs.declared.metadata.TableMetadata.{TableMetadata}
-use Rattle.pol_metajson.specs.Ids.{column_id, id, last_field_id, long, version}
-use Rattle.pol_metajson.specs.Numbered.{numbered_schema, partition_spec, sort_order}
-use Rattle.pol_metajson.specs.Snapshot.{metadata_log_entry, refs, snapshot, snapshot_log_entry}
+use Rattle.pol_metajson.specs.Ids.{column_id, id}
+use Rattle.pol_metaread.specs.Ids.{last_field_id, long, version}
+use Rattle.pol_metaread.specs.Numbered.{numbered_schema, partition_spec, sort_order}
+use Rattle.pol_metaread.specs.Snapshot.{metadata_log_entry, refs, snapshot, snapshot_log_entry}
 use Rattle.pol_metajson.specs.Table.{text_map}
-use Rattle.pol_metajson.specs.declared.keys.TheConstants as key
-use Rattle.pol_metajson.specs.declared.metadata.Current.{Current}
-use Rattle.pol_metajson.specs.declared.metadata.Numbers.{Numbers}
-use Rattle.pol_metajson.specs.declared.metadata.Described.{Described}
-use Rattle.pol_metajson.specs.declared.metadata.Listing.{Listing}
+use Rattle.pol_metakeys.specs.declared.keys.TheConstants as key
+use Rattle.pol_metaread.specs.declared.metadata.Current.{Current}
+use Rattle.pol_metaread.specs.declared.metadata.Numbers.{Numbers}
+use Rattle.pol_metaread.specs.declared.metadata.Described.{Described}
+use Rattle.pol_metaread.specs.declared.metadata.Listing.{Listing}
 
 unfoldable pub uuid : Shape (List ℕ)
 uuid = text_of parsed
