@@ -8,5 +8,6 @@ pub mod Numeral
 pub mod Order
 pub mod Partition
 pub mod Schema
+pub mod Siblings
 pub mod Table
 pub mod Transform

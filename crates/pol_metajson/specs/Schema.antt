@@ -47,8 +47,11 @@ abbrev pub is_named : List ℕ → Part → Bool
 is_named name (Field other required doc) = bytes_eq other name
 is_named name other = false
 
+abbrev pub has_name : ℕ → List ℕ → Column → Bool
+has_name depth name column = column.depth == depth && is_named name column.part
+
 abbrev pub is_name_among : ℕ → List ℕ → List Column → Bool
-is_name_among depth name columns = list_any (λ column. column.depth == depth && is_named name column.part) columns
+is_name_among depth name columns = list_any (has_name depth name) columns
 
 abbrev pub is_new_name : ℕ → List ℕ → List Column → Bool
 is_new_name depth name beside = not (length name == 0) && not (is_name_among depth name beside)

@@ -14,6 +14,8 @@ mod numeral;
 mod order;
 mod partition;
 mod schema;
+mod seen;
+mod siblings;
 mod table;
 mod transform;
 
