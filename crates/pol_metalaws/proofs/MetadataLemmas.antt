@@ -6,7 +6,7 @@ use Rattle.serde_json.specs.Data.{Data, Members, object, string}
 use Rattle.serde_json.specs.Find.{get}
 use Rattle.uuid.specs.Text.{hyphenated_text, lower}
 use Rattle.uuid.proofs.RoundTrips.{parses_hyphenated}
-use Rattle.pol_meta.specs.Valid.{IsId, IsLong, IsMetadataLogEntry, IsNamedRef, IsPartitionSpec, IsSnapshotLogEntry, IsSortOrder, IsValid, order_ids, schema_ids, snapshot_named, spec_ids}
+use Rattle.pol_meta.specs.Valid.{IsId, IsLong, IsMetadataLogEntry, IsNamedRef, IsPartitionSpec, IsSchema, IsSnapshotLogEntry, IsSortOrder, IsValid, order_ids, schema_ids, snapshot_named, spec_ids}
 use Rattle.pol_meta.specs.declared.metadata.TableMetadata.{TableMetadata}
 use Rattle.pol_meta.specs.declared.partition.PartitionSpec.{PartitionSpec}
 use Rattle.pol_meta.specs.declared.reference.NamedRef.{NamedRef}
@@ -23,7 +23,7 @@ use Rattle.pol_metalaws.specs.Laws.{IsHeld, IsUuid}
 use Rattle.pol_metalaws.proofs.ColumnLemmas.{by_recursion}
 use Rattle.pol_metalaws.proofs.ObjectLemmas as objects
 use Rattle.pol_metalaws.proofs.PartLemmas.{partition_spec_read, sort_order_read}
-use Rattle.pol_metalaws.proofs.SchemaLemmas.{IsShallowSchema, schema_read}
+use Rattle.pol_metalaws.proofs.SchemaLemmas.{schema_read}
 use Rattle.pol_metalaws.proofs.SnapshotLemmas.{IsKeptSnapshot, metadata_log_entry_read, refs_read, snapshot_log_entry_read, snapshot_read}
 
 -- its members, whether there is a current snapshot or not
@@ -92,16 +92,24 @@ among P ids one all there = subst P there.2 (all there.0 one there.1)
 first_long : (here : Bool) (named : NamedRef) (rest : Option NamedRef) → IsLong named.reference.snapshot_id
     → IfSome (option_map (λ (one : NamedRef). one.reference.snapshot_id) rest) IsLong
     → IfSome (option_map (λ (one : NamedRef). one.reference.snapshot_id) (cond here (Some named) rest)) IsLong
-first_long true named rest long later = long
-first_long false named rest long later = later
+first_long true named rest fits later = fits
+first_long false named rest fits later = later
 
-named_long : (name : List ℕ) (refs : List NamedRef) → AllByRecursion IsNamedRef refs → IfSome (snapshot_named name refs) IsLong
+named_long : (name : List ℕ) (refs : List NamedRef) → AllByRecursion IsNamedRef refs
+    → IfSome (snapshot_named name refs) IsLong
 named_long name [] all = tt
 named_long name (named ∷ refs) all =
-    first_long (bytes_eq named.name name) named (find (λ (one : NamedRef). bytes_eq one.name name) refs) all.0.snapshot (named_long name refs all.1)
+    first_long (bytes_eq named.name name) named (find (λ (one : NamedRef). bytes_eq one.name name) refs)
+    all.0.snapshot (named_long name refs all.1)
 
 current_read : (m : TableMetadata) → IsValid m
-    → current.stands (table_json m) (record { schema = m.current_schema_id; snapshot = m.current_snapshot_id; order = m.default_sort_order_id; spec = m.default_spec_id })
+    → current.stands (table_json m) (record {
+      schema = m.current_schema_id;
+      snapshot = m.current_snapshot_id;
+      order =
+          m.default_sort_order_id;
+      spec = m.default_spec_id;
+    })
 unfolding current CurrentGets Has
 current_read m valid =
     let gets = current_gets m m.current_snapshot_id refl in
@@ -109,13 +117,16 @@ current_read m valid =
     let forms = valid.forms in
     let columns : IsId m.current_schema_id =
     among IsId (schema_ids m.schemas) m.current_schema_id
-    (All-map IsId (λ (one : Schema). one.schema_id) m.schemas (λ k d inside. (forms.schemas k d inside).id)) members.schema in
+    (All-map IsId (λ (one : Schema). one.schema_id) m.schemas (λ k d inside. (forms.schemas k d inside).id))
+    members.schema in
     let sorted : IsId m.default_sort_order_id =
     among IsId (order_ids m.sort_orders) m.default_sort_order_id
-    (All-map IsId (λ (one : SortOrder). one.order_id) m.sort_orders (λ k d inside. (forms.orders k d inside).id)) members.order in
+    (All-map IsId (λ (one : SortOrder). one.order_id) m.sort_orders (λ k d inside. (forms.orders k d inside).id))
+    members.order in
     let parted : IsId m.default_spec_id =
     among IsId (spec_ids m.partition_specs) m.default_spec_id
-    (All-map IsId (λ (one : PartitionSpec). one.spec_id) m.partition_specs (λ k d inside. (forms.specs k d inside).id)) members.spec in
+    (All-map IsId (λ (one : PartitionSpec). one.spec_id) m.partition_specs
+    (λ k d inside. (forms.specs k d inside).id)) members.spec in
     let shown : IfSome m.current_snapshot_id IsLong =
     rw members.current (named_long (codes "main") m.refs (by_recursion IsNamedRef m.refs forms.refs)) in (
       m.current_schema_id,
@@ -132,7 +143,14 @@ current_read m valid =
     )
 
 numbers_read : (m : TableMetadata) → IsValid m
-    → numbers.stands (table_json m) (record { version = m.format_version; column = m.last_column_id; partition = m.last_partition_id; sequence = m.last_sequence_number; updated = m.last_updated_ms })
+    → numbers.stands (table_json m) (record {
+      version = m.format_version;
+      column = m.last_column_id;
+      partition =
+          m.last_partition_id;
+      sequence = m.last_sequence_number;
+      updated = m.last_updated_ms;
+    })
 unfolding numbers NumbersGets Has
 numbers_read m valid =
     let gets = numbers_gets m m.current_snapshot_id refl in
@@ -157,7 +175,13 @@ numbers_read m valid =
     )
 
 described_read : (m : TableMetadata) → IsValid m → IsHeld m
-    → described.stands (table_json m) (record { location = m.location; metadata_log = m.metadata_log; partition_specs = m.partition_specs; properties = m.properties })
+    → described.stands (table_json m) (record {
+      location = m.location;
+      metadata_log = m.metadata_log;
+      partition_specs
+          = m.partition_specs;
+      properties = m.properties;
+    })
 unfolding described DescribedGets Has
 described_read m valid held =
     let gets = described_gets m m.current_snapshot_id refl in
@@ -166,39 +190,73 @@ described_read m valid held =
       (_, gets.0, refl),
       (
         m.metadata_log,
-        (_, gets.1, objects.list_read metadata_log_entry.stands metadata_log_entry_json IsMetadataLogEntry metadata_log_entry_read m.metadata_log forms.metadata_log),
+        (
+          _,
+          gets.1,
+          objects.list_read metadata_log_entry.stands metadata_log_entry_json IsMetadataLogEntry
+              metadata_log_entry_read m.metadata_log forms.metadata_log,
+        ),
         (
           m.partition_specs,
-          (_, gets.2, objects.list_read partition_spec.stands partition_spec_json IsPartitionSpec partition_spec_read m.partition_specs forms.specs),
+          (
+            _,
+            gets.2,
+            objects.list_read partition_spec.stands partition_spec_json IsPartitionSpec partition_spec_read
+                m.partition_specs forms.specs,
+          ),
           (m.properties, (_, gets.3, objects.pairs_read m.properties held.properties), refl),
         ),
       ),
     )
 
 listing_read : (m : TableMetadata) → IsValid m → IsHeld m
-    → listing.stands (table_json m) (record { refs = m.refs; schemas = m.schemas; snapshot_log = m.snapshot_log; snapshots = m.snapshots })
+    → listing.stands (table_json m) (record {
+      refs = m.refs;
+      schemas = m.schemas;
+      snapshot_log = m.snapshot_log;
+      snapshots = m.snapshots;
+    })
 unfolding listing ListingGets Has
 listing_read m valid held =
     let gets = listing_gets m m.current_snapshot_id refl in
     let forms = valid.forms in
-    let schemas : All IsShallowSchema m.schemas = λ k d inside. record { form = forms.schemas k d inside; shallow = held.schemas k d inside } in
-    let snapshots : All IsKeptSnapshot m.snapshots = λ k d inside. record { form = forms.snapshots k d inside; summary = held.summaries k d inside } in (
+    let snapshots : All IsKeptSnapshot m.snapshots = λ k d inside. record
+    { form = forms.snapshots k d inside; summary = held.summaries k d inside } in (
       m.refs,
       (_, gets.0, refs_read m.refs forms.refs valid.ids.refs),
       (
         m.schemas,
-        (_, gets.1, objects.list_read numbered_schema.stands schema_json IsShallowSchema schema_read m.schemas schemas),
+        (_, gets.1, objects.list_read numbered_schema.stands schema_json IsSchema schema_read m.schemas forms.schemas),
         (
           m.snapshot_log,
-          (_, gets.2, objects.list_read snapshot_log_entry.stands snapshot_log_entry_json IsSnapshotLogEntry snapshot_log_entry_read m.snapshot_log forms.snapshot_log),
-          (m.snapshots, (_, gets.3, objects.list_read snapshot.stands snapshot_json IsKeptSnapshot snapshot_read m.snapshots snapshots), refl),
+          (
+            _,
+            gets.2,
+            objects.list_read snapshot_log_entry.stands snapshot_log_entry_json IsSnapshotLogEntry
+                snapshot_log_entry_read m.snapshot_log forms.snapshot_log,
+          ),
+          (
+            m.snapshots,
+            (
+              _,
+              gets.3,
+              objects.list_read snapshot.stands snapshot_json IsKeptSnapshot snapshot_read
+                  m.snapshots snapshots,
+            ),
+            refl,
+          ),
         ),
       ),
     )
 
 uuid_read : (bytes : List ℕ) → IsUuid bytes → uuid.stands (string (hyphenated_text lower bytes)) bytes
 unfolding uuid
-uuid_read bytes valid = (hyphenated_text lower bytes, refl, sym (parses_hyphenated lower bytes (inl refl) valid.count valid.bytes))
+uuid_read bytes valid = (
+  hyphenated_text lower bytes,
+  refl,
+  sym
+      (parses_hyphenated lower bytes (inl refl) valid.count valid.bytes),
+)
 
 table_stands : (m : TableMetadata) → IsValid m → IsHeld m → table_metadata.stands (table_json m) m
 unfolding table_metadata ListingGets Has
@@ -220,7 +278,12 @@ table_stands m valid held =
               listing_read m valid held,
               (
                 m.sort_orders,
-                (_, gets.4, objects.list_read sort_order.stands sort_order_json IsSortOrder sort_order_read m.sort_orders valid.forms.orders),
+                (
+                  _,
+                  gets.4,
+                  objects.list_read sort_order.stands sort_order_json IsSortOrder sort_order_read
+                      m.sort_orders valid.forms.orders,
+                ),
                 (m.table_uuid, (_, gets.5, uuid_read m.table_uuid held.uuid), refl),
               ),
             ),

@@ -34,7 +34,8 @@ pub may_hold : (grammar : Data → ℕ → Type 0) (P : ℕ → Type 0) → ((n 
 may_hold grammar P each held None is valid = inl is
 may_hold grammar P each held (Some n) is valid = (number_json n, is, (λ e. cc), each n valid)
 
-module _ {A : Type 0} (grammar : Data → A → Type 0) (json : A → Data) (P : A → Type 0) (each : (a : A) → P a → grammar (json a) a) where
+module _ {A : Type 0} (grammar : Data → A → Type 0) (json : A → Data) (P : A → Type 0)
+    (each : (a : A) → P a → grammar (json a) a) where
   items_read : (xs : List A) → All P xs → AreItems grammar (items_of (map json xs)) xs
   items_read [] all = tt
   items_read (x ∷ xs) all = (each x (All-head P x xs all), items_read xs (All-tail P x xs all))
@@ -45,12 +46,15 @@ module _ {A : Type 0} (grammar : Data → A → Type 0) (json : A → Data) (P :
 
 -- what is built step by step of items that rise
 module _ {A B : Type 0} (c : A → A → Ordering) (step : B → A → B) (built : List A → B)
-    (more : (done : List A) (x : A) → AllByRecursion (λ y. c y x ≡ Less) done → step (built done) x ≡ built (done ++ x ∷ [])) where
-  middle : (y : A) (done : List A) (x : A) (xs : List A) → AllByRecursion (λ z. c y z ≡ Less) (done ++ x ∷ xs) → c y x ≡ Less
+    (more : (done : List A) (x : A) → AllByRecursion (λ y. c y x ≡ Less) done → step (built done) x ≡ built
+    (done ++ x ∷ [])) where
+  middle : (y : A) (done : List A) (x : A) (xs : List A) → AllByRecursion (λ z. c y z ≡ Less) (done ++ x ∷ xs)
+      → c y x ≡ Less
   middle y [] x xs all = all.0
   middle y (z ∷ done) x xs all = middle y done x xs all.1
 
-  earlier : (done : List A) (x : A) (xs : List A) → IsStrictlySortedBy c (done ++ x ∷ xs) → AllByRecursion (λ y. c y x ≡ Less) done
+  earlier : (done : List A) (x : A) (xs : List A) → IsStrictlySortedBy c (done ++ x ∷ xs)
+      → AllByRecursion (λ y. c y x ≡ Less) done
   unfolding IsStrictlySortedBy
   earlier [] x xs sorted = tt
   earlier (y ∷ done) x xs sorted = (middle y done x xs sorted.0, earlier done x xs sorted.1)
@@ -79,7 +83,8 @@ module _ {A : Type 0} (key : A → List ℕ) (json : A → Data) where
   pub put_all : (xs : List A) → IsStrictlySortedBy (λ left right. slice_cmp nat_cmp (key left) (key right)) xs
       → fold (λ members x. put (key x) (json x) members) no_members xs ≡ listing xs
   put_all xs sorted =
-      folded (λ left right. slice_cmp nat_cmp (key left) (key right)) (λ members x. put (key x) (json x) members) listing put_last [] xs sorted
+      folded (λ left right. slice_cmp nat_cmp (key left) (key right)) (λ members x. put (key x) (json x) members)
+      listing put_last [] xs sorted
 
   pub entries_read : {B : Type 0} (value : A → B) (of : Data → B → Type 0) (P : A → Type 0)
       → ((x : A) → P x → of (json x) (value x))
@@ -106,7 +111,8 @@ set_last done x all = rw (kept_below done x all, none_above done x all) refl
 
 pub of_rising_pairs : (pairs : List Property) → KeysAscend pairs → of_pairs pairs ≡ pairs
 of_rising_pairs pairs rise =
-    folded (λ left right. slice_cmp nat_cmp left.key right.key) (λ made pair. with_value pair made) (λ done. done) set_last [] pairs rise
+    folded (λ left right. slice_cmp nat_cmp left.key right.key) (λ made pair. with_value pair made) (λ done. done)
+    set_last [] pairs rise
 
 -- the members that pairs make
 abbrev pub pair_members : List Property → Members
@@ -116,11 +122,14 @@ pub pairs_put : (pairs : List Property) → KeysAscend pairs → pairs_json pair
 unfolding pairs_json
 pairs_put pairs rise = ap object (put_all (λ (pair : Property). pair.key) (λ pair. string pair.value) pairs rise)
 
-texts_read : (pairs : List Property) → AreMembers IsText (pair_members pairs) (map (λ (pair : Property). (pair.key, pair.value)) pairs)
+texts_read : (pairs : List Property)
+    → AreMembers IsText (pair_members pairs) (map (λ (pair : Property). (pair.key, pair.value)) pairs)
 texts_read [] = tt
 texts_read (pair ∷ pairs) = (refl, refl, texts_read pairs)
 
-same_pairs : (pairs : List Property) → map (λ (entry : List ℕ × List ℕ). record { key = entry.0; value = entry.1 }) (map (λ (pair : Property). (pair.key, pair.value)) pairs) ≡ pairs
+same_pairs : (pairs : List Property)
+    → map (λ (entry : List ℕ × List ℕ). record { key = entry.0; value = entry.1 })
+    (map (λ (pair : Property). (pair.key, pair.value)) pairs) ≡ pairs
 same_pairs [] = refl
 same_pairs (pair ∷ pairs) = ap (λ rest. pair ∷ rest) (same_pairs pairs)
 
@@ -138,7 +147,8 @@ reversed_eq Less = refl
 reversed_eq Equal = refl
 reversed_eq Greater = refl
 
-at_equal : (o : Ordering) (here : Data) (later : Option Data) → match_ordering o later (Some here) later ≡ cond (is_eq o) (Some here) later
+at_equal : (o : Ordering) (here : Data) (later : Option Data)
+    → match_ordering o later (Some here) later ≡ cond (is_eq o) (Some here) later
 at_equal Less here later = refl
 at_equal Equal here later = refl
 at_equal Greater here later = refl
@@ -149,10 +159,12 @@ text_of_first : (b : Bool) (pair : Property) (rest : Option Property)
 text_of_first true pair rest = refl
 text_of_first false pair rest = refl
 
-pub text_under : (key : List ℕ) (pairs : List Property) → get_member key (pair_members pairs) ≡ option_map string (value_of key pairs)
+pub text_under : (key : List ℕ) (pairs : List Property)
+    → get_member key (pair_members pairs) ≡ option_map string (value_of key pairs)
 text_under key [] = refl
 text_under key (pair ∷ pairs) =
     let flipped : is_eq (slice_cmp nat_cmp key pair.key) ≡ bytes_eq pair.key key =
-    ap is_eq (nat_list_cmp_total.antisymm key pair.key) ∙ reversed_eq (slice_cmp nat_cmp pair.key key) ∙ is_eq-slice_cmp pair.key key in
+    ap is_eq (nat_list_cmp_total.antisymm key pair.key) ∙ reversed_eq (slice_cmp nat_cmp pair.key key) ∙
+    is_eq-slice_cmp pair.key key in
     at_equal (slice_cmp nat_cmp key pair.key) (string pair.value) (get_member key (pair_members pairs))
     ∙ rw (flipped, text_under key pairs) (text_of_first (bytes_eq pair.key key) pair (find (has_key key) pairs))

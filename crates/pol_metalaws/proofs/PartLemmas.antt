@@ -27,9 +27,16 @@ unfolding transform
 transform_read t valid = (transform_text t, refl, transform_is_read t valid)
 
 unbound : PartitionField → UnboundField
-unbound field = record { source_id = field.source_id; field_id = Some field.field_id; name = field.name; transform = field.transform }
+unbound field = record {
+  source_id = field.source_id;
+  field_id = Some field.field_id;
+  name = field.name;
+  transform =
+      field.transform;
+}
 
-pub partition_field_read : (field : PartitionField) → IsPartitionField field → partition_field.stands (partition_field_json field) field
+pub partition_field_read : (field : PartitionField) → IsPartitionField field
+    → partition_field.stands (partition_field_json field) field
 unfolding partition_field unbound_field partition_field_json unbound
 partition_field_read field valid =
     let within = valid.id in
@@ -47,7 +54,16 @@ partition_field_read field valid =
             (
               field.name,
               (string field.name, refl, refl),
-              (field.transform, (string (transform_text field.transform), refl, transform_read field.transform valid.transform), refl),
+              (
+                field.transform,
+                (
+                  string (transform_text field.transform),
+                  refl,
+                  transform_read field.transform
+                      valid.transform,
+                ),
+                refl,
+              ),
             ),
           ),
         ),
@@ -55,7 +71,8 @@ partition_field_read field valid =
       (field.field_id, (given, refl, (refl, within.least, within.most)), refl),
     )
 
-pub partition_spec_read : (spec : PartitionSpec) → IsPartitionSpec spec → partition_spec.stands (partition_spec_json spec) spec
+pub partition_spec_read : (spec : PartitionSpec) → IsPartitionSpec spec
+    → partition_spec.stands (partition_spec_json spec) spec
 unfolding partition_spec partition_spec_json
 partition_spec_read spec valid = (
   tt,
@@ -63,7 +80,16 @@ partition_spec_read spec valid = (
   (
     spec.spec_id,
     (_, refl, objects.up_to 2147483647 spec.spec_id valid.id),
-    (spec.fields, (_, refl, objects.list_read partition_field.stands partition_field_json IsPartitionField partition_field_read spec.fields valid.fields), refl),
+    (
+      spec.fields,
+      (
+        _,
+        refl,
+        objects.list_read partition_field.stands partition_field_json IsPartitionField
+            partition_field_read spec.fields valid.fields,
+      ),
+      refl,
+    ),
   ),
 )
 
@@ -105,6 +131,15 @@ sort_order_read order valid = (
   (
     order.order_id,
     (_, refl, objects.up_to 2147483647 order.order_id valid.id),
-    (order.fields, (_, refl, objects.list_read sort_field.stands sort_field_json IsSortField sort_field_read order.fields valid.fields), refl),
+    (
+      order.fields,
+      (
+        _,
+        refl,
+        objects.list_read sort_field.stands sort_field_json IsSortField sort_field_read
+            order.fields valid.fields,
+      ),
+      refl,
+    ),
   ),
 )

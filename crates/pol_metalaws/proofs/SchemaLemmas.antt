@@ -9,7 +9,7 @@ use Rattle.pol_readers.specs.Forms.{fixed, one_of, text}
 use Rattle.pol_readers.specs.Grammar.{MayHold}
 use Rattle.pol_readers.specs.Shape.{list}
 use Rattle.pol_meta.specs.Columns.{column_ids, has_field, is_field}
-use Rattle.pol_meta.specs.Valid.{IsColumnId, IsSchema}
+use Rattle.pol_meta.specs.Valid.{IsColumn, IsColumnId, IsSchema}
 use Rattle.pol_meta.specs.declared.column.Column.{Column}
 use Rattle.pol_meta.specs.declared.schema.Schema.{Schema}
 use Rattle.pol_metajson.specs.Ids.{column_id}
@@ -19,8 +19,7 @@ use Rattle.pol_metajson.specs.declared.keys.TheConstants as key
 use Rattle.pol_metaprint.specs.Columns.{field_json, trees_of}
 use Rattle.pol_metaprint.specs.Json.{list_json, number_json}
 use Rattle.pol_metaprint.specs.Metadata.{schema_json}
-use Rattle.pol_metalaws.specs.Levels.{IsShallow}
-use Rattle.pol_metalaws.proofs.ColumnLemmas.{IsGood, by_recursion, fields_of_struct, kind_read}
+use Rattle.pol_metalaws.proofs.ColumnLemmas.{by_recursion, fields_of_struct, kind_read}
 use Rattle.pol_metalaws.proofs.ObjectLemmas as objects
 use Rattle.pol_metalaws.proofs.TreeLemmas.{trees_are}
 
@@ -38,7 +37,8 @@ SchemaGets : Schema → Type 0
 SchemaGets s =
     (get key.TYPE.now (schema_json s) ≡ Some (string key.STRUCT.now))
     × (get key.SCHEMA_ID.now (schema_json s) ≡ Some (number_json s.schema_id))
-    × (get key.IDENTIFIER_FIELD_IDS.now (schema_json s) ≡ option_map (list_json number_json) (ids_given s.identifier_field_ids))
+    × (get key.IDENTIFIER_FIELD_IDS.now (schema_json s) ≡ option_map (list_json number_json)
+    (ids_given s.identifier_field_ids))
     × (get key.FIELDS.now (schema_json s) ≡ Some (list_json field_json (trees_of s.fields)))
 
 schema_gets : (s : Schema) (ids : List ℕ) → s.identifier_field_ids ≡ ids → SchemaGets s
@@ -53,38 +53,37 @@ unfolding schema_json
 an_object s = (_, refl)
 
 -- the id of a field is within its bounds
-bound_at : (here field rest : Bool) (given one : ℕ) → (here ≡ true → given ≡ one) → IsColumnId given → (rest ≡ true → IsColumnId one)
+bound_at : (here field rest : Bool) (given one : ℕ) → (here ≡ true → given ≡ one) → IsColumnId given
+    → (rest ≡ true → IsColumnId one)
     → ((here && field) || rest) ≡ true → IsColumnId one
 bound_at true true rest given one same bound onward is = subst IsColumnId (same refl) bound
 bound_at true false rest given one same bound onward is = onward is
 bound_at false field rest given one same bound onward is = onward is
 
-known_bound : (columns : List Column) (one : ℕ) → AllByRecursion IsGood columns → has_field columns one ≡ true → IsColumnId one
+known_bound : (columns : List Column) (one : ℕ) → AllByRecursion IsColumn columns → has_field columns one ≡ true
+    → IsColumnId one
 known_bound [] one good is = absurd (cc)
 known_bound (column ∷ columns) one good is =
-    bound_at (column.id == one) (is_field column.part) (has_field columns one) column.id one (λ same. grind (arith, nat_tests)) good.0.form.id
+    bound_at (column.id == one) (is_field column.part) (has_field columns one) column.id one
+    (λ same. grind (arith, nat_tests)) good.0.id
     (known_bound columns one good.1) is
 
--- a schema whose types aren't too deep
-pub record IsShallowSchema (s : Schema) : Type 0 where
-  pub form : IsSchema s
-  pub shallow : All IsShallow s.fields
+good_columns : (s : Schema) → IsSchema s → AllByRecursion IsColumn s.fields
+good_columns s valid = by_recursion IsColumn s.fields valid.columns
 
-good_columns : (s : Schema) → IsShallowSchema s → AllByRecursion IsGood s.fields
-good_columns s valid =
-    by_recursion IsGood s.fields (λ k d inside. record { form = valid.form.columns k d inside; shallow = valid.shallow k d inside })
-
-columns_read : (s : Schema) → IsShallowSchema s → columns_form.stands (list_json field_json (trees_of s.fields)) s.fields
+columns_read : (s : Schema) → IsSchema s → columns_form.stands (list_json field_json (trees_of s.fields)) s.fields
 unfolding columns_form
 columns_read s valid =
-    let nested = valid.form.nested in
-    let good = subst (AllByRecursion IsGood) nested.list (good_columns s valid) in
-    let differ = subst (λ columns. IsDistinct nat_eq (column_ids columns)) nested.list valid.form.differ in
-    let read = fields_of_struct 32 0 (λ seen found xs fits. kind_read 32 1 seen found xs refl fits) [] nested.nested nested.fields nested.stand good differ in
+    let nested = valid.nested in
+    let good = subst (AllByRecursion IsColumn) nested.list (good_columns s valid) in
+    let differ = subst (λ columns. IsDistinct nat_eq (column_ids columns)) nested.list valid.differ in
+    let read = fields_of_struct 32 0 (λ seen found xs fits. kind_read 32 1 seen found xs refl fits) [] nested.nested
+    nested.fields nested.stand good differ in
     subst (λ columns. columns_form.stands (list_json field_json (trees_of columns)) columns) (sym nested.list)
     (rw (trees_are 0 nested.nested nested.stand) read)
 
-ids_hold : (ids : List ℕ) (held : Option Data) → held ≡ option_map (list_json number_json) (ids_given ids) → (P : ℕ → Type 0)
+ids_hold : (ids : List ℕ) (held : Option Data) → held ≡ option_map (list_json number_json) (ids_given ids)
+    → (P : ℕ → Type 0)
     → ((one : ℕ) → P one → IsColumnId one) → All P ids → MayHold (list column_id).stands held (ids_given ids)
 unfolding ids_given
 ids_hold [] held is P each all = inl is
@@ -92,17 +91,18 @@ ids_hold (first ∷ ids) held is P each all = (
   list_json number_json (first ∷ ids),
   is,
   (λ e. cc),
-  objects.list_read column_id.stands number_json P (λ one so. objects.up_to 2147483447 one (each one so)) (first ∷ ids) all,
+  objects.list_read column_id.stands number_json P (λ one so. objects.up_to 2147483447 one (each one so))
+      (first ∷ ids) all,
 )
 
-pub schema_read : (s : Schema) → IsShallowSchema s → numbered_schema.stands (schema_json s) s
+pub schema_read : (s : Schema) → IsSchema s → numbered_schema.stands (schema_json s) s
 unfolding numbered_schema schema SchemaGets fixed one_of text
 schema_read s valid =
     let ids = s.identifier_field_ids in
     let gets = schema_gets s ids refl in
-    let numbered = objects.up_to 2147483647 s.schema_id valid.form.id in
+    let numbered = objects.up_to 2147483647 s.schema_id valid.id in
     let known : list_all (has_field s.fields) (unwrap_or (ids_given ids) []) ≡ true =
-    rw (ids_taken ids) (list_all-from_AllPass (has_field s.fields) ids valid.form.identified) in (
+    rw (ids_taken ids) (list_all-from_AllPass (has_field s.fields) ids valid.identified) in (
       record { schema_id = 0; identifier_field_ids = unwrap_or (ids_given ids) []; fields = s.fields },
       (
         tt,
@@ -115,7 +115,8 @@ schema_read s valid =
             (number_json s.schema_id, gets.1, (λ e. cc), numbered),
             (
               ids_given ids,
-              ids_hold ids _ gets.2 (λ one. has_field s.fields one ≡ true) (λ one so. known_bound s.fields one (good_columns s valid) so) valid.form.identified,
+              ids_hold ids _ gets.2 (λ one. has_field s.fields one ≡ true)
+                  (λ one so. known_bound s.fields one (good_columns s valid) so) valid.identified,
               (
                 s.fields,
                 (_, gets.3, columns_read s valid),

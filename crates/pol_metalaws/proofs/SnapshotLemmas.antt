@@ -23,15 +23,31 @@ use Rattle.pol_metaprint.specs.Json.{metadata_log_entry_json, number_json, pairs
 use Rattle.pol_metaprint.specs.Texts.{ref_kind_text}
 use Rattle.pol_metalaws.proofs.ObjectLemmas as objects
 
-pub metadata_log_entry_read : (entry : MetadataLogEntry) → IsMetadataLogEntry entry → metadata_log_entry.stands (metadata_log_entry_json entry) entry
+pub metadata_log_entry_read : (entry : MetadataLogEntry) → IsMetadataLogEntry entry
+    → metadata_log_entry.stands (metadata_log_entry_json entry) entry
 unfolding metadata_log_entry metadata_log_entry_json
-metadata_log_entry_read entry valid =
-    (tt, (_, refl), (entry.metadata_file, (_, refl, refl), (entry.timestamp_ms, (_, refl, objects.long entry.timestamp_ms valid), refl)))
+metadata_log_entry_read entry valid = (
+  tt,
+  (_, refl),
+  (
+    entry.metadata_file,
+    (_, refl, refl),
+    (entry.timestamp_ms, (_, refl, objects.long entry.timestamp_ms valid), refl),
+  ),
+)
 
-pub snapshot_log_entry_read : (entry : SnapshotLogEntry) → IsSnapshotLogEntry entry → snapshot_log_entry.stands (snapshot_log_entry_json entry) entry
+pub snapshot_log_entry_read : (entry : SnapshotLogEntry) → IsSnapshotLogEntry entry
+    → snapshot_log_entry.stands (snapshot_log_entry_json entry) entry
 unfolding snapshot_log_entry snapshot_log_entry_json
-snapshot_log_entry_read entry valid =
-    (tt, (_, refl), (entry.snapshot_id, (_, refl, objects.long entry.snapshot_id valid.snapshot), (entry.timestamp_ms, (_, refl, objects.long entry.timestamp_ms valid.time), refl)))
+snapshot_log_entry_read entry valid = (
+  tt,
+  (_, refl),
+  (
+    entry.snapshot_id,
+    (_, refl, objects.long entry.snapshot_id valid.snapshot),
+    (entry.timestamp_ms, (_, refl, objects.long entry.timestamp_ms valid.time), refl),
+  ),
+)
 
 -- one of the texts about a snapshot says how it was made
 IsRead : {A : Type 0} → Shape A → Data → Type 0
@@ -39,10 +55,14 @@ IsRead {A} shape d = (value : A) × shape.stands d value
 
 operation_read : (word : List ℕ) → IsOperation word → IsRead operation (string word)
 unfolding operation one_of text IsRead
-operation_read word (inl is) = subst (λ other. IsRead operation (string other)) (sym is) (_, operation.exact.sound (string (codes "append")) _ refl)
-operation_read word (inr (inl is)) = subst (λ other. IsRead operation (string other)) (sym is) (_, operation.exact.sound (string (codes "replace")) _ refl)
-operation_read word (inr (inr (inl is))) = subst (λ other. IsRead operation (string other)) (sym is) (_, operation.exact.sound (string (codes "overwrite")) _ refl)
-operation_read word (inr (inr (inr is))) = subst (λ other. IsRead operation (string other)) (sym is) (_, operation.exact.sound (string (codes "delete")) _ refl)
+operation_read word (inl is) = subst (λ other. IsRead operation (string other)) (sym is)
+    (_, operation.exact.sound (string (codes "append")) _ refl)
+operation_read word (inr (inl is)) = subst (λ other. IsRead operation (string other)) (sym is)
+    (_, operation.exact.sound (string (codes "replace")) _ refl)
+operation_read word (inr (inr (inl is))) = subst (λ other. IsRead operation (string other)) (sym is)
+    (_, operation.exact.sound (string (codes "overwrite")) _ refl)
+operation_read word (inr (inr (inr is))) = subst (λ other. IsRead operation (string other)) (sym is)
+    (_, operation.exact.sound (string (codes "delete")) _ refl)
 
 made_read : (s : Snapshot) → IsSnapshot s → KeysAscend s.summary → IsRead made (pairs_json s.summary)
 unfolding made IsRead
@@ -63,7 +83,8 @@ record Gets (s : Snapshot) : Type 0 where
   summary : get key.SUMMARY.now (snapshot_json s) ≡ Some (pairs_json s.summary)
   schema : get key.SCHEMA_ID.now (snapshot_json s) ≡ option_map number_json s.schema_id
 
-snapshot_gets : (s : Snapshot) (parent schema : Option ℕ) → s.parent_snapshot_id ≡ parent → s.schema_id ≡ schema → Gets s
+snapshot_gets : (s : Snapshot) (parent schema : Option ℕ) → s.parent_snapshot_id ≡ parent → s.schema_id ≡ schema
+    → Gets s
 unfolding snapshot_json
 snapshot_gets s None None first second = record {
   id = rw (first, second) refl;
@@ -140,7 +161,12 @@ snapshot_read s valid =
                   (
                     found.0,
                     (_, gets.summary, found.1),
-                    (s.schema_id, objects.may_hold id.stands IsId (objects.up_to 2147483647) _ s.schema_id gets.schema form.schema, refl),
+                    (
+                      s.schema_id,
+                      objects.may_hold id.stands IsId (objects.up_to 2147483647) _ s.schema_id
+                          gets.schema form.schema,
+                      refl,
+                    ),
                   ),
                 ),
               ),
@@ -159,7 +185,8 @@ RefGets r =
     × (get key.MAX_SNAPSHOT_AGE_MS.now (reference_json r) ≡ option_map number_json r.max_snapshot_age_ms)
     × (get key.MIN_SNAPSHOTS_TO_KEEP.now (reference_json r) ≡ option_map number_json r.min_snapshots_to_keep)
 
-reference_gets : (r : SnapshotRef) (age snapshot_age count : Option ℕ) → r.max_ref_age_ms ≡ age → r.max_snapshot_age_ms ≡ snapshot_age → r.min_snapshots_to_keep ≡ count → RefGets r
+reference_gets : (r : SnapshotRef) (age snapshot_age count : Option ℕ) → r.max_ref_age_ms ≡ age
+    → r.max_snapshot_age_ms ≡ snapshot_age → r.min_snapshots_to_keep ≡ count → RefGets r
 unfolding RefGets reference_json
 reference_gets r None None None a b c = rw (a, b, c) (refl, refl, refl, refl, refl)
 reference_gets r None None (Some n) a b c = rw (a, b, c) (refl, refl, refl, refl, refl)
@@ -182,7 +209,8 @@ an_object_of_reference r = (_, refl)
 kept_read : (n : ℕ) → IsKept n → kept.stands (number_json n) n
 kept_read n valid = objects.within 1 9223372036854775807 n valid.least (omega (arith, valid.most))
 
-reference_read : (named : NamedRef) → IsNamedRef named → reference.stands (reference_json named.reference) named.reference
+reference_read : (named : NamedRef) → IsNamedRef named
+    → reference.stands (reference_json named.reference) named.reference
 unfolding reference RefGets
 reference_read named valid =
     let r = named.reference in
@@ -201,18 +229,26 @@ reference_read named valid =
             (
               r.max_snapshot_age_ms,
               objects.may_hold kept.stands IsKept kept_read _ r.max_snapshot_age_ms gets.3 valid.snapshot_age,
-              (r.min_snapshots_to_keep, objects.may_hold kept.stands IsKept kept_read _ r.min_snapshots_to_keep gets.4 valid.snapshots, refl),
+              (
+                r.min_snapshots_to_keep,
+                objects.may_hold kept.stands IsKept kept_read _ r.min_snapshots_to_keep
+                    gets.4 valid.snapshots,
+                refl,
+              ),
             ),
           ),
         ),
       ),
     )
 
-same_refs : (named : List NamedRef) → map (λ (entry : List ℕ × SnapshotRef). record { name = entry.0; reference = entry.1 }) (map (λ (one : NamedRef). (one.name, one.reference)) named) ≡ named
+same_refs : (named : List NamedRef)
+    → map (λ (entry : List ℕ × SnapshotRef). record { name = entry.0; reference = entry.1 })
+    (map (λ (one : NamedRef). (one.name, one.reference)) named) ≡ named
 same_refs [] = refl
 same_refs (one ∷ named) = ap (λ rest. one ∷ rest) (same_refs named)
 
-pub refs_read : (named : List NamedRef) → All IsNamedRef named → IsStrictlySortedBy (λ left right. slice_cmp nat_cmp left.name right.name) named
+pub refs_read : (named : List NamedRef) → All IsNamedRef named
+    → IsStrictlySortedBy (λ left right. slice_cmp nat_cmp left.name right.name) named
     → refs.stands (refs_json named) named
 unfolding refs refs_json
 refs_read named valid rise = (
@@ -220,7 +256,8 @@ refs_read named valid rise = (
   (
     objects.listing (λ (one : NamedRef). one.name) (λ one. reference_json one.reference) named,
     ap object (objects.put_all (λ (one : NamedRef). one.name) (λ one. reference_json one.reference) named rise),
-    objects.entries_read (λ (one : NamedRef). one.name) (λ one. reference_json one.reference) (λ one. one.reference) reference.stands IsNamedRef reference_read named valid,
+    objects.entries_read (λ (one : NamedRef). one.name) (λ one. reference_json one.reference) (λ one. one.reference)
+        reference.stands IsNamedRef reference_read named valid,
   ),
   sym (same_refs named),
 )

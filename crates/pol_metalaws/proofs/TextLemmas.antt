@@ -42,7 +42,14 @@ numeral_read : (low high n : ℕ) → low ≤ n → n ≤ high → n < 2 ^ 64 �
 unfolding numeral
 numeral_read low high n least most within =
     let told = decimal_is_IsNumeral n within in
-    rw (no_leading_zero n within, digits_pass (decimal n) told.0.1, told.1, at_least low n least, at_least n high most) refl
+    rw (
+      no_leading_zero n within,
+      digits_pass (decimal n) told.0.1,
+      told.1,
+      at_least low n least,
+      at_least n high
+          most,
+    ) refl
 
 -- what stands before an end
 same_codes : (xs : List ℕ) → pointwise nat_eq xs xs ≡ true
@@ -57,12 +64,14 @@ before_end end inner =
     rw (cut, drop-append_seam inner end, same_codes end, take-append_seam inner end) refl
 
 -- a number in brackets
-sized_read : (n : ℕ) → IsSize n → option_and_then (numeral 1 2147483647) (before (codes "]") (decimal n ++ codes "]")) ≡ Some n
+sized_read : (n : ℕ) → IsSize n
+    → option_and_then (numeral 1 2147483647) (before (codes "]") (decimal n ++ codes "]")) ≡ Some n
 sized_read n size =
     let within : n < 2 ^ 64 = omega (arith, size.most) in
     rw (before_end (codes "]") (decimal n)) (numeral_read 1 2147483647 n size.least size.most within)
 
-pub transform_is_read : (transform : Transform) → IsTransform transform → transform_of (transform_text transform) ≡ Some transform
+pub transform_is_read : (transform : Transform) → IsTransform transform
+    → transform_of (transform_text transform) ≡ Some transform
 unfolding transform_of
 transform_is_read Identity valid = refl
 transform_is_read Void valid = refl
@@ -74,7 +83,8 @@ transform_is_read (Bucket buckets) valid = rw (sized_read buckets valid) refl
 transform_is_read (Truncate width) valid = rw (sized_read width valid) refl
 
 -- the precision and the scale of a decimal stand at both sides of its comma
-comma_after : (digits rest : List ℕ) → AllDigits 10 digits → position_or_len (λ byte. byte == 0x2C) (digits ++ 0x2C ∷ rest) ≡ length digits
+comma_after : (digits rest : List ℕ) → AllDigits 10 digits
+    → position_or_len (λ byte. byte == 0x2C) (digits ++ 0x2C ∷ rest) ≡ length digits
 comma_after [] rest all = refl
 comma_after (digit ∷ digits) rest all =
     let other : (digit == 0x2C) ≡ false = grind (arith, nat_tests, all.0) in
@@ -82,10 +92,12 @@ comma_after (digit ∷ digits) rest all =
 
 comma_read : (digits rest : List ℕ) → AllDigits 10 digits → comma_of (digits ++ 0x2C ∷ rest) ≡ Some (length digits)
 comma_read digits rest all =
-    let inside : nat_lt (length digits) (length (digits ++ 0x2C ∷ rest)) ≡ true = grind (arith, nat_tests, length-append digits (0x2C ∷ rest)) in
+    let inside : nat_lt (length digits) (length (digits ++ 0x2C ∷ rest)) ≡ true = grind
+    (arith, nat_tests, length-append digits (0x2C ∷ rest)) in
     rw (comma_after digits rest all, inside) refl
 
-decimal_read : (precision scale : ℕ) → IsDecimal precision scale → decimal_of (kind_text (kind.Decimal precision scale)) ≡ Some (kind.Decimal precision scale)
+decimal_read : (precision scale : ℕ) → IsDecimal precision scale
+    → decimal_of (kind_text (kind.Decimal precision scale)) ≡ Some (kind.Decimal precision scale)
 decimal_read precision scale valid =
     let within : precision < 2 ^ 64 = omega (arith, valid.most) in
     let scaled : scale < 2 ^ 64 = omega (arith, valid.most, valid.scaled) in
@@ -108,6 +120,7 @@ pub fixed_is_read : (length : ℕ) → IsSize length → kind_of (kind_text (kin
 unfolding kind_of
 fixed_is_read length valid = rw (sized_read length valid) refl
 
-pub decimal_is_read : (precision scale : ℕ) → IsDecimal precision scale → kind_of (kind_text (kind.Decimal precision scale)) ≡ Some (kind.Decimal precision scale)
+pub decimal_is_read : (precision scale : ℕ) → IsDecimal precision scale
+    → kind_of (kind_text (kind.Decimal precision scale)) ≡ Some (kind.Decimal precision scale)
 unfolding kind_of
 decimal_is_read precision scale valid = decimal_read precision scale valid

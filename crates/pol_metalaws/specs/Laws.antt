@@ -7,19 +7,17 @@ use Rattle.pol_readers.specs.Forms as form
 use Rattle.pol_readers.specs.Grammar.{Exact, IsBody}
 use Rattle.pol_metajson.specs.Metadata.{table_metadata}
 use Rattle.pol_metaprint.specs.Metadata.{table_json}
-use Rattle.pol_metalaws.specs.Levels.{IsShallow}
 
 -- the bytes of a uuid
 pub record IsUuid (uuid : List ℕ) : Type 0 where
   pub count : length uuid ≡ 16
   pub bytes : All (λ byte. byte < 256) uuid
 
--- what the types of a metadata's fields keep, and that the types of its columns nest no deeper than is read
+-- what the types of a metadata's fields keep
 pub record IsHeld (meta : TableMetadata) : Type 0 where
   pub properties : KeysAscend meta.properties
   pub summaries : All (λ snapshot. KeysAscend snapshot.summary) meta.snapshots
   pub uuid : IsUuid meta.table_uuid
-  pub schemas : All (λ schema. All IsShallow schema.fields) meta.schemas
 
 -- a valid metadata is read of what is printed of it
 abbrev pub PrintedIsRead : Type 0
