@@ -16,6 +16,7 @@ use Rattle.pol_meta.specs.declared.reference.SnapshotRef.{SnapshotRef}
 use Rattle.pol_meta.specs.declared.snapshot.Snapshot.{Snapshot}
 use Rattle.pol_readers.specs.Forms.{one_of, text}
 use Rattle.pol_readers.specs.Shape.{Shape}
+use Rattle.pol_metajson.specs.Ids.{id}
 use Rattle.pol_metaread.specs.Ids.{kept, long}
 use Rattle.pol_metaread.specs.Snapshot.{made, metadata_log_entry, operation, ref_kind, reference, refs, snapshot, snapshot_log_entry}
 use Rattle.pol_metakeys.specs.declared.keys.TheConstants as key
