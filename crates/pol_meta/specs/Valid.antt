@@ -1,5 +1,5 @@
 -- Which metadata are valid: each part has a form of the Iceberg table spec, and what its ids name is there.
-use Rattle.std.specs.Prelude.{◌≡◌, ◌≤◌, ◌<◌, ◌^◌, ◌⊎◌, ℕ, true, List, map, codes, All, Contains, IfSome, nat_eq, Option, Some, option_map}
+use Rattle.std.specs.Prelude.{◌≡◌, ◌+◌, ◌≤◌, ◌<◌, ◌^◌, ◌⊎◌, ℕ, true, List, map, codes, All, Contains, IfSome, nat_eq, Option, Some, option_map}
 use Rattle.std.specs.Bool.{⊤}
 use Rattle.std.specs.Cmp.Lexicographic.{slice_cmp}
 use Rattle.std.specs.List.{IsDistinct, find}
@@ -10,7 +10,7 @@ use Rattle.pol_properties.specs.Properties.{value_of}
 use Rattle.pol_meta.specs.Columns.{IsNested, column_ids, has_field}
 use Rattle.pol_meta.specs.declared.column.Column.{Column}
 use Rattle.pol_meta.specs.declared.column.Kind.{Kind}
-use Rattle.pol_meta.specs.declared.column.Kind.TheVariants.{Decimal, Fixed}
+use Rattle.pol_meta.specs.declared.column.Kind.TheVariants as kind
 use Rattle.pol_meta.specs.declared.log.MetadataLogEntry.{MetadataLogEntry}
 use Rattle.pol_meta.specs.declared.log.SnapshotLogEntry.{SnapshotLogEntry}
 use Rattle.pol_meta.specs.declared.metadata.TableMetadata.{TableMetadata}
@@ -58,8 +58,8 @@ pub record IsDecimal (precision scale : ℕ) : Type 0 where
   pub scaled : scale ≤ precision
 
 abbrev pub IsKind : Kind → Type 0
-IsKind (Decimal precision scale) = IsDecimal precision scale
-IsKind (Fixed length) = IsSize length
+IsKind (kind.Decimal precision scale) = IsDecimal precision scale
+IsKind (kind.Fixed length) = IsSize length
 IsKind other = ⊤
 
 abbrev pub IsTransform : Transform → Type 0
@@ -67,9 +67,16 @@ IsTransform (Bucket buckets) = IsSize buckets
 IsTransform (Truncate width) = IsSize width
 IsTransform other = ⊤
 
--- a column that stands in at most 32 others
+-- a type in which columns stand is one level more, even where none does
+abbrev pub levels : Kind → ℕ
+levels kind.Struct = 1
+levels kind.List = 1
+levels kind.Map = 1
+levels other = 0
+
+-- a column whose type is at most 32 levels deep, with those in which it stands
 pub record IsColumn (column : Column) : Type 0 where
-  pub depth : column.depth ≤ 32
+  pub depth : column.depth + levels column.kind ≤ 32
   pub id : IsColumnId column.id
   pub kind : IsKind column.kind
 

@@ -8,7 +8,7 @@ use Rattle.std.proofs.lemmas.List.Elements.{All-append, All-cons, All-nil}
 use Rattle.serde_json.specs.Data.{Data, Items, no_items, item}
 use Rattle.serde_json.specs.Find.{as_str}
 use Rattle.pol_meta.specs.Columns.{AreFields, AreIn, Columns, StandAt, column_ids, has_field, listed, nest, none, parts}
-use Rattle.pol_meta.specs.Valid.{IsColumn, IsColumnId, IsKind, IsSchema}
+use Rattle.pol_meta.specs.Valid.{IsColumn, IsColumnId, IsKind, IsSchema, levels}
 use Rattle.pol_meta.specs.declared.schema.Schema.{Schema}
 use Rattle.pol_meta.specs.declared.column.Column.{Column}
 use Rattle.pol_meta.specs.declared.column.Kind.{Kind}
@@ -23,7 +23,7 @@ use Rattle.pol_metajson.specs.declared.columns.Nested.{Nested}
 use Rattle.pol_metajson.specs.declared.columns.Nested.TheVariants as nested
 use Rattle.pol_metajson.specs.declared.columns.Typed.{Typed}
 use Rattle.pol_metajson.specs.Kind.{kind_of}
-use Rattle.pol_metajson.specs.declared.keys.TheConstants.{ELEMENT, ELEMENT_ID, ID, KEY, KEY_ID, VALUE, VALUE_ID}
+use Rattle.pol_metakeys.specs.declared.keys.TheConstants.{ELEMENT, ELEMENT_ID, ID, KEY, KEY_ID, VALUE, VALUE_ID}
 use Rattle.pol_metajson.proofs.ColumnsLemmas.{IsDistinct-push, AreFields-push, StandAt-after, after, listed-after, named-parts, parts-after}
 use Rattle.pol_metajson.proofs.WordLemmas.{kind_plain, mapped}
 
@@ -40,6 +40,7 @@ pub record Stands (depth : ℕ) (seen : List ℕ) (found : Kind) (columns : List
   pub bound : IsKind found
   pub stretch : Stretch depth seen columns
   pub fits : AreIn found (parts stretch.tree)
+  pub room : depth + levels found ≤ 33
 
 -- no columns
 empty_stretch : (depth : ℕ) (seen : List ℕ) → Stretch depth seen []
@@ -62,13 +63,13 @@ joined_stretch depth seen xs ys first second = record {
 }
 
 -- a type without columns
-plain_stands : (depth : ℕ) (seen : List ℕ) (d : Data) (typed : Typed) → plain_form.stands d typed → Stands depth seen typed.kind typed.columns
+plain_stands : (depth : ℕ) (seen : List ℕ) (d : Data) (typed : Typed) → depth ≤ 33 → plain_form.stands d typed → Stands depth seen typed.kind typed.columns
 unfolding plain_form empty_stretch
-plain_stands depth seen d typed so =
+plain_stands depth seen d typed low so =
     let told = mapped (λ found. record { kind = found; columns = [] }) (kind_of so.0) typed so.2 in
     let plain = kind_plain so.0 told.0 told.1 in
     subst (λ (other : Typed). Stands depth seen other.kind other.columns) told.2
-    (record { bound = plain.bound; stretch = empty_stretch depth seen; fits = plain.empty })
+    (record { bound = plain.bound; stretch = empty_stretch depth seen; fits = plain.empty; room = omega (arith, plain.flat) })
 
 -- an id that is read
 not_seen : (b : Bool) → not b ≡ true → b ≡ false
@@ -86,11 +87,12 @@ pub record Single (depth : ℕ) (seen : List ℕ) (part : Part) (columns : List 
   pub stretch : Stretch depth seen columns
   pub alone : parts stretch.tree ≡ part ∷ []
 
-single : (depth : ℕ) (seen : List ℕ) (id : ℕ) (part : Part) (found : Kind) (columns : List Column) → depth ≤ 32 → IsColumnId id → is_seen seen id ≡ false
+single : (depth : ℕ) (seen : List ℕ) (id : ℕ) (part : Part) (found : Kind) (columns : List Column) → IsColumnId id → is_seen seen id ≡ false
     → Stands (depth + 1) (seen ++ id ∷ []) found columns → Single depth seen part (record { depth = depth; id = id; part = part; kind = found } ∷ columns)
-single depth seen id part found columns low within new stands =
+single depth seen id part found columns within new stands =
     let column : Column = record { depth = depth; id = id; part = part; kind = found } in
     let inner = stands.stretch in
+    let low : depth + levels found ≤ 32 = omega (arith, stands.room) in
     record {
       stretch = record {
         bounded = All-cons IsColumn column columns (record { depth = low; id = within; kind = stands.bound }) inner.bounded;
@@ -144,14 +146,14 @@ module _ (form : ℕ → List ℕ → Shape Typed) (depth : ℕ) (low : depth �
       let ids = fresh_within id_key seen d so.0 so.1 in
       let stands = deeper (seen ++ so.0 ∷ []) so.2.1.0 so.2.0 so.2.1.2 in
       subst (λ (other : Inner). Single depth seen part (inner_columns depth part other)) (sym so.2.2)
-      (single depth seen so.0 part so.2.0.kind so.2.0.columns low ids.0 ids.1 stands)
+      (single depth seen so.0 part so.2.0.kind so.2.0.columns ids.0 ids.1 stands)
 
   list_stands : (seen : List ℕ) (d : Data) (typed : Typed) → (list_form form depth seen).stands d typed → Stands depth seen typed.kind typed.columns
   unfolding list_form
   list_stands seen d typed so =
       let one = inner_single ELEMENT_ID.now ELEMENT.now seen (Element so.2.0) d so.0 so.1 in
       subst (λ (other : Typed). Stands depth seen other.kind other.columns) (sym so.2.2)
-      (record { bound = tt; stretch = one.stretch; fits = subst (AreIn kind.List) (sym one.alone) tt })
+      (record { bound = tt; stretch = one.stretch; fits = subst (AreIn kind.List) (sym one.alone) tt; room = omega arith })
 
   map_stands : (seen : List ℕ) (d : Data) (typed : Typed) → (map_form form depth seen).stands d typed → Stands depth seen typed.kind typed.columns
   unfolding map_form joined_stretch inner_single
@@ -165,6 +167,7 @@ module _ (form : ℕ → List ℕ → Shape Typed) (depth : ℕ) (low : depth �
         bound = tt;
         stretch = joined_stretch depth seen (inner_columns depth Key so.0) (inner_columns depth (Value so.2.2.0) so.2.0) keyed.stretch valued.stretch;
         fits = subst (AreIn kind.Map) (sym both) tt;
+        room = omega arith;
       })
 
   -- one more field
@@ -179,7 +182,7 @@ module _ (form : ℕ → List ℕ → Shape Typed) (depth : ℕ) (low : depth �
       let ids = fresh_within ID.now (seen ++ column_ids made) d given so.2.1 in
       let new = neither (length named == 0) (is_name_among depth named made) so.2.2.2.1 in
       let stands = deeper ((seen ++ column_ids made) ++ given ∷ []) so.2.2.2.2.2.1.0 typed so.2.2.2.2.2.1.2 in
-      let one = single depth (seen ++ column_ids made) given part typed.kind typed.columns low ids.0 ids.1 stands in
+      let one = single depth (seen ++ column_ids made) given part typed.kind typed.columns ids.0 ids.1 stands in
       let tree = before.stretch.tree in
       let told : is_name_among depth named (listed tree) ≡ false = subst (λ columns. is_name_among depth named columns ≡ false) before.stretch.list new.1 in
       let unnamed : list_any (is_named named) (parts tree) ≡ false = sym (named-parts depth named tree before.stretch.stand) ∙ told in
@@ -205,7 +208,7 @@ module _ (form : ℕ → List ℕ → Shape Typed) (depth : ℕ) (low : depth �
   struct_stands seen d typed so =
       let fields = fields_stand seen so.1.0 so.0 so.1.2 in
       subst (λ (other : Typed). Stands depth seen other.kind other.columns) (sym so.2)
-      (record { bound = tt; stretch = fields.stretch; fits = fields.fields })
+      (record { bound = tt; stretch = fields.stretch; fits = fields.fields; room = omega arith })
 
   of_nested : (found : Nested) (seen : List ℕ) (d : Data) (typed : Typed) → (form_of form found depth seen).stands d typed → Stands depth seen typed.kind typed.columns
   of_nested nested.Struct = struct_stands
@@ -218,9 +221,9 @@ module _ (form : ℕ → List ℕ → Shape Typed) (depth : ℕ) (low : depth �
 
 kind_stands : (left depth : ℕ) (seen : List ℕ) (d : Data) (typed : Typed) → depth + left ≤ 33 → (kind_form left depth seen).stands d typed → Stands depth seen typed.kind typed.columns
 unfolding kind_form
-kind_stands zero depth seen d typed within so = plain_stands depth seen d typed so
+kind_stands zero depth seen d typed within so = plain_stands depth seen d typed (omega arith) so
 kind_stands (suc left) depth seen d typed within so =
-    by_choice (is_some (as_str d)) (plain_stands depth seen d typed)
+    by_choice (is_some (as_str d)) (plain_stands depth seen d typed (omega arith))
     (nested_stands (kind_form left) depth (omega arith) (λ other_seen other_d other_typed other_so. kind_stands left (depth + 1) other_seen other_d other_typed (omega arith) other_so) seen d typed)
     so
 

@@ -3,4 +3,6 @@ pub mod FormLemmas
 pub mod KindLemmas
 pub mod NumeralLemmas
 pub mod RequestLemmas
+pub mod SeenLemmas
+pub mod SiblingsLemmas
 pub mod WordLemmas

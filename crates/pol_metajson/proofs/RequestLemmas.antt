@@ -19,7 +19,7 @@ use Rattle.pol_metajson.specs.Order.{sort_field, unbound_order}
 use Rattle.pol_metajson.specs.Partition.{unbound_field, unbound_spec}
 use Rattle.pol_metajson.specs.Table.{IsFormed, given_order, given_spec, table_request}
 use Rattle.pol_metajson.specs.Transform.{transform}
-use Rattle.pol_metajson.specs.declared.keys.TheConstants.{FIELD_ID, PARTITION_SPEC, WRITE_ORDER}
+use Rattle.pol_metakeys.specs.declared.keys.TheConstants.{FIELD_ID, PARTITION_SPEC, WRITE_ORDER}
 use Rattle.pol_metajson.specs.declared.table.TableRequest.{TableRequest}
 use Rattle.pol_metajson.proofs.FormLemmas.{schema_formed}
 use Rattle.pol_metajson.proofs.WordLemmas.{transform_within}

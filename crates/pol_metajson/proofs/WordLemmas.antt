@@ -8,7 +8,7 @@ use Rattle.std.specs.Str.Parse.{digits_value}
 use Rattle.std.proofs.lemmas.Bool.{ltb-false}
 use Rattle.pol_readers.specs.Forms.{meaning}
 use Rattle.pol_meta.specs.Columns.{AreIn}
-use Rattle.pol_meta.specs.Valid.{IsKind, IsSize, IsTransform}
+use Rattle.pol_meta.specs.Valid.{IsKind, IsSize, IsTransform, levels}
 use Rattle.pol_meta.specs.declared.column.Kind.{Kind}
 use Rattle.pol_meta.specs.declared.column.Kind.TheVariants as kind
 use Rattle.pol_meta.specs.declared.transform.Transform.{Transform}
@@ -72,17 +72,18 @@ sized_within start word number is =
 pub record IsPlain (found : Kind) : Type 0 where
   pub bound : IsKind found
   pub empty : AreIn found []
+  pub flat : levels found ≡ 0
 
 plain_plain : (word : List ℕ) (found : Kind) → plain_kind word ≡ Some found → IsPlain found
-plain_plain word = meaning_holds IsPlain plain_kinds word ((record { bound = tt; empty = tt }), ((record { bound = tt; empty = tt }), ((record { bound = tt; empty = tt }), ((record { bound = tt; empty = tt }), ((record { bound = tt; empty = tt }), ((record { bound = tt; empty = tt }), tt))))))
+plain_plain word = meaning_holds IsPlain plain_kinds word ((record { bound = tt; empty = tt; flat = refl }), ((record { bound = tt; empty = tt; flat = refl }), ((record { bound = tt; empty = tt; flat = refl }), ((record { bound = tt; empty = tt; flat = refl }), ((record { bound = tt; empty = tt; flat = refl }), ((record { bound = tt; empty = tt; flat = refl }), tt))))))
 
 timed_plain : (word : List ℕ) (found : Kind) → timed_kind word ≡ Some found → IsPlain found
-timed_plain word = meaning_holds IsPlain timed_kinds word ((record { bound = tt; empty = tt }), ((record { bound = tt; empty = tt }), ((record { bound = tt; empty = tt }), ((record { bound = tt; empty = tt }), ((record { bound = tt; empty = tt }), ((record { bound = tt; empty = tt }), tt))))))
+timed_plain word = meaning_holds IsPlain timed_kinds word ((record { bound = tt; empty = tt; flat = refl }), ((record { bound = tt; empty = tt; flat = refl }), ((record { bound = tt; empty = tt; flat = refl }), ((record { bound = tt; empty = tt; flat = refl }), ((record { bound = tt; empty = tt; flat = refl }), ((record { bound = tt; empty = tt; flat = refl }), tt))))))
 
 fixed_plain : (word : List ℕ) (found : Kind) → option_map kind.Fixed (sized (codes "fixed[") word) ≡ Some found → IsPlain found
 fixed_plain word found is =
     let told = mapped kind.Fixed (sized (codes "fixed[") word) found is in
-    subst IsPlain told.2 (record { bound = sized_within (codes "fixed[") word told.0 told.1; empty = tt })
+    subst IsPlain told.2 (record { bound = sized_within (codes "fixed[") word told.0 told.1; empty = tt; flat = refl })
 
 decimal_plain : (word : List ℕ) (found : Kind) → decimal_of word ≡ Some found → IsPlain found
 decimal_plain word found is =
@@ -95,6 +96,7 @@ decimal_plain word found is =
     subst IsPlain scaled.2 (record {
       bound = record { least = precision.0; most = precision.1; scaled = scale.1 };
       empty = tt;
+      flat = refl;
     })
 
 pub kind_plain : (word : List ℕ) (found : Kind) → kind_of word ≡ Some found → IsPlain found

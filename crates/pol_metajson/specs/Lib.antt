@@ -4,12 +4,10 @@ pub mod Ids
 pub mod Kind
 pub mod Known
 pub mod Laws
-pub mod Metadata
-pub mod Numbered
 pub mod Numeral
 pub mod Order
 pub mod Partition
 pub mod Schema
-pub mod Snapshot
+pub mod Siblings
 pub mod Table
 pub mod Transform

@@ -9,7 +9,7 @@ use Rattle.pol_meta.specs.declared.sort.UnboundOrder.{UnboundOrder}
 use Rattle.pol_readers.specs.Shape.{Shape, ◌>>=◌, an_object, done, field, list, one_of, optional}
 use Rattle.pol_metajson.specs.Ids.{column_id, id}
 use Rattle.pol_metajson.specs.Transform.{transform}
-use Rattle.pol_metajson.specs.declared.keys.TheConstants.{ASC, DESC, DIRECTION, FIELDS, NULL_ORDER, NULLS_FIRST, NULLS_LAST, ORDER_ID, SOURCE_ID, TRANSFORM}
+use Rattle.pol_metakeys.specs.declared.keys.TheConstants.{ASC, DESC, DIRECTION, FIELDS, NULL_ORDER, NULLS_FIRST, NULLS_LAST, ORDER_ID, SOURCE_ID, TRANSFORM}
 
 abbrev pub directions : List (List ℕ × Direction)
 directions = (ASC.now, Asc) ∷ (DESC.now, Desc) ∷ []

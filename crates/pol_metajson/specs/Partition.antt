@@ -4,7 +4,7 @@ use Rattle.pol_meta.specs.declared.partition.UnboundSpec.{UnboundSpec}
 use Rattle.pol_readers.specs.Shape.{Shape, ◌>>=◌, an_object, done, field, list, optional, text}
 use Rattle.pol_metajson.specs.Ids.{column_id, field_id, id}
 use Rattle.pol_metajson.specs.Transform.{transform}
-use Rattle.pol_metajson.specs.declared.keys.TheConstants.{FIELD_ID, FIELDS, NAME, SOURCE_ID, SPEC_ID, TRANSFORM}
+use Rattle.pol_metakeys.specs.declared.keys.TheConstants.{FIELD_ID, FIELDS, NAME, SOURCE_ID, SPEC_ID, TRANSFORM}
 
 unfoldable pub unbound_field : Shape UnboundField
 unbound_field = do

@@ -19,7 +19,7 @@ use Rattle.pol_metajson.specs.declared.columns.Inner.{Inner}
 use Rattle.pol_metajson.specs.declared.columns.Nested.{Nested}
 use Rattle.pol_metajson.specs.declared.columns.Nested.TheVariants as nested
 use Rattle.pol_metajson.specs.declared.columns.Typed.{Typed}
-use Rattle.pol_metajson.specs.declared.keys.TheConstants.{DOC, ELEMENT, ELEMENT_ID, ELEMENT_REQUIRED, FIELDS, ID, IDENTIFIER_FIELD_IDS, KEY, KEY_ID, LIST, MAP, NAME, REQUIRED, SCHEMA_ID, STRUCT, TYPE, VALUE, VALUE_ID, VALUE_REQUIRED}
+use Rattle.pol_metakeys.specs.declared.keys.TheConstants.{DOC, ELEMENT, ELEMENT_ID, ELEMENT_REQUIRED, FIELDS, ID, IDENTIFIER_FIELD_IDS, KEY, KEY_ID, LIST, MAP, NAME, REQUIRED, SCHEMA_ID, STRUCT, TYPE, VALUE, VALUE_ID, VALUE_REQUIRED}
 
 -- a type whose columns stand in as many columns as the first number says, after columns that have the ids
 abbrev KindForm : Type 1
@@ -47,8 +47,11 @@ abbrev pub is_named : List ℕ → Part → Bool
 is_named name (Field other required doc) = bytes_eq other name
 is_named name other = false
 
+abbrev pub has_name : ℕ → List ℕ → Column → Bool
+has_name depth name column = column.depth == depth && is_named name column.part
+
 abbrev pub is_name_among : ℕ → List ℕ → List Column → Bool
-is_name_among depth name columns = list_any (λ column. column.depth == depth && is_named name column.part) columns
+is_name_among depth name columns = list_any (has_name depth name) columns
 
 abbrev pub is_new_name : ℕ → List ℕ → List Column → Bool
 is_new_name depth name beside = not (length name == 0) && not (is_name_among depth name beside)

@@ -11,7 +11,7 @@ use Rattle.pol_readers.specs.Shape.{Shape, ◌>>=◌, an_object, done, entries, 
 use Rattle.pol_metajson.specs.Order.{unbound_order}
 use Rattle.pol_metajson.specs.Partition.{unbound_spec}
 use Rattle.pol_metajson.specs.Schema.{schema}
-use Rattle.pol_metajson.specs.declared.keys.TheConstants.{LOCATION, NAME, PARTITION_SPEC, PROPERTIES, SCHEMA, STAGE_CREATE, WRITE_ORDER}
+use Rattle.pol_metakeys.specs.declared.keys.TheConstants.{LOCATION, NAME, PARTITION_SPEC, PROPERTIES, SCHEMA, STAGE_CREATE, WRITE_ORDER}
 use Rattle.pol_metajson.specs.declared.table.TableRequest.{TableRequest}
 
 -- the name of a table

@@ -31,10 +31,7 @@ impl<T> Body<T> {
 }
 
 /// The values that are read of the members of a list.
-pub(crate) fn values<T: Drop>(
-    alloc: Global,
-    bodies: Listed<Body<T>>,
-) -> Result<Listed<T>, OutOfMemory>
+pub fn values<T: Drop>(alloc: Global, bodies: Listed<Body<T>>) -> Result<Listed<T>, OutOfMemory>
     ensures { IfOk result (λ values. values ≡ bodies) }
 {
     let bodies: Vec<Body<T>> = bodies.into();

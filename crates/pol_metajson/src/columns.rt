@@ -10,9 +10,10 @@ ghost use Rattle.pol_metajson.specs.Schema as spec;
 
 use crate::failed::{failed_at, failed_under};
 use crate::ids::ColumnId;
-use crate::keys;
 use crate::kind::kind_of;
+use crate::seen::Seen;
 use pol_meta::{Column, Kind, Part};
+use pol_metakeys::keys;
 use pol_readers::{Form, ReadError, Word, field, holds, object, one_of, optional, under_key};
 use pol_types::{Listed, OutOfMemory, Text};
 use serde_json::Value;
@@ -85,48 +86,22 @@ pub(crate) fn holds_at(alloc: Global, key: &str, rule: bool) -> Result<(), ReadE
     under_key(alloc, key, holds(alloc, rule))
 }
 
-/// The id at this key, which no column before has.
-#[tactic(auto, unfolding(crate::specs::Schema::fresh_id))]
+/// The id at this key, which no column before has. It is seen from then on.
+#[tactic(auto, unfolding(crate::specs::Schema::fresh_id), using(crate::proofs::SeenLemmas::rule_holds))]
 pub(crate) fn read_id(
     alloc: Global,
     value: &Value,
     key: &str,
-    seen: &[u32],
+    seen: &mut Seen,
 ) -> Result<u32, ReadError>
-    ensures { Gives result ((spec.fresh_id key.now seen.now).read (view value.now)) }
+    ensures reading { Gives result ((spec.fresh_id key.now seen.old).read (view value.now)) }
+    ensures seen { IfOk result (λ id. seen.new ≡ seen.old ++ id ∷ []) }
 {
     let id: ColumnId = field(alloc, value, key)?;
     let id = id.get() as u32;
-    holds_at(alloc, key, !is_seen(seen, id))?;
+    let is_new = seen.insert(id)?;
+    holds_at(alloc, key, is_new)?;
     Ok(id)
-}
-
-fn is_seen(seen: &[u32], id: u32) -> bool
-    ensures { result ≡ spec.is_seen seen.now id }
-{
-    seen.iter().any(|other| *other == id)
-}
-
-/// Whether a name isn't empty and none of the columns beside it has it.
-pub(crate) fn is_new_name(depth: u32, name: &str, beside: &[Column]) -> bool
-    ensures { result ≡ spec.is_new_name depth name.now beside.now }
-{
-    !name.is_empty() && !is_name_among(depth, name, beside)
-}
-
-fn is_name_among(depth: u32, name: &str, columns: &[Column]) -> bool
-    ensures { result ≡ spec.is_name_among depth name.now columns.now }
-{
-    columns.iter().any(|column| column.depth == depth && is_named(name, &column.part))
-}
-
-fn is_named(name: &str, part: &Part) -> bool
-    ensures { result ≡ spec.is_named name.now part.now }
-{
-    match part {
-        Part::Field { name: other, .. } => other.as_str() == name,
-        _ => false,
-    }
 }
 
 /// A column, and those in it.

@@ -1,22 +1,10 @@
 use pol_readers::Ranged;
 
 /// The id of a column.
-pub(crate) type ColumnId = Ranged<0, 2_147_483_447>;
+pub type ColumnId = Ranged<0, 2_147_483_447>;
 
 /// The id of a schema, a spec or an order.
-pub(crate) type Id = Ranged<0, 2_147_483_647>;
+pub type Id = Ranged<0, 2_147_483_647>;
 
 /// The id of a partition field.
-pub(crate) type FieldId = Ranged<1_000, 2_147_483_647>;
-
-/// The last id that was given to a partition field, or the one before all of them.
-pub(crate) type LastFieldId = Ranged<999, 2_147_483_647>;
-
-/// The id of a snapshot, a sequence number, or a time in milliseconds since the Unix epoch.
-pub(crate) type Long = Ranged<0, 9_223_372_036_854_775_807>;
-
-/// What is to be kept of a reference.
-pub(crate) type Kept = Ranged<1, 9_223_372_036_854_775_807>;
-
-/// The format version.
-pub(crate) type Version = Ranged<2, 2>;
+pub type FieldId = Ranged<1_000, 2_147_483_647>;

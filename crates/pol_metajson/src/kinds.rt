@@ -6,12 +6,12 @@ ghost use Rattle.pol_readers.specs.Forms as form;
 ghost use Rattle.pol_readers.specs.Reading.{Gives};
 ghost use Rattle.pol_metajson.specs.Schema as spec;
 
-use crate::columns::{
-    Inner, Nested, Typed, holds_at, is_new_name, joined, read_id, read_plain, with_inner,
-};
+use crate::columns::{Inner, Nested, Typed, holds_at, joined, read_id, read_plain, with_inner};
 use crate::failed::{failed_at, failed_under};
-use crate::keys;
+use crate::seen::Seen;
+use crate::siblings::Siblings;
 use pol_meta::{Column, Kind, Part};
+use pol_metakeys::keys;
 use pol_readers::{ReadError, field, object, optional};
 use pol_types::{Listed, OutOfMemory, Text};
 use serde_json::Value;
@@ -26,11 +26,11 @@ pub(crate) fn read_kind(
     value: &Value,
     left: u32,
     depth: u32,
-    seen: &mut Vec<u32>,
+    seen: &mut Seen,
 ) -> Result<Typed, ReadError>
     requires { depth + left ≤ 33 }
-    ensures reading { Gives result ((spec.kind_form left depth seen.old.items).read (view value.now)) }
-    ensures seen { IfOk result (λ typed. seen.new.items ≡ seen.old.items ++ column_ids typed.columns) }
+    ensures reading { Gives result ((spec.kind_form left depth seen.old).read (view value.now)) }
+    ensures seen { IfOk result (λ typed. seen.new ≡ seen.old ++ column_ids typed.columns) }
 {
     if left == 0 {
         return read_plain(alloc, value);
@@ -49,11 +49,11 @@ fn read_nested(
     value: &Value,
     left: u32,
     depth: u32,
-    seen: &mut Vec<u32>,
+    seen: &mut Seen,
 ) -> Result<Typed, ReadError>
     requires { depth + left ≤ 32 }
-    ensures reading { Gives result ((spec.nested_form (spec.kind_form left) depth seen.old.items).read (view value.now)) }
-    ensures seen { IfOk result (λ typed. seen.new.items ≡ seen.old.items ++ column_ids typed.columns) }
+    ensures reading { Gives result ((spec.nested_form (spec.kind_form left) depth seen.old).read (view value.now)) }
+    ensures seen { IfOk result (λ typed. seen.new ≡ seen.old ++ column_ids typed.columns) }
 {
     object(alloc, value)?;
     let nested: Nested = field(alloc, value, keys::TYPE)?;
@@ -73,11 +73,11 @@ fn read_kind_at(
     key: &str,
     left: u32,
     depth: u32,
-    seen: &mut Vec<u32>,
+    seen: &mut Seen,
 ) -> Result<Typed, ReadError>
     requires { depth + left ≤ 33 }
-    ensures reading { Gives result (form.field key.now (spec.kind_form left depth seen.old.items).read (view value.now)) }
-    ensures seen { IfOk result (λ typed. seen.new.items ≡ seen.old.items ++ column_ids typed.columns) }
+    ensures reading { Gives result (form.field key.now (spec.kind_form left depth seen.old).read (view value.now)) }
+    ensures seen { IfOk result (λ typed. seen.new ≡ seen.old ++ column_ids typed.columns) }
 {
     let Some(member) = value.get(key) else {
         return failed_under(alloc, key, ReadError::here(alloc));
@@ -98,14 +98,13 @@ fn read_inner(
     key: &str,
     left: u32,
     depth: u32,
-    seen: &mut Vec<u32>,
+    seen: &mut Seen,
 ) -> Result<Inner, ReadError>
     requires { depth + left ≤ 32 }
-    ensures reading { Gives result ((spec.inner_form (spec.kind_form left) id_key.now key.now depth seen.old.items).read (view value.now)) }
-    ensures seen { IfOk result (λ inner. seen.new.items ≡ seen.old.items ++ inner.id ∷ column_ids inner.columns) }
+    ensures reading { Gives result ((spec.inner_form (spec.kind_form left) id_key.now key.now depth seen.old).read (view value.now)) }
+    ensures seen { IfOk result (λ inner. seen.new ≡ seen.old ++ inner.id ∷ column_ids inner.columns) }
 {
-    let id = read_id(alloc, value, id_key, seen.as_slice())?;
-    seen.push(id)?;
+    let id = read_id(alloc, value, id_key, seen)?;
     let typed = read_kind_at(alloc, value, key, left, depth + 1, seen)?;
     Ok(Inner {
         id,
@@ -122,11 +121,11 @@ fn read_list(
     value: &Value,
     left: u32,
     depth: u32,
-    seen: &mut Vec<u32>,
+    seen: &mut Seen,
 ) -> Result<Typed, ReadError>
     requires { depth + left ≤ 32 }
-    ensures reading { Gives result ((spec.list_form (spec.kind_form left) depth seen.old.items).read (view value.now)) }
-    ensures seen { IfOk result (λ typed. seen.new.items ≡ seen.old.items ++ column_ids typed.columns) }
+    ensures reading { Gives result ((spec.list_form (spec.kind_form left) depth seen.old).read (view value.now)) }
+    ensures seen { IfOk result (λ typed. seen.new ≡ seen.old ++ column_ids typed.columns) }
 {
     let inner = read_inner(
         alloc,
@@ -153,11 +152,11 @@ fn read_map(
     value: &Value,
     left: u32,
     depth: u32,
-    seen: &mut Vec<u32>,
+    seen: &mut Seen,
 ) -> Result<Typed, ReadError>
     requires { depth + left ≤ 32 }
-    ensures reading { Gives result ((spec.map_form (spec.kind_form left) depth seen.old.items).read (view value.now)) }
-    ensures seen { IfOk result (λ typed. seen.new.items ≡ seen.old.items ++ column_ids typed.columns) }
+    ensures reading { Gives result ((spec.map_form (spec.kind_form left) depth seen.old).read (view value.now)) }
+    ensures seen { IfOk result (λ typed. seen.new ≡ seen.old ++ column_ids typed.columns) }
 {
     let keyed = read_inner(alloc, value, keys::KEY_ID, keys::KEY, left, depth, seen)?;
     let valued = read_inner(alloc, value, keys::VALUE_ID, keys::VALUE, left, depth, seen)?;
@@ -177,11 +176,11 @@ fn read_struct(
     value: &Value,
     left: u32,
     depth: u32,
-    seen: &mut Vec<u32>,
+    seen: &mut Seen,
 ) -> Result<Typed, ReadError>
     requires { depth + left ≤ 32 }
-    ensures reading { Gives result ((spec.struct_form (spec.kind_form left) depth seen.old.items).read (view value.now)) }
-    ensures seen { IfOk result (λ typed. seen.new.items ≡ seen.old.items ++ column_ids typed.columns) }
+    ensures reading { Gives result ((spec.struct_form (spec.kind_form left) depth seen.old).read (view value.now)) }
+    ensures seen { IfOk result (λ typed. seen.new ≡ seen.old ++ column_ids typed.columns) }
 {
     let columns = read_fields_at(alloc, value, keys::FIELDS, left, depth, seen)?;
     Ok(Typed {
@@ -199,11 +198,11 @@ fn read_fields_at(
     key: &str,
     left: u32,
     depth: u32,
-    seen: &mut Vec<u32>,
+    seen: &mut Seen,
 ) -> Result<Listed<Column>, ReadError>
     requires { depth + left ≤ 32 }
-    ensures reading { Gives result (form.field key.now (spec.struct_fields (spec.kind_form left) depth seen.old.items).read (view value.now)) }
-    ensures seen { IfOk result (λ columns. seen.new.items ≡ seen.old.items ++ column_ids columns) }
+    ensures reading { Gives result (form.field key.now (spec.struct_fields (spec.kind_form left) depth seen.old).read (view value.now)) }
+    ensures seen { IfOk result (λ columns. seen.new ≡ seen.old ++ column_ids columns) }
 {
     let Some(member) = value.get(key) else {
         return failed_under(alloc, key, ReadError::here(alloc));
@@ -222,24 +221,24 @@ pub(crate) fn read_fields(
     value: &Value,
     left: u32,
     depth: u32,
-    seen: &mut Vec<u32>,
+    seen: &mut Seen,
 ) -> Result<Listed<Column>, ReadError>
     requires { depth + left ≤ 32 }
-    ensures reading { Gives result ((spec.struct_fields (spec.kind_form left) depth seen.old.items).read (view value.now)) }
-    ensures seen { IfOk result (λ columns. seen.new.items ≡ seen.old.items ++ column_ids columns) }
+    ensures reading { Gives result ((spec.struct_fields (spec.kind_form left) depth seen.old).read (view value.now)) }
+    ensures seen { IfOk result (λ columns. seen.new ≡ seen.old ++ column_ids columns) }
 {
     let Some(items) = value.as_array() else {
         return Err(ReadError::here(alloc));
     };
-    let mut columns = Listed::from(Vec::new(alloc));
+    let mut siblings = Siblings::new(alloc, depth);
     for (place, item) in items.iter().enumerate() {
-        let more = match read_field(alloc, item, left, depth, seen, columns.as_slice()) {
+        let more = match read_field(alloc, item, left, seen, &siblings) {
             Ok(more) => more,
             Err(error) => return failed_at(place, error),
         };
-        columns = joined(columns, more)?;
+        siblings = siblings.with(more)?;
     }
-    Ok(columns)
+    Ok(siblings.into_columns())
 }
 
 /// A field of a struct, and the columns in it, after those beside it.
@@ -249,20 +248,19 @@ fn read_field(
     alloc: Global,
     value: &Value,
     left: u32,
-    depth: u32,
-    seen: &mut Vec<u32>,
-    beside: &[Column],
+    seen: &mut Seen,
+    beside: &Siblings,
 ) -> Result<Listed<Column>, ReadError>
-    requires { depth + left ≤ 32 }
-    ensures reading { Gives result ((spec.struct_field (spec.kind_form left) depth seen.old.items beside.now).read (view value.now)) }
-    ensures seen { IfOk result (λ columns. seen.new.items ≡ seen.old.items ++ column_ids columns) }
+    requires { beside.now.depth + left ≤ 32 }
+    ensures reading { Gives result ((spec.struct_field (spec.kind_form left) beside.now.depth seen.old beside.now.columns).read (view value.now)) }
+    ensures seen { IfOk result (λ columns. seen.new ≡ seen.old ++ column_ids columns) }
 {
     object(alloc, value)?;
-    let id = read_id(alloc, value, keys::ID, seen.as_slice())?;
+    let depth = beside.depth();
+    let id = read_id(alloc, value, keys::ID, seen)?;
     let name: Text = field(alloc, value, keys::NAME)?;
-    holds_at(alloc, keys::NAME, is_new_name(depth, name.as_str(), beside))?;
+    holds_at(alloc, keys::NAME, beside.is_new_name(&name))?;
     let required = field(alloc, value, keys::REQUIRED)?;
-    seen.push(id)?;
     let typed = read_kind_at(alloc, value, keys::TYPE, left, depth + 1, seen)?;
     let doc = optional(alloc, value, keys::DOC)?;
     let column = Column {

@@ -1,5 +1,5 @@
-//! The JSON of tables' metadata (RFC 8259): bodies that create a table and whole metadata are read, each with the path
-//! to its first bad field.
+//! The JSON (RFC 8259) of bodies that create a table is read, and of the parts that whole metadata share with them, each
+//! with the path to its first bad field.
 #![tactic(auto)]
 
 mod body;
@@ -7,20 +7,18 @@ mod brackets;
 mod columns;
 mod failed;
 mod ids;
-pub mod keys;
 mod kind;
 mod kinds;
 pub mod laws;
-mod metadata;
-mod numbered;
 mod numeral;
 mod order;
 mod partition;
 mod schema;
-mod snapshot;
+mod seen;
+mod siblings;
 mod table;
 mod transform;
 
-pub use body::Body;
-pub use metadata::read_table;
+pub use body::{Body, values};
+pub use ids::{ColumnId, FieldId, Id};
 pub use table::{TableRequest, read_create_table};

@@ -1,9 +1,10 @@
 ghost use Rattle.pol_metajson.specs.Order as spec;
 
+use crate::Body;
 use crate::body::values;
 use crate::ids::{ColumnId, Id};
-use crate::{Body, keys};
 use pol_meta::{Direction, NullOrder, SortField, Transform, UnboundOrder};
+use pol_metakeys::keys;
 use pol_readers::{Form, ReadError, Word, field, object, one_of, optional};
 use pol_types::Listed;
 use serde_json::Value;

@@ -1,10 +1,11 @@
 ghost use Rattle.std.specs.Prelude.{◌≡◌};
 ghost use Rattle.pol_metajson.specs.Partition as spec;
 
+use crate::Body;
 use crate::body::values;
 use crate::ids::{ColumnId, FieldId, Id};
-use crate::{Body, keys};
 use pol_meta::{Transform, UnboundField, UnboundSpec};
+use pol_metakeys::keys;
 use pol_readers::{Form, ReadError, field, object, optional};
 use pol_types::{Listed, Text};
 use serde_json::Value;

@@ -1,14 +1,18 @@
-ghost use Rattle.std.specs.Prelude.{◌≡◌, [], IfOk, unwrap_or};
+ghost use Rattle.std.specs.Prelude.{◌≡◌, [], ℕ, nat_eq, IfOk, unwrap_or};
+ghost use Rattle.indexmap.specs.IndexSet.{contains};
 ghost use Rattle.pol_meta.specs.Columns.{has_field, is_field};
 ghost use Rattle.pol_readers.specs.Reading.{Gives};
 ghost use Rattle.pol_metajson.specs.Known.{all_known, known_from};
 ghost use Rattle.pol_metajson.specs.Schema as spec;
 
+use crate::Body;
 use crate::failed::failed_at;
 use crate::ids::{ColumnId, Id};
 use crate::kinds::read_fields;
-use crate::{Body, keys};
+use crate::seen::Seen;
+use indexmap::IndexSet;
 use pol_meta::{Column, Ids, Part, Schema};
+use pol_metakeys::keys;
 use pol_readers::{Form, ReadError, field, fixed, object, optional, under_key};
 use pol_types::{Listed, OutOfMemory};
 use serde_json::Value;
@@ -22,7 +26,7 @@ impl Form for Body<Listed<Column>> {
     ghost shape = { spec.columns_form };
 
     fn read(alloc: Global, value: &Value) -> Result<Self, ReadError> {
-        let mut seen = Vec::new(alloc);
+        let mut seen = Seen::new(alloc);
         let columns = read_fields(alloc, value, NESTING, 0, &mut seen)?;
         Ok(Body::new(columns))
     }
@@ -75,21 +79,6 @@ fn plain_ids(alloc: Global, given: Listed<ColumnId>) -> Result<Ids, OutOfMemory>
     Ok(Ids::from(ids))
 }
 
-/// Whether a column that is a field has this id.
-fn has_field(columns: &[Column], id: u32) -> bool
-    ensures { result ≡ has_field columns.now id }
-{
-    columns
-        .iter()
-        .any(|column| column.id == id && is_field(&column.part))
-}
-
-fn is_field(part: &Part) -> bool
-    ensures { result ≡ is_field part.now }
-{
-    matches!(part, Part::Field { .. })
-}
-
 /// The ids at a key must be those of fields: the first that isn't is bad.
 fn known_at(alloc: Global, key: &str, columns: &[Column], ids: &[u32]) -> Result<(), ReadError>
     ensures { Gives result (all_known key.now (has_field columns.now) ids.now) }
@@ -101,10 +90,30 @@ fn known_at(alloc: Global, key: &str, columns: &[Column], ids: &[u32]) -> Result
 fn known(alloc: Global, columns: &[Column], ids: &[u32]) -> Result<(), ReadError>
     ensures { Gives result (known_from (has_field columns.now) 0 ids.now) }
 {
+    let fields = field_ids(alloc, columns)?;
     for (place, id) in ids.iter().enumerate() {
-        if !has_field(columns, *id) {
+        if !fields.contains(id) {
             return failed_at(place, ReadError::here(alloc));
         }
     }
     Ok(())
+}
+
+/// The ids of the columns that are fields.
+fn field_ids(alloc: Global, columns: &[Column]) -> Result<IndexSet<u32>, OutOfMemory>
+    ensures { IfOk result (λ ids. (id : ℕ) → contains nat_eq ids id ≡ has_field columns.now id) }
+{
+    let mut ids = IndexSet::new(alloc);
+    for column in columns {
+        if is_field(&column.part) {
+            ids.insert(column.id)?;
+        }
+    }
+    Ok(ids)
+}
+
+fn is_field(part: &Part) -> bool
+    ensures { result ≡ is_field part.now }
+{
+    matches!(part, Part::Field { .. })
 }

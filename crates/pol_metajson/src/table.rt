@@ -4,8 +4,9 @@ ghost use Rattle.pol_readers.specs.Forms as form;
 ghost use Rattle.pol_readers.specs.Reading.{Gives};
 ghost use Rattle.pol_metajson.specs.Table as spec;
 
-use crate::{Body, keys};
+use crate::Body;
 use pol_meta::{Schema, UnboundOrder, UnboundSpec};
+use pol_metakeys::keys;
 use pol_names::{Name, NameRefused};
 use pol_properties::{Properties, Property};
 use pol_readers::{Entries, Form, ReadError, field, object, optional, read_body};
@@ -29,7 +30,7 @@ pub struct TableRequest {
 /// Reads a body that creates a table (Iceberg REST OpenAPI, CreateTableRequest). Its fields are tested in the order
 /// name, location, schema, partition-spec, write-order, stage-create, properties.
 #[tactic(auto, using(crate::proofs::RequestLemmas::body_formed))]
-pub fn read_create_table(alloc: Global, body: &[u8]) -> Result<Body<TableRequest>, ReadError>
+pub fn read_create_table(alloc: Global, body: &[u8]) -> Result<TableRequest, ReadError>
     ensures reading { Gives result (form.body spec.table_request.read body.now) }
     ensures formed { IfOk result spec.IsFormed }
 {
@@ -74,7 +75,7 @@ fn properties_of(alloc: Global, entries: Entries<Text>) -> Result<Properties, Ou
 }
 
 #[tactic(auto, unfolding(crate::specs::Table::table_request))]
-impl Form for Body<TableRequest> {
+impl Form for TableRequest {
     ghost shape = { spec.table_request };
 
     fn read(alloc: Global, value: &Value) -> Result<Self, ReadError> {
@@ -86,7 +87,7 @@ impl Form for Body<TableRequest> {
         let write_order = optional(alloc, value, keys::WRITE_ORDER)?;
         let stage_create: Option<bool> = optional(alloc, value, keys::STAGE_CREATE)?;
         let properties = optional(alloc, value, keys::PROPERTIES)?;
-        Ok(Body::new(TableRequest {
+        Ok(TableRequest {
             name: name.into_value(),
             location,
             schema: schema.into_value(),
@@ -94,7 +95,7 @@ impl Form for Body<TableRequest> {
             write_order: given_order(alloc, write_order),
             stage_create: stage_create.unwrap_or(false),
             properties: given_properties(alloc, properties),
-        }))
+        })
     }
 }
 

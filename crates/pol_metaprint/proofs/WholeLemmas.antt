@@ -25,7 +25,7 @@ use Rattle.pol_meta.specs.declared.schema.Schema.{Schema}
 use Rattle.pol_meta.specs.declared.snapshot.Snapshot.{Snapshot}
 use Rattle.pol_meta.specs.declared.sort.SortField.{SortField}
 use Rattle.pol_meta.specs.declared.sort.SortOrder.{SortOrder}
-use Rattle.pol_metajson.specs.declared.keys.TheConstants as key
+use Rattle.pol_metakeys.specs.declared.keys.TheConstants as key
 use Rattle.pol_metaprint.specs.Columns.{Tree, beside_of, field_json, grown, inner_of, is_required, kind_json, list_of, map_of, part_json, put_text, struct_json, trees_of}
 use Rattle.pol_metaprint.specs.Json.{list_json, metadata_log_entry_json, number_json, pairs_json, partition_field_json, partition_spec_json, put_number, put_pair, put_ref, reference_json, refs_json, snapshot_json, snapshot_log_entry_json, sort_field_json, sort_order_json}
 use Rattle.pol_metaprint.specs.Texts.{kind_text, ref_kind_text}

@@ -7,7 +7,7 @@ use Rattle.pol_meta.specs.declared.column.Kind.{Kind}
 use Rattle.pol_meta.specs.declared.column.Kind.TheVariants as kind
 use Rattle.pol_meta.specs.declared.column.Part.{Part}
 use Rattle.pol_meta.specs.declared.column.Part.TheVariants.{Field, Element, Key, Value}
-use Rattle.pol_metajson.specs.declared.keys.TheConstants.{DOC, ELEMENT, ELEMENT_ID, ELEMENT_REQUIRED, FIELDS, ID, KEY, KEY_ID, LIST, MAP, NAME, REQUIRED, STRUCT, TYPE, VALUE, VALUE_ID, VALUE_REQUIRED}
+use Rattle.pol_metakeys.specs.declared.keys.TheConstants.{DOC, ELEMENT, ELEMENT_ID, ELEMENT_REQUIRED, FIELDS, ID, KEY, KEY_ID, LIST, MAP, NAME, REQUIRED, STRUCT, TYPE, VALUE, VALUE_ID, VALUE_REQUIRED}
 use Rattle.pol_metaprint.specs.Json.{list_json, number_json}
 use Rattle.pol_metaprint.specs.Texts.{kind_text}
 

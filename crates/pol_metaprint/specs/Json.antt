@@ -13,7 +13,7 @@ use Rattle.pol_meta.specs.declared.reference.SnapshotRef.{SnapshotRef}
 use Rattle.pol_meta.specs.declared.snapshot.Snapshot.{Snapshot}
 use Rattle.pol_meta.specs.declared.sort.SortField.{SortField}
 use Rattle.pol_meta.specs.declared.sort.SortOrder.{SortOrder}
-use Rattle.pol_metajson.specs.declared.keys.TheConstants.{DIRECTION, FIELD_ID, FIELDS, MANIFEST_LIST, MAX_REF_AGE_MS, MAX_SNAPSHOT_AGE_MS, METADATA_FILE, MIN_SNAPSHOTS_TO_KEEP, NAME, NULL_ORDER, ORDER_ID, PARENT_SNAPSHOT_ID, SCHEMA_ID, SEQUENCE_NUMBER, SNAPSHOT_ID, SOURCE_ID, SPEC_ID, SUMMARY, TIMESTAMP_MS, TRANSFORM, TYPE}
+use Rattle.pol_metakeys.specs.declared.keys.TheConstants.{DIRECTION, FIELD_ID, FIELDS, MANIFEST_LIST, MAX_REF_AGE_MS, MAX_SNAPSHOT_AGE_MS, METADATA_FILE, MIN_SNAPSHOTS_TO_KEEP, NAME, NULL_ORDER, ORDER_ID, PARENT_SNAPSHOT_ID, SCHEMA_ID, SEQUENCE_NUMBER, SNAPSHOT_ID, SOURCE_ID, SPEC_ID, SUMMARY, TIMESTAMP_MS, TRANSFORM, TYPE}
 use Rattle.pol_metaprint.specs.Texts.{direction_text, null_order_text, ref_kind_text, transform_text}
 
 abbrev pub number_json : ℕ → Data

@@ -4,7 +4,7 @@ use Rattle.uuid.specs.Text.{hyphenated_text, lower}
 use Rattle.serde_json.specs.Data.{Data, Members, no_members, object, put, string}
 use Rattle.pol_meta.specs.declared.metadata.TableMetadata.{TableMetadata}
 use Rattle.pol_meta.specs.declared.schema.Schema.{Schema}
-use Rattle.pol_metajson.specs.declared.keys.TheConstants as key
+use Rattle.pol_metakeys.specs.declared.keys.TheConstants as key
 use Rattle.pol_metaprint.specs.Columns.{field_json, trees_of}
 use Rattle.pol_metaprint.specs.Json.{list_json, metadata_log_entry_json, number_json, pairs_json, partition_spec_json, put_number, refs_json, snapshot_json, snapshot_log_entry_json, sort_order_json}
 

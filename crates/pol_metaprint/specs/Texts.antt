@@ -10,7 +10,7 @@ use Rattle.pol_meta.specs.declared.reference.RefKind.{RefKind}
 use Rattle.pol_meta.specs.declared.reference.RefKind.TheVariants.{Branch, Tag}
 use Rattle.pol_meta.specs.declared.transform.Transform.{Transform}
 use Rattle.pol_meta.specs.declared.transform.Transform.TheVariants.{Identity, Void, Year, Month, Day, Hour, Bucket, Truncate}
-use Rattle.pol_metajson.specs.declared.keys.TheConstants.{ASC, BRANCH, DESC, LIST, MAP, NULLS_FIRST, NULLS_LAST, STRUCT, TAG}
+use Rattle.pol_metakeys.specs.declared.keys.TheConstants.{ASC, BRANCH, DESC, LIST, MAP, NULLS_FIRST, NULLS_LAST, STRUCT, TAG}
 
 -- a number in brackets
 abbrev pub sized_text : List ℕ → ℕ → List ℕ

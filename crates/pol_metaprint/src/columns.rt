@@ -2,7 +2,7 @@
 ghost use Rattle.std.specs.Prelude.{◌≡◌, ◌<◌, ◌∷◌, [], IfOk, IfSome, OnOk, map, reverse};
 ghost use Rattle.serde_json.specs.Data.{string};
 ghost use Rattle.serde_json.specs.View.{members_view, view};
-ghost use Rattle.pol_metajson.specs.declared.keys.TheConstants.{DOC};
+ghost use Rattle.pol_metakeys.specs.declared.keys.TheConstants.{DOC};
 ghost use Rattle.pol_metaprint.specs.Texts.{kind_text};
 ghost use Rattle.pol_metaprint.specs.Columns as spec;
 ghost use Rattle.pol_metaprint.specs.Trees.{shown, tree_of, trees_shown};
@@ -11,7 +11,7 @@ ghost use Rattle.pol_metaprint.specs.Json as json;
 use crate::members::{Members, none, with, with_number, with_text};
 use crate::texts::kind_text;
 use pol_meta::{Column, Kind, Part};
-use pol_metajson::keys;
+use pol_metakeys::keys;
 use pol_types::{OutOfMemory, Text};
 use serde_json::Value;
 use std::alloc::Global;

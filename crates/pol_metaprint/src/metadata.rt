@@ -12,7 +12,7 @@ use crate::members::{Members, none, pairs, with, with_number, with_optional, wit
 use crate::parts::refs;
 use crate::printed::{Printed, list};
 use pol_meta::{Ids, Schema, TableMetadata};
-use pol_metajson::keys;
+use pol_metakeys::keys;
 use pol_types::{OutOfMemory, Text};
 use serde_json::Value;
 use std::alloc::Global;

@@ -12,7 +12,7 @@ use pol_meta::{
     MetadataLogEntry, NamedRef, PartitionField, PartitionSpec, Snapshot, SnapshotLogEntry,
     SnapshotRef, SortField, SortOrder,
 };
-use pol_metajson::keys;
+use pol_metakeys::keys;
 use pol_types::OutOfMemory;
 use serde_json::Value;
 use std::alloc::Global;

@@ -3,7 +3,7 @@ ghost use Rattle.std.specs.Prelude.{◌≡◌, ◌++◌, IfOk, codes, decimal};
 ghost use Rattle.pol_metaprint.specs.Texts as spec;
 
 use pol_meta::{Direction, Kind, NullOrder, RefKind, Transform};
-use pol_metajson::keys;
+use pol_metakeys::keys;
 use pol_types::{OutOfMemory, Text};
 use std::alloc::Global;
 

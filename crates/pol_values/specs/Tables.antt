@@ -8,7 +8,7 @@ use Rattle.pol_meta.specs.Creation.{create_refusal, created}
 use Rattle.pol_meta.specs.declared.metadata.TableMetadata.{TableMetadata}
 use Rattle.pol_meta.specs.declared.why.Why.{Why}
 use Rattle.pol_meta.specs.declared.why.Why.TheVariants as why
-use Rattle.pol_metajson.specs.Metadata.{table_metadata}
+use Rattle.pol_metaread.specs.Metadata.{table_metadata}
 use Rattle.pol_metajson.specs.Table.{table_request}
 use Rattle.pol_metajson.specs.declared.table.TableRequest.{TableRequest}
 use Rattle.pol_metaprint.specs.Metadata.{table_json}

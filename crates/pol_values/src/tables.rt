@@ -7,8 +7,9 @@ ghost use Rattle.pol_values.specs.Tables as spec;
 
 use crate::unread::Unread;
 use pol_meta::{CreateRefused, TableMetadata, Why};
-use pol_metajson::{TableRequest, read_create_table, read_table};
+use pol_metajson::{TableRequest, read_create_table};
 use pol_metaprint::table_value;
+use pol_metaread::read_table;
 use pol_readers::ReadError;
 use std::alloc::{AllocError, Global};
 use uuid::Uuid;
@@ -21,7 +22,7 @@ pub(crate) fn table(alloc: Global, body: &str) -> Result<String, Unread>
     ensures { IfOk result (λ told. spec.TellsTable body.now (string_bytes told)) }
 {
     match read_create_table(alloc, body.as_bytes()) {
-        Ok(request) => request_text(alloc, request.into_value()),
+        Ok(request) => request_text(alloc, request),
         Err(ReadError::Field(path)) => Ok(format!(in alloc; "Unreadable: {path}")?),
         Err(ReadError::OutOfMemory) => Err(Unread::NoMemory),
     }
@@ -32,7 +33,7 @@ pub(crate) fn metadata(alloc: Global, text: &str) -> Result<String, Unread>
     ensures { IfOk result (λ told. spec.TellsMetadata text.now (string_bytes told)) }
 {
     match read_table(alloc, text.as_bytes()) {
-        Ok(meta) => metadata_text(alloc, &meta.into_value()),
+        Ok(meta) => metadata_text(alloc, &meta),
         Err(ReadError::Field(path)) => Ok(format!(in alloc; "Unreadable: {path}")?),
         Err(ReadError::OutOfMemory) => Err(Unread::NoMemory),
     }

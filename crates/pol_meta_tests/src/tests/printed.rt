@@ -58,7 +58,7 @@ fn created(alloc: Global, request: TableRequest) -> Result<TableMetadata, Create
 /// The metadata of the table that the body asks for.
 fn table(alloc: Global) -> Option<TableMetadata> {
     match read_create_table(alloc, BODY.as_bytes()) {
-        Ok(request) => created(alloc, request.into_value()).ok(),
+        Ok(request) => created(alloc, request).ok(),
         Err(error) => {
             drop(error);
             None

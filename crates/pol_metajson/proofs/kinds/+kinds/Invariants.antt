@@ -37,6 +37,7 @@ decreases-read_nested l = 8 * l.left + 6
 
 abbrev pub invariant-read_fields-loop-place : goal.invariant-read_fields-loop-place
 invariant-read_fields-loop-place l =
-    (chained_items (read_next (kind_form l.fn.left) l.fn.depth l.initial.seen.items) 0 [] (items_view l.item-items)
-    ≡ chained_items (read_next (kind_form l.fn.left) l.fn.depth l.initial.seen.items) l.place l.columns (items_view (drop l.place l.item-items)))
-    × (l.seen.items ≡ l.initial.seen.items ++ column_ids l.columns)
+    (chained_items (read_next (kind_form l.fn.left) l.fn.depth l.initial.seen) 0 [] (items_view l.item-items)
+    ≡ chained_items (read_next (kind_form l.fn.left) l.fn.depth l.initial.seen) l.place l.siblings.columns (items_view (drop l.place l.item-items)))
+    × (l.siblings.depth ≡ l.fn.depth)
+    × (l.seen ≡ l.initial.seen ++ column_ids l.siblings.columns)

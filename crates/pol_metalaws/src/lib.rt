@@ -1,0 +1,4 @@
+//! Laws of the JSON of tables' metadata: what is printed is read again.
+#![tactic(auto)]
+
+pub mod laws;

@@ -1,0 +1,4 @@
+pub mod Ids
+pub mod Metadata
+pub mod Numbered
+pub mod Snapshot
