@@ -23,7 +23,7 @@ use Rattle.pol_meta.specs.declared.snapshot.Snapshot.{Snapshot}
 use Rattle.pol_meta.specs.declared.sort.SortField.{SortField}
 use Rattle.pol_meta.specs.declared.sort.SortOrder.{SortOrder}
 use Rattle.pol_meta.specs.declared.transform.Transform.{Transform}
-use Rattle.pol_meta.specs.declared.transform.Transform.TheVariants.{Bucket, Truncate}
+use Rattle.pol_meta.specs.declared.transform.Transform.TheVariants.{Identity, Void, Year, Month, Day, Hour, Bucket, Truncate}
 
 -- ids of columns: those above are the spec's own
 abbrev pub IsColumnId : ℕ → Type 0
@@ -60,19 +60,51 @@ pub record IsDecimal (precision scale : ℕ) : Type 0 where
 abbrev pub IsKind : Kind → Type 0
 IsKind (kind.Decimal precision scale) = IsDecimal precision scale
 IsKind (kind.Fixed length) = IsSize length
-IsKind other = ⊤
+IsKind kind.Boolean = ⊤
+IsKind kind.Int = ⊤
+IsKind kind.Long = ⊤
+IsKind kind.Float = ⊤
+IsKind kind.Double = ⊤
+IsKind kind.Date = ⊤
+IsKind kind.Time = ⊤
+IsKind kind.Timestamp = ⊤
+IsKind kind.Timestamptz = ⊤
+IsKind kind.String = ⊤
+IsKind kind.Uuid = ⊤
+IsKind kind.Binary = ⊤
+IsKind kind.Struct = ⊤
+IsKind kind.List = ⊤
+IsKind kind.Map = ⊤
 
 abbrev pub IsTransform : Transform → Type 0
 IsTransform (Bucket buckets) = IsSize buckets
 IsTransform (Truncate width) = IsSize width
-IsTransform other = ⊤
+IsTransform Identity = ⊤
+IsTransform Void = ⊤
+IsTransform Year = ⊤
+IsTransform Month = ⊤
+IsTransform Day = ⊤
+IsTransform Hour = ⊤
 
 -- a type in which columns stand is one level more, even where none does
 abbrev pub levels : Kind → ℕ
 levels kind.Struct = 1
 levels kind.List = 1
 levels kind.Map = 1
-levels other = 0
+levels kind.Boolean = 0
+levels kind.Int = 0
+levels kind.Long = 0
+levels kind.Float = 0
+levels kind.Double = 0
+levels kind.Date = 0
+levels kind.Time = 0
+levels kind.Timestamp = 0
+levels kind.Timestamptz = 0
+levels kind.String = 0
+levels kind.Uuid = 0
+levels kind.Binary = 0
+levels (kind.Decimal precision scale) = 0
+levels (kind.Fixed length) = 0
 
 -- a column whose type is at most 32 levels deep, with those in which it stands
 pub record IsColumn (column : Column) : Type 0 where
