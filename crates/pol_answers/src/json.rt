@@ -80,7 +80,8 @@ fn catalog_object(
     properties: Map<String, Value>,
     allowed: Value,
 ) -> Result<Value, AllocError>
-    ensures { IfOk result (λ json. view json ≡ spec.catalog_object name.now (members_view properties.entries) (view allowed)) }
+    ensures { IfOk result (λ json. view json ≡ spec.catalog_object name.now (members_view properties.entries)
+        (view allowed)) }
 {
     json!(in alloc; {
         "name": name.as_str(),
@@ -128,7 +129,8 @@ fn put_property(
     members: &mut Map<String, Value>,
     pair: &Property,
 ) -> Result<(), OutOfMemory>
-    ensures { OnOk result (members_view members.new.entries ≡ spec.with_property (members_view members.old.entries) pair.now) }
+    ensures { OnOk result (members_view members.new.entries
+        ≡ spec.with_property (members_view members.old.entries) pair.now) }
 {
     let value = pair.value.shown(alloc)?;
     Ok(put(members, alloc, pair.key.as_str(), value)?)
@@ -190,7 +192,8 @@ fn add_endpoint(alloc: Global, texts: &mut Vec<Text>, row: &Row) -> Result<(), O
 
 /// What stands behind the prefix in a path of the catalogue API.
 fn behind_prefix(path: &str) -> Option<&str>
-    ensures { MatchOption result ((rest : List ℕ) → path.now ≢ spec.prefixed ++ rest) (λ rest. path.now ≡ spec.prefixed ++ rest.now) }
+    ensures { MatchOption result ((rest : List ℕ)
+        → path.now ≢ spec.prefixed ++ rest) (λ rest. path.now ≡ spec.prefixed ++ rest.now) }
 {
     path.strip_prefix(PREFIXED)
 }

@@ -104,7 +104,8 @@ fn credentials_answer(
     secret: &Text,
     name: &Plain,
 ) -> Result<Answer, OutOfMemory>
-    ensures { IfOk result (λ answer. answer ≡ spec.json_answer code (credentials_json client_id.now secret.now name.now)) }
+    ensures { IfOk result (λ answer. answer ≡ spec.json_answer code
+        (credentials_json client_id.now secret.now name.now)) }
 {
     let json = credentials_json(alloc, client_id.as_str(), secret.as_str(), name.as_str())?;
     json_answer(alloc, code, json)

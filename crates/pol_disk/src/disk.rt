@@ -39,32 +39,38 @@ pub trait Disk {
         ensures seen { seen self.new ≡ seen self.old }
         ensures size { size self.new ≡ size self.old }
         ensures crash { (image : List ℕ) → may_leave self.new image → may_leave self.old image }
-        ensures time { Elapses (clock self.old) (clock self.new) (left_since self.old) (left_since self.new) (may_leave self.new) }
+        ensures time { Elapses (clock self.old) (clock self.new)
+            (left_since self.old) (left_since self.new) (may_leave self.new) }
         ensures count { CountsFaults (fault_count self.old) (fault_count self.new) result };
 
     /// Reads from a place on into the front of `buf`, as many bytes as the buffer holds or the length leaves, and
     /// tells how many. Past the end there are none.
     fn read(&mut self, at: u64, buf: &mut [u8]) -> Result<usize, Failed>
         ensures bound { ReadsAtMost result buf.new }
-        ensures number { IfOk result (λ count. IfSome (size self.old) (λ size. count ≡ min (length buf.old) (size - at))) }
+        ensures number { IfOk result (λ count.
+            IfSome (size self.old) (λ size. count ≡ min (length buf.old) (size - at))) }
         ensures bytes { IfOk result (λ count. IfSome (seen self.old) (λ bytes.
             buf.new ≡ take count (drop at bytes) ++ drop count buf.old)) }
         ensures seen { seen self.new ≡ seen self.old }
         ensures size { size self.new ≡ size self.old }
         ensures crash { (image : List ℕ) → may_leave self.new image → may_leave self.old image }
-        ensures time { Elapses (clock self.old) (clock self.new) (left_since self.old) (left_since self.new) (may_leave self.new) }
+        ensures time { Elapses (clock self.old) (clock self.new)
+            (left_since self.old) (left_since self.new) (may_leave self.new) }
         ensures count { CountsFaults (fault_count self.old) (fault_count self.new) result };
 
     /// Writes over what is there, and past the end. Where it fails, a read gives what a crash of it may leave.
     fn write_at(&mut self, at: u64, bytes: &[u8]) -> Result<(), Failed>
         requires within { IfSome (size self.old) (λ size. at ≤ size) }
         requires fits { at + length bytes.now ≤ 2 ^ 64 - 1 }
-        ensures written { OnOk result (Told (λ old new. new ≡ written at bytes.now old) (seen self.old) (seen self.new)) }
+        ensures written { OnOk result (Told (λ old new. new ≡ written at bytes.now old)
+            (seen self.old) (seen self.new)) }
         ensures torn { OnErr result (Told (Torn at (at + length bytes.now)) (seen self.old) (seen self.new)) }
-        ensures size { OnOk result (Told (λ old new. new ≡ max old (at + length bytes.now)) (size self.old) (size self.new)) }
+        ensures size { OnOk result (Told (λ old new. new ≡ max old (at + length bytes.now))
+            (size self.old) (size self.new)) }
         ensures grown { OnErr result (Told (Grows (at + length bytes.now)) (size self.old) (size self.new)) }
         ensures crash { Follows (Torn at (at + length bytes.now)) (may_leave self.old) (may_leave self.new) }
-        ensures time { Elapses (clock self.old) (clock self.new) (left_since self.old) (left_since self.new) (may_leave self.new) }
+        ensures time { Elapses (clock self.old) (clock self.new)
+            (left_since self.old) (left_since self.new) (may_leave self.new) }
         ensures count { CountsFaults (fault_count self.old) (fault_count self.new) result };
 
     /// Cuts off what lies past a length. A disk that is no longer than that stays as it is. Where it fails, a read
@@ -75,7 +81,8 @@ pub trait Disk {
         ensures size { OnOk result (Told (λ old new. new ≡ min kept old) (size self.old) (size self.new)) }
         ensures shrunk { OnErr result (Told (λ old new. new ≤ old) (size self.old) (size self.new)) }
         ensures crash { Follows (CutShort kept) (may_leave self.old) (may_leave self.new) }
-        ensures time { Elapses (clock self.old) (clock self.new) (left_since self.old) (left_since self.new) (may_leave self.new) }
+        ensures time { Elapses (clock self.old) (clock self.new)
+            (left_since self.old) (left_since self.new) (may_leave self.new) }
         ensures count { CountsFaults (fault_count self.old) (fault_count self.new) result };
 
     /// Brings what was written to where no crash takes it away: at `Ok` a crash leaves what a read gives.
@@ -84,7 +91,8 @@ pub trait Disk {
         ensures seen { seen self.new ≡ seen self.old }
         ensures size { size self.new ≡ size self.old }
         ensures crash { (image : List ℕ) → may_leave self.new image → may_leave self.old image }
-        ensures time { Elapses (clock self.old) (clock self.new) (left_since self.old) (left_since self.new) (may_leave self.new) }
+        ensures time { Elapses (clock self.old) (clock self.new)
+            (left_since self.old) (left_since self.new) (may_leave self.new) }
         ensures count { CountsFaults (fault_count self.old) (fault_count self.new) result };
 
     /// The count of faults.
@@ -96,7 +104,8 @@ pub trait Disk {
         ensures { result ≡ clock self.now };
 
     // This moment is one of those since an earlier one.
-    ghost counts_now: { (disk : Self) (t : ℕ) (image : List ℕ) → t ≤ clock disk → may_leave disk image → left_since disk t image };
+    ghost counts_now: { (disk : Self) (t : ℕ) (image : List ℕ) → t ≤ clock disk → may_leave disk image
+        → left_since disk t image };
 
     // Since this moment there is no other.
     ghost only_now: { (disk : Self) (image : List ℕ) → left_since disk (clock disk) image → may_leave disk image };

@@ -34,7 +34,8 @@ pub trait FileCalls {
     /// are; none come only past the end, or where the buffer has no room.
     fn read_once(&mut self, at: u64, buf: &mut [u8]) -> io::Result<usize>
         ensures bound { ReadsAtMost result buf.new }
-        ensures number { IfOk result (λ count. IfSome (size self.old) (λ size. GivesSome count (min (length buf.old) (size - at)))) }
+        ensures number { IfOk result (λ count.
+            IfSome (size self.old) (λ size. GivesSome count (min (length buf.old) (size - at)))) }
         ensures bytes { IfOk result (λ count. IfSome (seen self.old) (λ bytes.
             buf.new ≡ take count (drop at bytes) ++ drop count buf.old)) }
         ensures looks { OnlyLooks seen size may_leave clock left_since self.old self.new };
@@ -43,12 +44,15 @@ pub trait FileCalls {
     fn write_all_at(&mut self, at: u64, bytes: &[u8]) -> io::Result<()>
         requires within { IfSome (size self.old) (λ size. at ≤ size) }
         requires fits { at + length bytes.now ≤ 2 ^ 64 - 1 }
-        ensures written { OnOk result (Told (λ old new. new ≡ written at bytes.now old) (seen self.old) (seen self.new)) }
+        ensures written { OnOk result (Told (λ old new. new ≡ written at bytes.now old)
+            (seen self.old) (seen self.new)) }
         ensures torn { OnErr result (Told (Torn at (at + length bytes.now)) (seen self.old) (seen self.new)) }
-        ensures size { OnOk result (Told (λ old new. new ≡ max old (at + length bytes.now)) (size self.old) (size self.new)) }
+        ensures size { OnOk result (Told (λ old new. new ≡ max old (at + length bytes.now))
+            (size self.old) (size self.new)) }
         ensures grown { OnErr result (Told (Grows (at + length bytes.now)) (size self.old) (size self.new)) }
         ensures crash { Follows (Torn at (at + length bytes.now)) (may_leave self.old) (may_leave self.new) }
-        ensures time { Elapses (clock self.old) (clock self.new) (left_since self.old) (left_since self.new) (may_leave self.new) };
+        ensures time { Elapses (clock self.old) (clock self.new)
+            (left_since self.old) (left_since self.new) (may_leave self.new) };
 
     /// Cuts a file to a length that it has. Where it fails, any part of what lies past that may be gone.
     fn shorten(&mut self, kept: u64) -> io::Result<()>
@@ -58,7 +62,8 @@ pub trait FileCalls {
         ensures size { OnOk result (Told (λ old new. new ≡ kept) (size self.old) (size self.new)) }
         ensures shrunk { OnErr result (Told (λ old new. new ≤ old) (size self.old) (size self.new)) }
         ensures crash { Follows (CutShort kept) (may_leave self.old) (may_leave self.new) }
-        ensures time { Elapses (clock self.old) (clock self.new) (left_since self.old) (left_since self.new) (may_leave self.new) };
+        ensures time { Elapses (clock self.old) (clock self.new)
+            (left_since self.old) (left_since self.new) (may_leave self.new) };
 
     /// Brings what was written to where no crash takes it away: at `Ok` a crash leaves what a read gives.
     fn sync_all(&mut self) -> io::Result<()>
@@ -70,7 +75,8 @@ pub trait FileCalls {
         ensures { result ≡ clock self.now };
 
     // This moment is one of those since an earlier one.
-    ghost counts_now: { (file : Self) (t : ℕ) (image : List ℕ) → t ≤ clock file → may_leave file image → left_since file t image };
+    ghost counts_now: { (file : Self) (t : ℕ) (image : List ℕ) → t ≤ clock file → may_leave file image
+        → left_since file t image };
 
     // Since this moment there is no other.
     ghost only_now: { (file : Self) (image : List ℕ) → left_since file (clock file) image → may_leave file image };

@@ -76,7 +76,8 @@ impl MemoryDisk {
         ensures kept { self.old.calls.faults ≤ self.new.calls.faults }
         ensures bounded { self.old.calls.faults ≤ 2 ^ 64 - 1 → self.new.calls.faults ≤ 2 ^ 64 - 1 }
         ensures caused { OnErr result (OnOk answer (Rises self.old.calls.faults self.new.calls.faults)) }
-        ensures counted { OnErr result (self.new.calls ≡ record self.old.calls { faults = count_after self.old.calls.faults (is_ok answer) }) }
+        ensures counted { OnErr result (self.new.calls
+            ≡ record self.old.calls { faults = count_after self.old.calls.faults (is_ok answer) }) }
     {
         let Ok(next) = next else {
             return Err(self.fault_of(answer));
@@ -92,7 +93,8 @@ impl MemoryDisk {
     // The fault of a call that found no memory, which is counted where its answer wasn't counted as one.
     fn fault_of(&mut self, answer: Result<(), Failed>) -> Failed
         ensures same { self.new ≡ record self.old { calls = self.new.calls } }
-        ensures counted { self.new.calls ≡ record self.old.calls { faults = count_after self.old.calls.faults (is_ok answer) } }
+        ensures counted { self.new.calls
+            ≡ record self.old.calls { faults = count_after self.old.calls.faults (is_ok answer) } }
         ensures kept { self.old.calls.faults ≤ self.new.calls.faults }
         ensures bounded { self.old.calls.faults ≤ 2 ^ 64 - 1 → self.new.calls.faults ≤ 2 ^ 64 - 1 }
         ensures caused { OnOk answer (Rises self.old.calls.faults self.new.calls.faults) }
@@ -130,7 +132,8 @@ impl Disk for MemoryDisk {
         ensures seen { Some self.new.content.seen ≡ Some self.old.content.seen }
         ensures size { Some (length self.new.content.seen) ≡ Some (length self.old.content.seen) }
         ensures crash { (image : List ℕ) → IsImage self.new.content image → IsImage self.old.content image }
-        ensures time { Elapses (length self.old.past) (length self.new.past) (LeftSince self.old) (LeftSince self.new) (IsImage self.new.content) }
+        ensures time { Elapses (length self.old.past) (length self.new.past)
+            (LeftSince self.old) (LeftSince self.new) (IsImage self.new.content) }
         ensures count { CountsFaults self.old.calls.faults self.new.calls.faults result }
 
         ensures listed { is_err result ≡ is_listed self.old.calls }
@@ -143,11 +146,13 @@ impl Disk for MemoryDisk {
     fn read(&mut self, at: u64, buf: &mut [u8]) -> Result<usize, Failed>
         ensures bound { ReadsAtMost result buf.new }
         ensures number { IfOk result (λ count. count ≡ min (length buf.old) (length self.old.content.seen - at)) }
-        ensures bytes { IfOk result (λ count. buf.new ≡ take count (drop at self.old.content.seen) ++ drop count buf.old) }
+        ensures bytes { IfOk result (λ count.
+            buf.new ≡ take count (drop at self.old.content.seen) ++ drop count buf.old) }
         ensures seen { Some self.new.content.seen ≡ Some self.old.content.seen }
         ensures size { Some (length self.new.content.seen) ≡ Some (length self.old.content.seen) }
         ensures crash { (image : List ℕ) → IsImage self.new.content image → IsImage self.old.content image }
-        ensures time { Elapses (length self.old.past) (length self.new.past) (LeftSince self.old) (LeftSince self.new) (IsImage self.new.content) }
+        ensures time { Elapses (length self.old.past) (length self.new.past)
+            (LeftSince self.old) (LeftSince self.new) (IsImage self.new.content) }
         ensures count { CountsFaults self.old.calls.faults self.new.calls.faults result }
 
         ensures listed { is_err result ≡ is_listed self.old.calls }
@@ -166,13 +171,19 @@ impl Disk for MemoryDisk {
         requires fits { at + length bytes.now ≤ 2 ^ 64 - 1 }
         ensures written { OnOk result (self.new.content.seen ≡ written at bytes.now self.old.content.seen) }
         ensures torn { OnErr result (Torn at (at + length bytes.now) self.old.content.seen self.new.content.seen) }
-        ensures size { OnOk result (length self.new.content.seen ≡ max (length self.old.content.seen) (at + length bytes.now)) }
-        ensures grown { OnErr result (Grows (at + length bytes.now) (length self.old.content.seen) (length self.new.content.seen)) }
-        ensures crash { Follows (Torn at (at + length bytes.now)) (IsImage self.old.content) (IsImage self.new.content) }
-        ensures time { Elapses (length self.old.past) (length self.new.past) (LeftSince self.old) (LeftSince self.new) (IsImage self.new.content) }
+        ensures size { OnOk result (length self.new.content.seen
+            ≡ max (length self.old.content.seen) (at + length bytes.now)) }
+        ensures grown { OnErr result (Grows (at + length bytes.now) (length self.old.content.seen)
+            (length self.new.content.seen)) }
+        ensures crash { Follows (Torn at (at + length bytes.now)) (IsImage self.old.content)
+            (IsImage self.new.content) }
+        ensures time { Elapses (length self.old.past) (length self.new.past)
+            (LeftSince self.old) (LeftSince self.new) (IsImage self.new.content) }
         ensures count { CountsFaults self.old.calls.faults self.new.calls.faults result }
 
-        ensures ok { OnOk result (self.new ≡ record (later_with (written_at at bytes.now self.old.content) self.old) { calls = log_after self.old.calls false }) }
+        ensures ok { OnOk result (self.new ≡ record (later_with (written_at at bytes.now self.old.content) self.old) {
+          calls = log_after self.old.calls false;
+        }) }
         ensures err { OnErr result (IsRefused (torn_at at (length bytes.now) self.old.content) self.old self.new) }
         // A call that isn't listed fails for want of memory alone.
         ensures listed { IsTrue (is_listed self.old.calls) → IsErr result }
@@ -192,10 +203,12 @@ impl Disk for MemoryDisk {
         ensures size { OnOk result (length self.new.content.seen ≡ min kept (length self.old.content.seen)) }
         ensures shrunk { OnErr result (length self.new.content.seen ≤ length self.old.content.seen) }
         ensures crash { Follows (CutShort kept) (IsImage self.old.content) (IsImage self.new.content) }
-        ensures time { Elapses (length self.old.past) (length self.new.past) (LeftSince self.old) (LeftSince self.new) (IsImage self.new.content) }
+        ensures time { Elapses (length self.old.past) (length self.new.past)
+            (LeftSince self.old) (LeftSince self.new) (IsImage self.new.content) }
         ensures count { CountsFaults self.old.calls.faults self.new.calls.faults result }
 
-        ensures ok { OnOk result (self.new ≡ record (later_with (cut_to kept self.old.content) self.old) { calls = log_after self.old.calls false }) }
+        ensures ok { OnOk result (self.new
+            ≡ record (later_with (cut_to kept self.old.content) self.old) { calls = log_after self.old.calls false }) }
         ensures err { OnErr result (IsRefused (torn_past kept self.old.content) self.old self.new) }
         // A call that isn't listed fails for want of memory alone.
         ensures listed { IsTrue (is_listed self.old.calls) → IsErr result }
@@ -208,14 +221,17 @@ impl Disk for MemoryDisk {
     }
 
     fn sync(&mut self) -> Result<(), Failed>
-        ensures durable { OnOk result ((image : List ℕ) → IsImage self.new.content image → image ≡ self.new.content.seen) }
+        ensures durable { OnOk result ((image : List ℕ) → IsImage self.new.content image
+            → image ≡ self.new.content.seen) }
         ensures seen { Some self.new.content.seen ≡ Some self.old.content.seen }
         ensures size { Some (length self.new.content.seen) ≡ Some (length self.old.content.seen) }
         ensures crash { (image : List ℕ) → IsImage self.new.content image → IsImage self.old.content image }
-        ensures time { Elapses (length self.old.past) (length self.new.past) (LeftSince self.old) (LeftSince self.new) (IsImage self.new.content) }
+        ensures time { Elapses (length self.old.past) (length self.new.past)
+            (LeftSince self.old) (LeftSince self.new) (IsImage self.new.content) }
         ensures count { CountsFaults self.old.calls.faults self.new.calls.faults result }
 
-        ensures ok { OnOk result (self.new ≡ record (later_with (settled self.old.content.seen) self.old) { calls = log_after self.old.calls false }) }
+        ensures ok { OnOk result (self.new
+            ≡ record (later_with (settled self.old.content.seen) self.old) { calls = log_after self.old.calls false }) }
         ensures err { OnErr result (self.new ≡ record self.old { calls = self.new.calls }) }
         // A call that isn't listed fails for want of memory alone.
         ensures listed { IsTrue (is_listed self.old.calls) → IsErr result }

@@ -107,7 +107,8 @@ impl<F: FileCalls> Disk for DiskOver<F> {
 // Reads from a place on until the buffer is full or the file ends.
 fn read_all<F: FileCalls>(file: &mut F, at: u64, buf: &mut [u8]) -> io::Result<usize>
     ensures bound { ReadsAtMost result buf.new }
-    ensures number { IfOk result (λ count. IfSome (F.size file.old) (λ size. count ≡ min (length buf.old) (size - at))) }
+    ensures number { IfOk result (λ count. IfSome (F.size file.old) (λ size.
+        count ≡ min (length buf.old) (size - at))) }
     ensures bytes { IfOk result (λ count. IfSome (F.seen file.old) (λ bytes.
         buf.new ≡ take count (drop at bytes) ++ drop count buf.old)) }
     ensures looks { OnlyLooks F.seen F.size F.may_leave F.clock F.left_since file.old file.new }
@@ -148,7 +149,8 @@ fn cut<F: FileCalls>(file: &mut F, kept: u64) -> io::Result<()>
     ensures size { OnOk result (Told (λ old new. new ≡ min kept old) (F.size file.old) (F.size file.new)) }
     ensures shrunk { OnErr result (Told (λ old new. new ≤ old) (F.size file.old) (F.size file.new)) }
     ensures crash { Follows (CutShort kept) (F.may_leave file.old) (F.may_leave file.new) }
-    ensures time { Elapses (F.clock file.old) (F.clock file.new) (F.left_since file.old) (F.left_since file.new) (F.may_leave file.new) }
+    ensures time { Elapses (F.clock file.old) (F.clock file.new)
+        (F.left_since file.old) (F.left_since file.new) (F.may_leave file.new) }
 {
     if kept < file.len()? {
         file.shorten(kept)?;

@@ -47,18 +47,23 @@ impl<D: Disk> Journal<D> {
     /// gate. A disk that has bytes isn't touched: it is `JournalThere`, or a `DiskFault` where its length wasn't told.
     /// After a `DiskFault` a disk that was empty has no journal on it, or this one.
     pub fn create(disk: &mut D, kind: Kind, first: &[u8]) -> Result<(), JournalRefused>
-        ensures moments { (bodies : List (List ℕ)) → first.now ≡ area_of bodies → IsBlank (D.seen disk.old) (D.may_leave disk.old)
+        ensures moments { (bodies : List (List ℕ)) → first.now ≡ area_of bodies
+            → IsBlank (D.seen disk.old) (D.may_leave disk.old)
             → LeavesOnly D.clock D.left_since disk.old disk.new (IsNoneOrStandsFor kind bodies) }
-        ensures made { OnOk result ((bodies : List (List ℕ)) → first.now ≡ area_of bodies → IsBlank (D.seen disk.old) (D.may_leave disk.old)
+        ensures made { OnOk result ((bodies : List (List ℕ)) → first.now ≡ area_of bodies
+            → IsBlank (D.seen disk.old) (D.may_leave disk.old)
             → Stands kind bodies (63 + length first.now) (D.seen disk.new) (D.may_leave disk.new)) }
         ensures size { OnOk result (IfSome (D.size disk.new) (λ size. size ≡ 64 + length first.now)) }
         // The header, and then what was given.
-        ensures bytes { OnOk result (Told (λ old new. new ≡ header_of kind ++ first.now) (D.seen disk.old) (D.seen disk.new)) }
+        ensures bytes { OnOk result (Told (λ old new. new ≡ header_of kind ++ first.now)
+            (D.seen disk.old) (D.seen disk.new)) }
         ensures durable { OnOk result (IsDurable (D.seen disk.new) (D.may_leave disk.new)) }
         ensures empty { OnOk result (IfSome (D.size disk.old) (λ size. size ≡ 0)) }
-        ensures refused { IfErr result (CreateRefused (D.size disk.old) (D.fault_count disk.old) (D.fault_count disk.new)) }
+        ensures refused { IfErr result (CreateRefused (D.size disk.old)
+            (D.fault_count disk.old) (D.fault_count disk.new)) }
         // A disk with bytes isn't touched.
-        ensures untouched { IfSome (D.size disk.old) (λ size. size ≢ 0 → IsUntouched D.clock D.left_since D.may_leave D.seen D.size disk.old disk.new) }
+        ensures untouched { IfSome (D.size disk.old) (λ size. size ≢ 0
+            → IsUntouched D.clock D.left_since D.may_leave D.seen D.size disk.old disk.new) }
         ensures kept { D.fault_count disk.old ≤ D.fault_count disk.new }
         ensures bounded { D.fault_count disk.new ≤ 2 ^ 64 - 1 }
     {
@@ -72,17 +77,23 @@ impl<D: Disk> Journal<D> {
     /// `create`, which hands on the journal with all records read, or the disk with the refusal. The disk isn't read.
     pub fn fresh(mut disk: D, kind: Kind, first: &[u8]) -> Result<Self, (D, JournalRefused)>
         requires { 0 < length first.now }
-        ensures moments { (bodies : List (List ℕ)) → first.now ≡ area_of bodies → IsBlank (D.seen disk) (D.may_leave disk)
+        ensures moments { (bodies : List (List ℕ)) → first.now ≡ area_of bodies
+            → IsBlank (D.seen disk) (D.may_leave disk)
             → LeavesOnly D.clock D.left_since disk (disk_of result) (IsNoneOrStandsFor kind bodies) }
-        ensures at_rest { IfOk result (λ journal. (bodies : List (List ℕ)) → first.now ≡ area_of bodies → IsBlank (D.seen disk) (D.may_leave disk)
+        ensures at_rest { IfOk result (λ journal. (bodies : List (List ℕ)) → first.now ≡ area_of bodies
+            → IsBlank (D.seen disk) (D.may_leave disk)
             → IsAtRest D.seen D.may_leave bodies journal) }
-        ensures made { IfOk result (λ journal. journal ≡ record { disk = journal.disk; kind = kind; last = 64; gate = 63 + length first.now; stage = Ready }) }
+        ensures made { IfOk result (λ journal. journal
+            ≡ record { disk = journal.disk; kind = kind; last = 64; gate = 63 + length first.now; stage = Ready }) }
         ensures size { IfOk result (λ journal. IfSome (D.size journal.disk) (λ size. size ≡ 64 + length first.now)) }
-        ensures bytes { IfOk result (λ journal. Told (λ old new. new ≡ header_of kind ++ first.now) (D.seen disk) (D.seen journal.disk)) }
+        ensures bytes { IfOk result (λ journal.
+            Told (λ old new. new ≡ header_of kind ++ first.now) (D.seen disk) (D.seen journal.disk)) }
         ensures durable { IfOk result (λ journal. IsDurable (D.seen journal.disk) (D.may_leave journal.disk)) }
         ensures empty { OnOk result (IfSome (D.size disk) (λ size. size ≡ 0)) }
-        ensures refused { IfErr result (λ refused. CreateRefused (D.size disk) (D.fault_count disk) (D.fault_count refused.0) refused.1) }
-        ensures untouched { IfSome (D.size disk) (λ size. size ≢ 0 → IsUntouched D.clock D.left_since D.may_leave D.seen D.size disk (disk_of result)) }
+        ensures refused { IfErr result (λ refused.
+            CreateRefused (D.size disk) (D.fault_count disk) (D.fault_count refused.0) refused.1) }
+        ensures untouched { IfSome (D.size disk) (λ size. size ≢ 0
+            → IsUntouched D.clock D.left_since D.may_leave D.seen D.size disk (disk_of result)) }
         ensures kept { D.fault_count disk ≤ D.fault_count (disk_of result) }
         ensures bounded { D.fault_count (disk_of result) ≤ 2 ^ 64 - 1 }
     {
@@ -101,10 +112,13 @@ impl<D: Disk> Journal<D> {
     /// Opens a journal, whose records are to be read, or hands the disk back with the refusal. The disk is synced
     /// first, so that what is read is what a crash leaves.
     pub fn open(mut disk: D, kind: Kind) -> Result<Self, (D, JournalRefused)>
-        ensures opened { IfOk result (λ journal. (file : List ℕ) → D.seen disk ≡ Some file → HasRead D.seen D.may_leave file [] journal) }
+        ensures opened { IfOk result (λ journal. (file : List ℕ) → D.seen disk ≡ Some file
+            → HasRead D.seen D.may_leave file [] journal) }
         ensures header { OnOk result (IfSome (D.seen disk) (HasHeader kind)) }
-        ensures made { IfOk result (λ journal. journal ≡ record { disk = journal.disk; kind = kind; last = 64; gate = 64; stage = Reading }) }
-        ensures refused { IfErr result (λ refused. OpenRefused kind (D.seen disk) (D.fault_count disk) (D.fault_count refused.0) refused.1) }
+        ensures made { IfOk result (λ journal.
+            journal ≡ record { disk = journal.disk; kind = kind; last = 64; gate = 64; stage = Reading }) }
+        ensures refused { IfErr result (λ refused.
+            OpenRefused kind (D.seen disk) (D.fault_count disk) (D.fault_count refused.0) refused.1) }
         ensures untouched { IsUntouched D.clock D.left_since D.may_leave D.seen D.size disk (disk_of result) }
         ensures kept { D.fault_count disk ≤ D.fault_count (disk_of result) }
         ensures bounded { D.fault_count (disk_of result) ≤ 2 ^ 64 - 1 }
@@ -122,12 +136,13 @@ impl<D: Disk> Journal<D> {
         }
     }
 
-    /// The next record's body, or None where all were read. `BadRecord` tells the place of the gate whose record is bad;
-    /// after it, as after a fault or want of memory, the next call reads at the same gate again.
+    /// The next record's body, or None where all were read. `BadRecord` tells the place of the gate whose record is
+    /// bad; after it, as after a fault or want of memory, the next call reads at the same gate again.
     pub fn next_record(&mut self, alloc: Global) -> Result<Option<Vec<u8>>, JournalRefused>
         // The bodies are those that the file's bytes stand for, one after the other, and a refusal is theirs.
         ensures next { (file : List ℕ) (bodies : List (List ℕ)) → HasRead D.seen D.may_leave file bodies self.old
-            → IfOk result (λ next. GivesNext D.seen D.may_leave file bodies (option_map (λ body. body.items) next) self.new) }
+            → IfOk result (λ next. GivesNext D.seen D.may_leave file bodies (option_map (λ body. body.items) next)
+            self.new) }
         ensures bad { (file : List ℕ) (bodies : List (List ℕ)) → HasRead D.seen D.may_leave file bodies self.old
             → IfErr result (IsBadIn self.old.kind file) }
         ensures still { (file : List ℕ) (bodies : List (List ℕ)) → HasRead D.seen D.may_leave file bodies self.old
@@ -137,7 +152,8 @@ impl<D: Disk> Journal<D> {
         ensures left { OnErr result (self.new ≡ record self.old { disk = self.new.disk }) }
         // Where all were read it does nothing.
         ensures done { self.old.stage ≢ Reading → (result ≡ Ok None) × (self.new ≡ self.old) }
-        ensures refused { IfErr result (NextRefused self.old.gate (D.fault_count self.old.disk) (D.fault_count self.new.disk)) }
+        ensures refused { IfErr result (NextRefused self.old.gate
+            (D.fault_count self.old.disk) (D.fault_count self.new.disk)) }
         ensures untouched { IsUntouched D.clock D.left_since D.may_leave D.seen D.size self.old.disk self.new.disk }
         ensures kept { D.fault_count self.old.disk ≤ D.fault_count self.new.disk }
     {
@@ -153,13 +169,14 @@ impl<D: Disk> Journal<D> {
         Ok(Some(body))
     }
 
-    /// Appends a record: at `Ok` no crash takes it away. All records must have been read, and an append that failed been
-    /// repaired. `JournalFull` is a journal that would reach beyond 2^40 bytes, which it leaves as it was. After `Unknown`
-    /// the disk has failed, and the record may be there or not, until a repair. It takes no memory.
+    /// Appends a record: at `Ok` no crash takes it away. All records must have been read, and an append that failed
+    /// been repaired. `JournalFull` is a journal that would reach beyond 2^40 bytes, which it leaves as it was. After
+    /// `Unknown` the disk has failed, and the record may be there or not, until a repair. It takes no memory.
     pub fn append(&mut self, body: &[u8]) -> Result<(), JournalRefused>
         requires { IsReady self.old }
         ensures moments { (bodies : List (List ℕ)) → IsAtRest D.seen D.may_leave bodies self.old
-            → LeavesOnly D.clock D.left_since self.old.disk self.new.disk (IsBeforeOrAfter self.old.kind bodies body.now) }
+            → LeavesOnly D.clock D.left_since self.old.disk self.new.disk
+            (IsBeforeOrAfter self.old.kind bodies body.now) }
         ensures appended { OnOk result ((bodies : List (List ℕ)) → IsAtRest D.seen D.may_leave bodies self.old
             → IsAtRest D.seen D.may_leave (bodies ++ body.now ∷ []) self.new) }
         // The record and a closed gate stand over what stood from the last gate on.
@@ -167,9 +184,11 @@ impl<D: Disk> Journal<D> {
             (D.seen self.old.disk) (D.seen self.new.disk)) }
         ensures size { OnOk result (Told (λ old new. new ≡ max old (self.old.gate + 10 + length body.now))
             (D.size self.old.disk) (D.size self.new.disk)) }
-        ensures unknown { IsErrOf result JournalRefused.Unknown → (bodies : List (List ℕ)) → IsAtRest D.seen D.may_leave bodies self.old
+        ensures unknown { IsErrOf result JournalRefused.Unknown → (bodies : List (List ℕ))
+            → IsAtRest D.seen D.may_leave bodies self.old
             → IsUnsettled D.seen D.may_leave bodies body.now self.new }
-        ensures after { OnOk result (self.new ≡ record self.old { disk = self.new.disk; gate = self.old.gate + 9 + length body.now }) }
+        ensures after { OnOk result (self.new
+            ≡ record self.old { disk = self.new.disk; gate = self.old.gate + 9 + length body.now }) }
         ensures left { OnErr result (self.new ≡ record self.old { disk = self.new.disk; stage = self.new.stage }) }
         ensures failed { IsErrOf result JournalRefused.Unknown → HasFailed self.new }
         // A journal that would reach too far stays as it is.
@@ -195,15 +214,17 @@ impl<D: Disk> Journal<D> {
     }
 
     /// Takes back an append that failed, and syncs: at `Ok` its record is gone, whatever a crash leaves. It writes the
-    /// closed gate only where that append had begun its gate write. After a `DiskFault` it can be called again. It takes
-    /// no memory.
+    /// closed gate only where that append had begun its gate write. After a `DiskFault` it can be called again. It
+    /// takes no memory.
     pub fn repair(&mut self) -> Result<(), JournalRefused>
         requires { HasFailed self.old }
         ensures moments { (bodies : List (List ℕ)) (body : List ℕ) → IsUnsettled D.seen D.may_leave bodies body self.old
             → LeavesOnly D.clock D.left_since self.old.disk self.new.disk (IsBeforeOrAfter self.old.kind bodies body) }
-        ensures repaired { OnOk result ((bodies : List (List ℕ)) (body : List ℕ) → IsUnsettled D.seen D.may_leave bodies body self.old
+        ensures repaired { OnOk result ((bodies : List (List ℕ)) (body : List ℕ)
+            → IsUnsettled D.seen D.may_leave bodies body self.old
             → IsAtRest D.seen D.may_leave bodies self.new) }
-        ensures unsettled { OnErr result ((bodies : List (List ℕ)) (body : List ℕ) → IsUnsettled D.seen D.may_leave bodies body self.old
+        ensures unsettled { OnErr result ((bodies : List (List ℕ)) (body : List ℕ)
+            → IsUnsettled D.seen D.may_leave bodies body self.old
             → IsUnsettled D.seen D.may_leave bodies body self.new) }
         ensures after { OnOk result (self.new ≡ record self.old { disk = self.new.disk; stage = Ready }) }
         ensures left { OnErr result (self.new ≡ record self.old { disk = self.new.disk }) }

@@ -14,8 +14,10 @@ use std::alloc::Global;
 
 // Fills a buffer from a place on. It answers false where the disk ends before that.
 fn read_whole<D: Disk>(disk: &mut D, at: u64, buf: &mut [u8]) -> Result<bool, Failed>
-    ensures whole { IfOk result (λ whole. IfSome (D.size disk.old) (λ size. IsTrue whole ↔ (length buf.old ≤ size - at))) }
-    ensures bytes { IfOk result (λ whole. IsTrue whole → IfSome (D.seen disk.old) (λ bytes. buf.new ≡ take (length buf.old) (drop at bytes))) }
+    ensures whole { IfOk result (λ whole. IfSome (D.size disk.old) (λ size. IsTrue whole
+        ↔ (length buf.old ≤ size - at))) }
+    ensures bytes { IfOk result (λ whole. IsTrue whole
+        → IfSome (D.seen disk.old) (λ bytes. buf.new ≡ take (length buf.old) (drop at bytes))) }
     ensures untouched { IsUntouched D.clock D.left_since D.may_leave D.seen D.size disk.old disk.new }
     ensures count { CountsFaults (D.fault_count disk.old) (D.fault_count disk.new) result }
 {
@@ -70,7 +72,8 @@ fn next_length<D: Disk>(disk: &mut D, gate: u64) -> Result<Option<u64>, JournalR
         MatchOption next (IsClosed (drop gate bytes)) (λ length. IsRecordOf length (drop gate bytes)))) }
     ensures broken { IfErr result (λ why. IfSome (D.seen disk.old) (λ bytes. IsBrokenIn (drop gate bytes) why)) }
     ensures refused { IfErr result (NextRefused gate (D.fault_count disk.old) (D.fault_count disk.new)) }
-    ensures fits { IfOk result (λ next. MatchOption next (gate < 2 ^ 64 - 1) (λ length. gate + 9 + length ≤ 2 ^ 64 - 1)) }
+    ensures fits { IfOk result (λ next. MatchOption next (gate < 2 ^ 64 - 1) (λ length.
+        gate + 9 + length ≤ 2 ^ 64 - 1)) }
     ensures inside { OnOk result (IfSome (D.size disk.new) (λ size. gate < size)) }
     ensures untouched { IsUntouched D.clock D.left_since D.may_leave D.seen D.size disk.old disk.new }
     ensures kept { D.fault_count disk.old ≤ D.fault_count disk.new }
@@ -112,7 +115,8 @@ pub(crate) fn read_record<D: Disk>(
         MatchOption next (IsClosed (drop gate bytes)) (λ body. IsRecord body.items (drop gate bytes)))) }
     ensures broken { IfErr result (λ why. IfSome (D.seen disk.old) (λ bytes. IsBrokenIn (drop gate bytes) why)) }
     ensures refused { IfErr result (NextRefused gate (D.fault_count disk.old) (D.fault_count disk.new)) }
-    ensures fits { IfOk result (λ next. MatchOption next (gate < 2 ^ 64 - 1) (λ body. gate + 9 + length body.items ≤ 2 ^ 64 - 1)) }
+    ensures fits { IfOk result (λ next. MatchOption next (gate < 2 ^ 64 - 1) (λ body.
+        gate + 9 + length body.items ≤ 2 ^ 64 - 1)) }
     ensures inside { OnOk result (IfSome (D.size disk.new) (λ size. gate < size)) }
     ensures untouched { IsUntouched D.clock D.left_since D.may_leave D.seen D.size disk.old disk.new }
     ensures kept { D.fault_count disk.old ≤ D.fault_count disk.new }

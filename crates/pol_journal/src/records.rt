@@ -16,13 +16,16 @@ use pol_wire::Failed;
 /// name comes last: what a crash leaves before that is no journal.
 pub(crate) fn write_journal<D: Disk>(disk: &mut D, kind: Kind, first: &[u8]) -> Result<(), Failed>
     requires empty { IfSome (D.size disk.old) (λ size. size ≡ 0) }
-    ensures moments { (bodies : List (List ℕ)) → first.now ≡ area_of bodies → IsBlank (D.seen disk.old) (D.may_leave disk.old)
+    ensures moments { (bodies : List (List ℕ)) → first.now ≡ area_of bodies
+        → IsBlank (D.seen disk.old) (D.may_leave disk.old)
         → LeavesOnly D.clock D.left_since disk.old disk.new (IsNoneOrStandsFor kind bodies) }
-    ensures made { OnOk result ((bodies : List (List ℕ)) → first.now ≡ area_of bodies → IsBlank (D.seen disk.old) (D.may_leave disk.old)
+    ensures made { OnOk result ((bodies : List (List ℕ)) → first.now ≡ area_of bodies
+        → IsBlank (D.seen disk.old) (D.may_leave disk.old)
         → Stands kind bodies (63 + length first.now) (D.seen disk.new) (D.may_leave disk.new)) }
     ensures durable { OnOk result (IsDurable (D.seen disk.new) (D.may_leave disk.new)) }
     ensures size { OnOk result (IfSome (D.size disk.new) (λ size. size ≡ 64 + length first.now)) }
-    ensures bytes { OnOk result (Told (λ old new. new ≡ header_of kind ++ first.now) (D.seen disk.old) (D.seen disk.new)) }
+    ensures bytes { OnOk result (Told (λ old new. new ≡ header_of kind ++ first.now)
+        (D.seen disk.old) (D.seen disk.new)) }
     ensures count { CountsFaults (D.fault_count disk.old) (D.fault_count disk.new) result }
 {
     write_synced(disk, 0, &[0; 8])?;
@@ -35,16 +38,21 @@ pub(crate) fn write_journal<D: Disk>(disk: &mut D, kind: Kind, first: &[u8]) -> 
 pub(crate) fn write_record<D: Disk>(disk: &mut D, gate: u64, body: &[u8]) -> Result<(), Reached>
     requires within { IfSome (D.size disk.old) (λ size. gate < size) }
     requires fits { gate + 10 + length body.now ≤ 2 ^ 64 - 1 }
-    ensures moments { (kind : Kind) (bodies : List (List ℕ)) → Stands kind bodies gate (D.seen disk.old) (D.may_leave disk.old)
+    ensures moments { (kind : Kind) (bodies : List (List ℕ))
+        → Stands kind bodies gate (D.seen disk.old) (D.may_leave disk.old)
         → LeavesOnly D.clock D.left_since disk.old disk.new (IsBeforeOrAfter kind bodies body.now) }
-    ensures appended { OnOk result ((kind : Kind) (bodies : List (List ℕ)) → Stands kind bodies gate (D.seen disk.old) (D.may_leave disk.old)
+    ensures appended { OnOk result ((kind : Kind) (bodies : List (List ℕ))
+        → Stands kind bodies gate (D.seen disk.old) (D.may_leave disk.old)
         → Stands kind (bodies ++ body.now ∷ []) (gate + 9 + length body.now) (D.seen disk.new) (D.may_leave disk.new)) }
-    ensures failed { IfErr result (λ reached. (kind : Kind) (bodies : List (List ℕ)) → Stands kind bodies gate (D.seen disk.old) (D.may_leave disk.old)
+    ensures failed { IfErr result (λ reached. (kind : Kind) (bodies : List (List ℕ))
+        → Stands kind bodies gate (D.seen disk.old) (D.may_leave disk.old)
         → Hangs reached kind bodies body.now gate (D.seen disk.new) (D.may_leave disk.new)) }
     ensures durable { OnOk result (IsDurable (D.seen disk.new) (D.may_leave disk.new)) }
     ensures size { OnOk result (IfSome (D.size disk.new) (λ size. gate + 10 + length body.now ≤ size)) }
-    ensures reach { OnOk result (Told (λ old new. new ≡ max old (gate + 10 + length body.now)) (D.size disk.old) (D.size disk.new)) }
-    ensures bytes { OnOk result (Told (λ old new. new ≡ written gate (record_of body.now ++ 0 ∷ []) old) (D.seen disk.old) (D.seen disk.new)) }
+    ensures reach { OnOk result (Told (λ old new. new ≡ max old (gate + 10 + length body.now))
+        (D.size disk.old) (D.size disk.new)) }
+    ensures bytes { OnOk result (Told (λ old new. new ≡ written gate (record_of body.now ++ 0 ∷ []) old)
+        (D.seen disk.old) (D.seen disk.new)) }
     ensures grown { IfSome (D.size disk.new) (λ size. gate < size) }
     ensures count { CountsFaults (D.fault_count disk.old) (D.fault_count disk.new) result }
 {
@@ -63,11 +71,14 @@ pub(crate) fn write_record<D: Disk>(disk: &mut D, gate: u64, body: &[u8]) -> Res
 pub(crate) fn take_back<D: Disk>(disk: &mut D, gate: u64, reached: Reached) -> Result<(), Failed>
     requires within { IfSome (D.size disk.old) (λ size. gate < size) }
     requires fits { gate < 2 ^ 64 - 1 }
-    ensures moments { (kind : Kind) (bodies : List (List ℕ)) (body : List ℕ) → Hangs reached kind bodies body gate (D.seen disk.old) (D.may_leave disk.old)
+    ensures moments { (kind : Kind) (bodies : List (List ℕ)) (body : List ℕ)
+        → Hangs reached kind bodies body gate (D.seen disk.old) (D.may_leave disk.old)
         → LeavesOnly D.clock D.left_since disk.old disk.new (IsBeforeOrAfter kind bodies body) }
-    ensures taken_back { OnOk result ((kind : Kind) (bodies : List (List ℕ)) (body : List ℕ) → Hangs reached kind bodies body gate (D.seen disk.old) (D.may_leave disk.old)
+    ensures taken_back { OnOk result ((kind : Kind) (bodies : List (List ℕ)) (body : List ℕ)
+        → Hangs reached kind bodies body gate (D.seen disk.old) (D.may_leave disk.old)
         → Stands kind bodies gate (D.seen disk.new) (D.may_leave disk.new)) }
-    ensures failed { OnErr result ((kind : Kind) (bodies : List (List ℕ)) (body : List ℕ) → Hangs reached kind bodies body gate (D.seen disk.old) (D.may_leave disk.old)
+    ensures failed { OnErr result ((kind : Kind) (bodies : List (List ℕ)) (body : List ℕ)
+        → Hangs reached kind bodies body gate (D.seen disk.old) (D.may_leave disk.old)
         → Hangs reached kind bodies body gate (D.seen disk.new) (D.may_leave disk.new)) }
     ensures durable { OnOk result (IsDurable (D.seen disk.new) (D.may_leave disk.new)) }
     ensures grown { IfSome (D.size disk.new) (λ size. gate < size) }

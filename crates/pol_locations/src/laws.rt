@@ -8,7 +8,8 @@ use crate::Location;
 
 /// Locations compare segment by segment, and segments byte by byte.
 pub fn locations_are_in_byte_order()
-    ensures { (left right : List (List ℕ)) → ⟦<Location as Ord>⟧.cmp left right ≡ slice_cmp (slice_cmp nat_cmp) left right }
+    ensures { (left right : List (List ℕ)) → ⟦<Location as Ord>⟧.cmp left right
+        ≡ slice_cmp (slice_cmp nat_cmp) left right }
 {}
 
 /// The rules refuse no list of segments exactly where it is a location.

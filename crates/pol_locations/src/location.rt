@@ -166,7 +166,8 @@ pub fn overlaps(a: &Location, b: &Location) -> bool
 
 /// What follows the scheme.
 fn path_of(text: &str) -> Option<&str>
-    ensures { MatchOption result (starts_with nat_eq text.now scheme ≡ false) (λ path. (starts_with nat_eq text.now scheme ≡ true) × (path.now ≡ drop 7 text.now)) }
+    ensures { MatchOption result (starts_with nat_eq text.now scheme ≡ false) (λ path.
+        (starts_with nat_eq text.now scheme ≡ true) × (path.now ≡ drop 7 text.now)) }
 {
     text.strip_prefix(SCHEME)
 }

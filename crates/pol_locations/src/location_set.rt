@@ -29,7 +29,8 @@ impl Model for LocationSet {
 
     ghost Value = { Held };
 
-    ghost view = { λ set. record { members = set.members.items; spare = vec_capacity set.members - vec_len set.members } };
+    ghost view = { λ set.
+        record { members = set.members.items; spare = vec_capacity set.members - vec_len set.members } };
 
     ghost invariant = { λ set. AreApart set.members.items };
 }
@@ -95,7 +96,8 @@ impl LocationSet {
     /// Takes the member of this owner, and tells whether there was one. Its place is spare then.
     pub fn remove(&mut self, owner: u64) -> bool
         ensures there { IsTrue result ↔ Any (λ member. member.owner ≡ owner) self.old.members }
-        ensures taken { result ≡ true → (member : Member) × (member.owner ≡ owner) × Gains self.new.members self.old.members member × (self.new.spare ≡ self.old.spare + 1) }
+        ensures taken { result ≡ true → (member : Member) × (member.owner ≡ owner)
+            × Gains self.new.members self.old.members member × (self.new.spare ≡ self.old.spare + 1) }
         ensures absent { result ≡ false → self.new ≡ self.old }
     {
         let Some(place) = self.members.iter().position(|member| member.owner == owner) else {

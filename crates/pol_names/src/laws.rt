@@ -31,5 +31,6 @@ pub fn segments_stand_for_namespaces()
 pub fn names_are_in_byte_order()
     ensures names { (left right : List ℕ) → ⟦<Name as Ord>⟧.cmp left right ≡ slice_cmp nat_cmp left right }
     ensures plain_names { (left right : List ℕ) → ⟦<Plain as Ord>⟧.cmp left right ≡ slice_cmp nat_cmp left right }
-    ensures namespaces { (left right : List (List ℕ)) → ⟦<Namespace as Ord>⟧.cmp left right ≡ slice_cmp (slice_cmp nat_cmp) left right }
+    ensures namespaces { (left right : List (List ℕ))
+        → ⟦<Namespace as Ord>⟧.cmp left right ≡ slice_cmp (slice_cmp nat_cmp) left right }
 {}

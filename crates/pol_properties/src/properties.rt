@@ -189,7 +189,8 @@ impl Properties {
 
     /// The pairs whose keys aren't among the removals, as new properties.
     fn without(&self, alloc: Global, removals: &[Text]) -> Result<Properties, OutOfMemory>
-        ensures { IfOk result (λ properties. properties ≡ filter (λ pair. not (is_among removals.now pair.key)) self.now) }
+        ensures { IfOk result (λ properties. properties
+            ≡ filter (λ pair. not (is_among removals.now pair.key)) self.now) }
     {
         let pairs = self.pairs.as_slice();
         let mut kept = Vec::new(alloc);

@@ -44,8 +44,8 @@ pub fn fields_are_exact<F: Form>()
     ensures { FieldsAreExact F.shape }
 {}
 
-/// An optional field is read as absent exactly where its key is absent or has a null, else exactly where its key has a value
-/// of its grammar.
+/// An optional field is read as absent exactly where its key is absent or has a null, else exactly where its key has
+/// a value of its grammar.
 pub fn optional_fields_are_exact<F: Form>()
     ensures { OptionalFieldsAreExact F.shape }
 {}

@@ -20,3 +20,5 @@ stopped expected next OutOfMemory is = tt
 pub followed : {A B : Type 0} (expected : Result A RouteRefused) (next : A → Result B RouteRefused) (found : A) (result : Result B Unplanned)
     → expected ≡ Ok found → Gives (next found) result → Gives (expected >>= next) result
 followed expected next found result is gives = subst (λ e. Gives (e >>= next) result) (sym is) gives
+
+pub ruleset chained = (stopped, followed)

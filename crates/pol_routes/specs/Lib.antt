@@ -3,6 +3,7 @@ pub mod Form
 pub mod Laws
 pub mod Plan
 pub mod Query
+pub mod Request
 pub mod Requests
 pub mod Route
 pub mod Segment

@@ -13,9 +13,11 @@ use Rattle.pol_requests.specs.declared.refused.RouteRefused.TheVariants.{NotBuil
 use Rattle.pol_requests.specs.declared.table.Service.{Service}
 use Rattle.pol_requests.specs.declared.table.Service.TheVariants.{Built, NotBuilt}
 use Rattle.pol_requests.specs.Refused.{◌>>=◌}
+use Rattle.pol_requests.specs.Table.{Entry}
 use Rattle.pol_routes.specs.declared.plans.Planned.{Planned}
 use Rattle.pol_routes.specs.declared.plans.TheConstants.{REQUEST_CHARGE}
 use Rattle.pol_routes.specs.Bearer.{caller_of}
+use Rattle.pol_routes.specs.Request.{Request}
 use Rattle.pol_routes.specs.Requests.{action_of}
 use Rattle.pol_routes.specs.Route.{row_of}
 use Rattle.pol_routes.specs.Target.{path_of}
@@ -30,17 +32,21 @@ caller_for (Principal request) caller = caller
 caller_for (PrincipalRole request) caller = caller
 caller_for (CatalogRole request) caller = caller
 
--- the plan of a request with that charge, caller, target and body, by how such requests are served
-unfoldable pub served_plan : ℕ → Caller → List ℕ → List ℕ → Service → Result Planned RouteRefused
-served_plan charge caller target bytes (Built endpoint words) =
-    action_of target bytes endpoint >>= λ action. Ok (record { caller = caller_for endpoint caller; action = action; words = words; charge = charge })
-served_plan charge caller target bytes NotBuilt = Err NotBuiltYet
+-- the plan of a request with that charge and caller, by how such requests are served
+unfoldable pub served_plan : ℕ → Caller → Request → Service → Result Planned RouteRefused
+served_plan charge caller request (Built endpoint words) =
+    action_of request endpoint >>= λ action. Ok (record { caller = caller_for endpoint caller; action = action; words = words; charge = charge })
+served_plan charge caller request NotBuilt = Err NotBuiltYet
+
+-- the request that a message makes by a row of the table
+abbrev pub request_by : Entry → Message → Request
+request_by row message = record { pattern = row.path; target = message.head.target; body = message.body }
 
 -- the plan of a message, or why it has none: its row is found first
 unfoldable pub plan_of : Message → Result Planned RouteRefused
 plan_of message =
     row_of message.head.method (path_of message.head.target)
-    >>= λ row. served_plan (length (print_message message) + REQUEST_CHARGE) (caller_of (fields_of message.head)) message.head.target message.body row.service
+    >>= λ row. served_plan (length (print_message message) + REQUEST_CHARGE) (caller_of (fields_of message.head)) (request_by row message) row.service
 
 -- the command of a plan at a moment, with the words that were drawn for it
 unfoldable pub command_of : Planned → ℕ → Words4 → Command

@@ -7,10 +7,12 @@ use Rattle.pol_commands.specs.declared.command.Action.TheVariants as action
 use Rattle.pol_readers.specs.Shape.{body}
 use Rattle.pol_requests.specs.Refused.{◌>>=◌}
 use Rattle.pol_requests.specs.declared.endpoint.CatalogRequest.TheVariants.{ListCatalogs, CreateCatalog, GetCatalog, DropCatalog}
+use Rattle.pol_requests.specs.declared.endpoint.CatalogRoleRequest.{CatalogRoleRequest}
 use Rattle.pol_requests.specs.declared.endpoint.CatalogRoleRequest.TheVariants.{ListCatalogRoles, CreateCatalogRole, GetCatalogRole, DropCatalogRole, ListGrants, AddGrant, Revoke}
 use Rattle.pol_requests.specs.declared.endpoint.ContentRequest.TheVariants.{GetConfig, ListNamespaces, CreateNamespace}
 use Rattle.pol_requests.specs.declared.endpoint.Endpoint.{Endpoint}
 use Rattle.pol_requests.specs.declared.endpoint.Endpoint.TheVariants.{OpenSession, Content, Namespace, Catalog, Principal, PrincipalRole, CatalogRole}
+use Rattle.pol_requests.specs.declared.endpoint.NamespaceRequest.{NamespaceRequest}
 use Rattle.pol_requests.specs.declared.endpoint.NamespaceRequest.TheVariants.{LoadNamespace, HeadNamespace, DropNamespace, UpdateProperties}
 use Rattle.pol_requests.specs.declared.endpoint.PrincipalRequest.TheVariants.{ListPrincipals, CreatePrincipal, GetPrincipal, DropPrincipal, Rotate, ListMembers, AddMember, EndMember}
 use Rattle.pol_requests.specs.declared.endpoint.PrincipalRoleRequest.TheVariants.{ListPrincipalRoles, CreatePrincipalRole, GetPrincipalRole, DropPrincipalRole, ListJoins, AddJoin, EndJoin}
@@ -21,28 +23,12 @@ use Rattle.pol_bodies.specs.Bodies.{catalog_body, new_namespace, property_update
 use Rattle.pol_bodies.specs.Body.{body_of}
 use Rattle.pol_bodies.specs.ManagementBodies.{catalog_role_body, grant_body, principal_body, principal_role_body}
 use Rattle.pol_routes.specs.Query.{query_value}
-use Rattle.pol_routes.specs.Segment.{segment_at, plain_of, namespace_of, plain_segment, namespace_segment}
-use Rattle.pol_routes.specs.Target.{path_of, query_of}
+use Rattle.pol_routes.specs.Request.{Request, plain, namespace}
+use Rattle.pol_routes.specs.Segment.{plain_of, namespace_of}
+use Rattle.pol_routes.specs.Target.{query_of}
 use Rattle.pol_routes.specs.TokenForm.{token_form}
+use Rattle.pol_routes.specs.declared.routed.TheConstants.{PREFIX, CATALOG, PRINCIPAL, ROLE, CATALOG_ROLE}
 use Rattle.pol_routes.specs.declared.token_form.TokenForm.{TokenForm}
-
--- what a path of the catalogue API names, each behind so many slashes: its catalogue, and its namespace
-unfoldable pub prefix : List ℕ → Result (List ℕ) RouteRefused
-prefix target = plain_segment (segment_at (path_of target) 4)
-
-unfoldable pub namespace : List ℕ → Result (List (List ℕ)) RouteRefused
-namespace target = namespace_segment (segment_at (path_of target) 6)
-
--- what a path of the management API names: the principal, principal role or catalogue that it begins with, what it
--- names behind that, and the role of a catalogue that a principal role is joined to
-unfoldable pub owner : List ℕ → Result (List ℕ) RouteRefused
-owner target = plain_segment (segment_at (path_of target) 5)
-
-unfoldable pub part : List ℕ → Result (List ℕ) RouteRefused
-part target = plain_segment (segment_at (path_of target) 7)
-
-unfoldable pub joined_role : List ℕ → Result (List ℕ) RouteRefused
-joined_role target = plain_segment (segment_at (path_of target) 8)
 
 -- the catalogue of a warehouse, which must be there
 unfoldable pub warehouse_of : Option (List ℕ) → Result (List ℕ) RouteRefused
@@ -80,39 +66,47 @@ open_session bytes = session_asked (token_form (parse bytes))
 abbrev pub creation_of : NewCatalog → Action
 creation_of new = action.CreateCatalog new.name new.base new.allowed new.properties new.external
 
--- the action that a request with that target and body asks for: its path is read first, then its query, then its body
-abbrev pub action_of : List ℕ → List ℕ → Endpoint → Result Action RouteRefused
-action_of target bytes OpenSession = open_session bytes
-action_of target bytes (Content GetConfig) = warehouse target >>= λ catalog. Ok (action.GetConfig catalog)
-action_of target bytes (Content ListNamespaces) = prefix target >>= λ catalog. parent target >>= λ within. Ok (action.ListNamespaces catalog within)
-action_of target bytes (Content CreateNamespace) = prefix target >>= λ catalog. body_of (body new_namespace bytes) >>= λ new. Ok (action.CreateNamespace catalog new.namespace new.properties)
-action_of target bytes (Namespace LoadNamespace) = prefix target >>= λ catalog. namespace target >>= λ levels. Ok (action.LoadNamespace catalog levels)
-action_of target bytes (Namespace HeadNamespace) = prefix target >>= λ catalog. namespace target >>= λ levels. Ok (action.HeadNamespace catalog levels)
-action_of target bytes (Namespace DropNamespace) = prefix target >>= λ catalog. namespace target >>= λ levels. Ok (action.DropNamespace catalog levels)
-action_of target bytes (Namespace UpdateProperties) = prefix target >>= λ catalog. namespace target >>= λ levels. body_of (body property_updates bytes) >>= λ new. Ok (action.UpdateProperties catalog levels new.removals new.updates)
-action_of target bytes (Catalog ListCatalogs) = Ok action.ListCatalogs
-action_of target bytes (Catalog CreateCatalog) = body_of (body catalog_body bytes) >>= λ read. Ok (creation_of read.catalog)
-action_of target bytes (Catalog GetCatalog) = owner target >>= λ catalog. Ok (action.GetCatalog catalog)
-action_of target bytes (Catalog DropCatalog) = owner target >>= λ catalog. Ok (action.DropCatalog catalog)
-action_of target bytes (Principal ListPrincipals) = Ok action.ListPrincipals
-action_of target bytes (Principal CreatePrincipal) = body_of (body principal_body bytes) >>= λ new. Ok (action.CreatePrincipal new.name None None)
-action_of target bytes (Principal GetPrincipal) = owner target >>= λ name. Ok (action.GetPrincipal name)
-action_of target bytes (Principal DropPrincipal) = owner target >>= λ name. Ok (action.DropPrincipal name)
-action_of target bytes (Principal Rotate) = owner target >>= λ name. Ok (action.Rotate name None)
-action_of target bytes (Principal ListMembers) = owner target >>= λ principal. Ok (action.ListMembers principal)
-action_of target bytes (Principal AddMember) = owner target >>= λ principal. body_of (body principal_role_body bytes) >>= λ role. Ok (action.AddMember principal role.name)
-action_of target bytes (Principal EndMember) = owner target >>= λ principal. part target >>= λ role. Ok (action.EndMember principal role)
-action_of target bytes (PrincipalRole ListPrincipalRoles) = Ok action.ListPrincipalRoles
-action_of target bytes (PrincipalRole CreatePrincipalRole) = body_of (body principal_role_body bytes) >>= λ new. Ok (action.CreatePrincipalRole new.name)
-action_of target bytes (PrincipalRole GetPrincipalRole) = owner target >>= λ name. Ok (action.GetPrincipalRole name)
-action_of target bytes (PrincipalRole DropPrincipalRole) = owner target >>= λ name. Ok (action.DropPrincipalRole name)
-action_of target bytes (PrincipalRole ListJoins) = owner target >>= λ role. part target >>= λ catalog. Ok (action.ListJoins catalog role)
-action_of target bytes (PrincipalRole AddJoin) = owner target >>= λ role. part target >>= λ catalog. body_of (body catalog_role_body bytes) >>= λ joined. Ok (action.AddJoin catalog role joined.name)
-action_of target bytes (PrincipalRole EndJoin) = owner target >>= λ role. part target >>= λ catalog. joined_role target >>= λ joined. Ok (action.EndJoin catalog role joined)
-action_of target bytes (CatalogRole ListCatalogRoles) = owner target >>= λ catalog. Ok (action.ListCatalogRoles catalog)
-action_of target bytes (CatalogRole CreateCatalogRole) = owner target >>= λ catalog. body_of (body catalog_role_body bytes) >>= λ new. Ok (action.CreateCatalogRole catalog new.name)
-action_of target bytes (CatalogRole GetCatalogRole) = owner target >>= λ catalog. part target >>= λ role. Ok (action.GetCatalogRole catalog role)
-action_of target bytes (CatalogRole DropCatalogRole) = owner target >>= λ catalog. part target >>= λ role. Ok (action.DropCatalogRole catalog role)
-action_of target bytes (CatalogRole ListGrants) = owner target >>= λ catalog. part target >>= λ role. Ok (action.ListGrants catalog role)
-action_of target bytes (CatalogRole AddGrant) = owner target >>= λ catalog. part target >>= λ role. body_of (body grant_body bytes) >>= λ read. Ok (action.AddGrant catalog role read.grant)
-action_of target bytes (CatalogRole Revoke) = owner target >>= λ catalog. part target >>= λ role. body_of (body grant_body bytes) >>= λ read. Ok (action.Revoke catalog role read.grant)
+-- the action of a request on a namespace of a catalogue
+abbrev pub on_namespace : Request → List ℕ → List (List ℕ) → NamespaceRequest → Result Action RouteRefused
+on_namespace request catalog levels LoadNamespace = Ok (action.LoadNamespace catalog levels)
+on_namespace request catalog levels HeadNamespace = Ok (action.HeadNamespace catalog levels)
+on_namespace request catalog levels DropNamespace = Ok (action.DropNamespace catalog levels)
+on_namespace request catalog levels UpdateProperties = body_of (body property_updates request.body) >>= λ new. Ok (action.UpdateProperties catalog levels new.removals new.updates)
+
+-- the action of a request on the roles of a catalogue
+abbrev pub on_catalog_roles : Request → List ℕ → CatalogRoleRequest → Result Action RouteRefused
+on_catalog_roles request catalog ListCatalogRoles = Ok (action.ListCatalogRoles catalog)
+on_catalog_roles request catalog CreateCatalogRole = body_of (body catalog_role_body request.body) >>= λ new. Ok (action.CreateCatalogRole catalog new.name)
+on_catalog_roles request catalog GetCatalogRole = plain CATALOG_ROLE.now request >>= λ role. Ok (action.GetCatalogRole catalog role)
+on_catalog_roles request catalog DropCatalogRole = plain CATALOG_ROLE.now request >>= λ role. Ok (action.DropCatalogRole catalog role)
+on_catalog_roles request catalog ListGrants = plain CATALOG_ROLE.now request >>= λ role. Ok (action.ListGrants catalog role)
+on_catalog_roles request catalog AddGrant = plain CATALOG_ROLE.now request >>= λ role. body_of (body grant_body request.body) >>= λ read. Ok (action.AddGrant catalog role read.grant)
+on_catalog_roles request catalog Revoke = plain CATALOG_ROLE.now request >>= λ role. body_of (body grant_body request.body) >>= λ read. Ok (action.Revoke catalog role read.grant)
+
+-- the action that a request asks for: its path is read first, then its query, then its body
+abbrev pub action_of : Request → Endpoint → Result Action RouteRefused
+action_of request OpenSession = open_session request.body
+action_of request (Content GetConfig) = warehouse request.target >>= λ catalog. Ok (action.GetConfig catalog)
+action_of request (Content ListNamespaces) = plain PREFIX.now request >>= λ catalog. parent request.target >>= λ within. Ok (action.ListNamespaces catalog within)
+action_of request (Content CreateNamespace) = plain PREFIX.now request >>= λ catalog. body_of (body new_namespace request.body) >>= λ new. Ok (action.CreateNamespace catalog new.namespace new.properties)
+action_of request (Namespace asked) = plain PREFIX.now request >>= λ catalog. namespace request >>= λ levels. on_namespace request catalog levels asked
+action_of request (Catalog ListCatalogs) = Ok action.ListCatalogs
+action_of request (Catalog CreateCatalog) = body_of (body catalog_body request.body) >>= λ read. Ok (creation_of read.catalog)
+action_of request (Catalog GetCatalog) = plain CATALOG.now request >>= λ catalog. Ok (action.GetCatalog catalog)
+action_of request (Catalog DropCatalog) = plain CATALOG.now request >>= λ catalog. Ok (action.DropCatalog catalog)
+action_of request (Principal ListPrincipals) = Ok action.ListPrincipals
+action_of request (Principal CreatePrincipal) = body_of (body principal_body request.body) >>= λ new. Ok (action.CreatePrincipal new.name None None)
+action_of request (Principal GetPrincipal) = plain PRINCIPAL.now request >>= λ name. Ok (action.GetPrincipal name)
+action_of request (Principal DropPrincipal) = plain PRINCIPAL.now request >>= λ name. Ok (action.DropPrincipal name)
+action_of request (Principal Rotate) = plain PRINCIPAL.now request >>= λ name. Ok (action.Rotate name None)
+action_of request (Principal ListMembers) = plain PRINCIPAL.now request >>= λ principal. Ok (action.ListMembers principal)
+action_of request (Principal AddMember) = plain PRINCIPAL.now request >>= λ principal. body_of (body principal_role_body request.body) >>= λ role. Ok (action.AddMember principal role.name)
+action_of request (Principal EndMember) = plain PRINCIPAL.now request >>= λ principal. plain ROLE.now request >>= λ role. Ok (action.EndMember principal role)
+action_of request (PrincipalRole ListPrincipalRoles) = Ok action.ListPrincipalRoles
+action_of request (PrincipalRole CreatePrincipalRole) = body_of (body principal_role_body request.body) >>= λ new. Ok (action.CreatePrincipalRole new.name)
+action_of request (PrincipalRole GetPrincipalRole) = plain ROLE.now request >>= λ name. Ok (action.GetPrincipalRole name)
+action_of request (PrincipalRole DropPrincipalRole) = plain ROLE.now request >>= λ name. Ok (action.DropPrincipalRole name)
+action_of request (PrincipalRole ListJoins) = plain ROLE.now request >>= λ role. plain CATALOG.now request >>= λ catalog. Ok (action.ListJoins catalog role)
+action_of request (PrincipalRole AddJoin) = plain ROLE.now request >>= λ role. plain CATALOG.now request >>= λ catalog. body_of (body catalog_role_body request.body) >>= λ joined. Ok (action.AddJoin catalog role joined.name)
+action_of request (PrincipalRole EndJoin) = plain ROLE.now request >>= λ role. plain CATALOG.now request >>= λ catalog. plain CATALOG_ROLE.now request >>= λ joined. Ok (action.EndJoin catalog role joined)
+action_of request (CatalogRole asked) = plain CATALOG.now request >>= λ catalog. on_catalog_roles request catalog asked

@@ -1,8 +1,8 @@
 -- The segments of a path, as texts and as names (RFC 3986, sections 2.1 and 3.3).
-use Rattle.std.specs.Prelude.{ℕ, Bool, true, false, ◌&&◌, ◌||◌, ◌==◌, not, List, [], ◌∷◌, unwrap_or, is_none, if◌then◌else◌, Result, Ok, Err, codes}
+use Rattle.std.specs.Prelude.{ℕ, Bool, true, false, ◌&&◌, ◌||◌, ◌==◌, not, List, [], ◌∷◌, unwrap_or, is_none, if◌then◌else◌, Option, option_and_then, position, Result, Ok, Err, codes}
 use Rattle.std.specs.Char.{is_ascii_hexdigit}
 use Rattle.std.specs.List.{slice_get, slice_split}
-use Rattle.std.specs.Str.{is_utf8}
+use Rattle.std.specs.Str.{bytes_eq, is_utf8}
 use Rattle.percent_encoding.specs.Percent.{percent_decode, percent_sign}
 use Rattle.pol_names.specs.Name.{name_refusal}
 use Rattle.pol_names.specs.Namespace.{levels_of, namespace_refusal}
@@ -15,9 +15,22 @@ use Rattle.pol_requests.specs.declared.refused.RouteRefused.TheVariants.{Unreada
 abbrev pub slash : ℕ
 slash = 47
 
--- the segment behind so many slashes, or an empty one
+-- the segments of a path
+abbrev pub segments : List ℕ → List (List ℕ)
+segments path = slice_split (λ byte. byte == slash) path
+
+-- the place among a pattern's segments of a parameter, as `{namespace}`
+unfoldable pub place_of : List ℕ → List ℕ → Option ℕ
+place_of parameter pattern = position (λ segment. bytes_eq segment parameter) (segments pattern)
+
+-- the segment of a path at a place, or an empty one
 abbrev pub segment_at : List ℕ → ℕ → List ℕ
-segment_at path place = unwrap_or (slice_get (slice_split (λ byte. byte == slash) path) place) []
+segment_at path place = unwrap_or (slice_get (segments path) place) []
+
+-- the segment of a path that stands for a parameter of its pattern, or an empty one
+unfoldable pub segment_for : List ℕ → List ℕ → List ℕ → List ℕ
+segment_for parameter pattern path =
+    unwrap_or (option_and_then (slice_get (segments path)) (place_of parameter pattern)) []
 
 -- two hexadecimal digits come first
 abbrev pub begins_with_digits : List ℕ → Bool

@@ -31,7 +31,8 @@ pub fn caller_of(alloc: Global, bytes: &[u8], head: &Head) -> Result<Caller, Out
 /// The value of the first field of a name.
 fn first_value<'b>(bytes: &'b [u8], fields: &[HeaderSpan], name: &[u8]) -> Option<&'b [u8]>
     requires { All (IsHeaderWithin (length bytes.now)) fields.now }
-    ensures { option_map (λ value. value.now) result ≡ spec.first_value name.now (map (header_bytes bytes.now) fields.now) }
+    ensures { option_map (λ value. value.now) result
+        ≡ spec.first_value name.now (map (header_bytes bytes.now) fields.now) }
 {
     for field in fields {
         if has_name(bytes, field, name) {

@@ -1,6 +1,7 @@
 //! Laws of plans: theorems over the definitions in `specs/`. Their bodies are empty.
-ghost use Rattle.std.specs.Prelude.{◌≡◌};
+ghost use Rattle.std.specs.Prelude.{◌≡◌, codes};
 ghost use Rattle.pol_routes.specs.declared.plans.TheConstants.{REQUEST_CHARGE};
+ghost use Rattle.pol_routes.specs.declared.routed.TheConstants.{CATALOG, CATALOG_ROLE, NAMESPACE, PREFIX, PRINCIPAL, ROLE};
 ghost use Rattle.pol_routes.specs.declared.token_form.TheConstants.{SCOPE_LIMIT};
 ghost use Rattle.pol_routes.specs.Laws.{EachRowIsServed};
 
@@ -8,6 +9,16 @@ ghost use Rattle.pol_routes.specs.Laws.{EachRowIsServed};
 pub fn bounds_are_those()
     ensures charge { REQUEST_CHARGE ≡ 512 }
     ensures scopes { SCOPE_LIMIT ≡ 16 }
+{}
+
+/// The parameters for which a path's segments stand.
+pub fn parameters_are_those()
+    ensures prefix { PREFIX.now ≡ codes "{prefix}" }
+    ensures namespace { NAMESPACE.now ≡ codes "{namespace}" }
+    ensures catalog { CATALOG.now ≡ codes "{catalog}" }
+    ensures catalog_role { CATALOG_ROLE.now ≡ codes "{catalog_role}" }
+    ensures principal { PRINCIPAL.now ≡ codes "{principal}" }
+    ensures role { ROLE.now ≡ codes "{role}" }
 {}
 
 /// Each request of the table is answered by its own row: no path of the table is malformed or in conflict with another,

@@ -2,10 +2,10 @@
 ghost use Rattle.std.specs.Prelude.{◌≡◌};
 ghost use Rattle.pol_requests.specs.Refused.{Gives};
 ghost use Rattle.pol_requests.specs.declared.endpoint.Endpoint.TheVariants.{Catalog as OfCatalog, CatalogRole as OfCatalogRole, Principal as OfPrincipal, PrincipalRole as OfPrincipalRole};
+ghost use Rattle.pol_routes.specs.Request.{request_of};
 ghost use Rattle.pol_routes.specs.Requests as spec;
 
-use crate::segment::{plain_segment, segment_at};
-use crate::target::path_of;
+use crate::routed::{CATALOG, CATALOG_ROLE, PRINCIPAL, ROLE, Routed};
 use pol_bodies::{
     CatalogBody, CatalogRoleBody, GrantBody, NewCatalog, PrincipalBody, PrincipalRoleBody, body_of,
 };
@@ -16,36 +16,26 @@ use pol_requests::{
 };
 use std::alloc::Global;
 
-/// The place of what a path names first: a principal, a principal role or a catalogue.
-const OWNER_PLACE: usize = 5;
-
-/// The place of what a path names behind that.
-const PART_PLACE: usize = 7;
-
-/// The place of a catalogue's role behind the catalogue to which a principal role is joined.
-const JOINED_ROLE_PLACE: usize = 8;
-
 /// What a request asks for of the catalogues themselves.
-#[tactic(auto, using(pol_requests::proofs::RefusedLemmas::stopped, pol_requests::proofs::RefusedLemmas::followed))]
+#[tactic(auto, using(pol_requests::proofs::RefusedLemmas::chained))]
 pub(crate) fn catalog_action(
     alloc: Global,
-    request: CatalogRequest,
-    target: &[u8],
-    body: &[u8],
+    asked: CatalogRequest,
+    message: &Routed<'_>,
 ) -> Result<Action, Unplanned>
-    ensures { Gives (spec.action_of target.now body.now (OfCatalog request)) result }
+    ensures { Gives (spec.action_of (request_of message.now) (OfCatalog asked)) result }
 {
-    match request {
+    match asked {
         CatalogRequest::ListCatalogs => Ok(Action::ListCatalogs),
         CatalogRequest::CreateCatalog => {
-            let read: CatalogBody = body_of(alloc, body)?;
+            let read: CatalogBody = body_of(alloc, message.body)?;
             Ok(creation_of(read.catalog))
         }
         CatalogRequest::GetCatalog => Ok(Action::GetCatalog {
-            catalog: owner(alloc, target)?,
+            catalog: message.plain(alloc, CATALOG)?,
         }),
         CatalogRequest::DropCatalog => Ok(Action::DropCatalog {
-            catalog: owner(alloc, target)?,
+            catalog: message.plain(alloc, CATALOG)?,
         }),
     }
 }
@@ -64,147 +54,132 @@ fn creation_of(new: NewCatalog) -> Action
 }
 
 /// What a request asks for of principals and the principal roles that they have.
-#[tactic(auto, using(pol_requests::proofs::RefusedLemmas::stopped, pol_requests::proofs::RefusedLemmas::followed))]
+#[tactic(auto, using(pol_requests::proofs::RefusedLemmas::chained))]
 pub(crate) fn principal_action(
     alloc: Global,
-    request: PrincipalRequest,
-    target: &[u8],
-    body: &[u8],
+    asked: PrincipalRequest,
+    message: &Routed<'_>,
 ) -> Result<Action, Unplanned>
-    ensures { Gives (spec.action_of target.now body.now (OfPrincipal request)) result }
+    ensures { Gives (spec.action_of (request_of message.now) (OfPrincipal asked)) result }
 {
-    match request {
+    match asked {
         PrincipalRequest::ListPrincipals => Ok(Action::ListPrincipals),
         PrincipalRequest::CreatePrincipal => Ok(Action::CreatePrincipal {
-            name: body_of::<PrincipalBody>(alloc, body)?.name,
+            name: body_of::<PrincipalBody>(alloc, message.body)?.name,
             client_id: None,
             secret: None,
         }),
         PrincipalRequest::GetPrincipal => Ok(Action::GetPrincipal {
-            name: owner(alloc, target)?,
+            name: message.plain(alloc, PRINCIPAL)?,
         }),
         PrincipalRequest::DropPrincipal => Ok(Action::DropPrincipal {
-            name: owner(alloc, target)?,
+            name: message.plain(alloc, PRINCIPAL)?,
         }),
         PrincipalRequest::Rotate => Ok(Action::Rotate {
-            name: owner(alloc, target)?,
+            name: message.plain(alloc, PRINCIPAL)?,
             secret: None,
         }),
         PrincipalRequest::ListMembers => Ok(Action::ListMembers {
-            principal: owner(alloc, target)?,
+            principal: message.plain(alloc, PRINCIPAL)?,
         }),
         PrincipalRequest::AddMember => Ok(Action::AddMember {
-            principal: owner(alloc, target)?,
-            role: body_of::<PrincipalRoleBody>(alloc, body)?.name,
+            principal: message.plain(alloc, PRINCIPAL)?,
+            role: body_of::<PrincipalRoleBody>(alloc, message.body)?.name,
         }),
         PrincipalRequest::EndMember => Ok(Action::EndMember {
-            principal: owner(alloc, target)?,
-            role: part(alloc, target)?,
+            principal: message.plain(alloc, PRINCIPAL)?,
+            role: message.plain(alloc, ROLE)?,
         }),
     }
 }
 
 /// What a request asks for of principal roles and the roles of catalogues that they are joined to.
-#[tactic(auto, using(pol_requests::proofs::RefusedLemmas::stopped, pol_requests::proofs::RefusedLemmas::followed))]
+#[tactic(auto, using(pol_requests::proofs::RefusedLemmas::chained))]
 pub(crate) fn principal_role_action(
     alloc: Global,
-    request: PrincipalRoleRequest,
-    target: &[u8],
-    body: &[u8],
+    asked: PrincipalRoleRequest,
+    message: &Routed<'_>,
 ) -> Result<Action, Unplanned>
-    ensures { Gives (spec.action_of target.now body.now (OfPrincipalRole request)) result }
+    ensures { Gives (spec.action_of (request_of message.now) (OfPrincipalRole asked)) result }
 {
-    match request {
+    match asked {
         PrincipalRoleRequest::ListPrincipalRoles => Ok(Action::ListPrincipalRoles),
         PrincipalRoleRequest::CreatePrincipalRole => Ok(Action::CreatePrincipalRole {
-            name: body_of::<PrincipalRoleBody>(alloc, body)?.name,
+            name: body_of::<PrincipalRoleBody>(alloc, message.body)?.name,
         }),
         PrincipalRoleRequest::GetPrincipalRole => Ok(Action::GetPrincipalRole {
-            name: owner(alloc, target)?,
+            name: message.plain(alloc, ROLE)?,
         }),
         PrincipalRoleRequest::DropPrincipalRole => Ok(Action::DropPrincipalRole {
-            name: owner(alloc, target)?,
+            name: message.plain(alloc, ROLE)?,
         }),
         PrincipalRoleRequest::ListJoins => Ok(Action::ListJoins {
-            role: owner(alloc, target)?,
-            catalog: part(alloc, target)?,
+            role: message.plain(alloc, ROLE)?,
+            catalog: message.plain(alloc, CATALOG)?,
         }),
         PrincipalRoleRequest::AddJoin => Ok(Action::AddJoin {
-            role: owner(alloc, target)?,
-            catalog: part(alloc, target)?,
-            catalog_role: body_of::<CatalogRoleBody>(alloc, body)?.name,
+            role: message.plain(alloc, ROLE)?,
+            catalog: message.plain(alloc, CATALOG)?,
+            catalog_role: body_of::<CatalogRoleBody>(alloc, message.body)?.name,
         }),
         PrincipalRoleRequest::EndJoin => Ok(Action::EndJoin {
-            role: owner(alloc, target)?,
-            catalog: part(alloc, target)?,
-            catalog_role: joined_role(alloc, target)?,
+            role: message.plain(alloc, ROLE)?,
+            catalog: message.plain(alloc, CATALOG)?,
+            catalog_role: message.plain(alloc, CATALOG_ROLE)?,
         }),
     }
 }
 
 /// What a request asks for of the roles of a catalogue and their grants.
-#[tactic(auto, using(pol_requests::proofs::RefusedLemmas::stopped, pol_requests::proofs::RefusedLemmas::followed))]
+#[tactic(auto, using(pol_requests::proofs::RefusedLemmas::chained))]
 pub(crate) fn catalog_role_action(
     alloc: Global,
-    request: CatalogRoleRequest,
-    target: &[u8],
-    body: &[u8],
+    asked: CatalogRoleRequest,
+    message: &Routed<'_>,
 ) -> Result<Action, Unplanned>
-    ensures { Gives (spec.action_of target.now body.now (OfCatalogRole request)) result }
+    ensures { Gives (spec.action_of (request_of message.now) (OfCatalogRole asked)) result }
 {
-    match request {
-        CatalogRoleRequest::ListCatalogRoles => Ok(Action::ListCatalogRoles {
-            catalog: owner(alloc, target)?,
-        }),
+    let catalog = message.plain(alloc, CATALOG)?;
+    on_catalog_roles(alloc, asked, message, catalog)
+}
+
+/// What a request asks for of the roles of a catalogue that it names.
+#[tactic(auto, using(pol_requests::proofs::RefusedLemmas::chained))]
+fn on_catalog_roles(
+    alloc: Global,
+    asked: CatalogRoleRequest,
+    message: &Routed<'_>,
+    catalog: Plain,
+) -> Result<Action, Unplanned>
+    ensures { Gives (spec.on_catalog_roles (request_of message.now) catalog asked) result }
+{
+    match asked {
+        CatalogRoleRequest::ListCatalogRoles => Ok(Action::ListCatalogRoles { catalog }),
         CatalogRoleRequest::CreateCatalogRole => Ok(Action::CreateCatalogRole {
-            catalog: owner(alloc, target)?,
-            name: body_of::<CatalogRoleBody>(alloc, body)?.name,
+            catalog,
+            name: body_of::<CatalogRoleBody>(alloc, message.body)?.name,
         }),
         CatalogRoleRequest::GetCatalogRole => Ok(Action::GetCatalogRole {
-            catalog: owner(alloc, target)?,
-            name: part(alloc, target)?,
+            catalog,
+            name: message.plain(alloc, CATALOG_ROLE)?,
         }),
         CatalogRoleRequest::DropCatalogRole => Ok(Action::DropCatalogRole {
-            catalog: owner(alloc, target)?,
-            name: part(alloc, target)?,
+            catalog,
+            name: message.plain(alloc, CATALOG_ROLE)?,
         }),
         CatalogRoleRequest::ListGrants => Ok(Action::ListGrants {
-            catalog: owner(alloc, target)?,
-            role: part(alloc, target)?,
+            catalog,
+            role: message.plain(alloc, CATALOG_ROLE)?,
         }),
         CatalogRoleRequest::AddGrant => Ok(Action::AddGrant {
-            catalog: owner(alloc, target)?,
-            role: part(alloc, target)?,
-            grant: body_of::<GrantBody>(alloc, body)?.grant,
+            catalog,
+            role: message.plain(alloc, CATALOG_ROLE)?,
+            grant: body_of::<GrantBody>(alloc, message.body)?.grant,
         }),
         CatalogRoleRequest::Revoke => Ok(Action::Revoke {
-            catalog: owner(alloc, target)?,
-            role: part(alloc, target)?,
-            grant: body_of::<GrantBody>(alloc, body)?.grant,
+            catalog,
+            role: message.plain(alloc, CATALOG_ROLE)?,
+            grant: body_of::<GrantBody>(alloc, message.body)?.grant,
         }),
     }
-}
-
-/// What a path names first.
-#[tactic(auto, unfolding(crate::specs::Requests::owner))]
-fn owner(alloc: Global, target: &[u8]) -> Result<Plain, Unplanned>
-    ensures { Gives (spec.owner target.now) result }
-{
-    plain_segment(alloc, segment_at(path_of(target), OWNER_PLACE))
-}
-
-/// What a path names behind that.
-#[tactic(auto, unfolding(crate::specs::Requests::part))]
-fn part(alloc: Global, target: &[u8]) -> Result<Plain, Unplanned>
-    ensures { Gives (spec.part target.now) result }
-{
-    plain_segment(alloc, segment_at(path_of(target), PART_PLACE))
-}
-
-/// The role of a catalogue that a principal role is joined to.
-#[tactic(auto, unfolding(crate::specs::Requests::joined_role))]
-fn joined_role(alloc: Global, target: &[u8]) -> Result<Plain, Unplanned>
-    ensures { Gives (spec.joined_role target.now) result }
-{
-    plain_segment(alloc, segment_at(path_of(target), JOINED_ROLE_PLACE))
 }

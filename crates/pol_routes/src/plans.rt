@@ -4,11 +4,13 @@ ghost use Rattle.pol_http.specs.Message.{Message};
 ghost use Rattle.pol_http.specs.Next.{IsMessageAt, LiesWithin};
 ghost use Rattle.pol_requests.specs.Refused.{Gives};
 ghost use Rattle.pol_routes.specs.Plan as spec;
+ghost use Rattle.pol_routes.specs.Request.{request_of};
 ghost use Rattle.pol_routes.specs.Route as route;
 ghost use Rattle.pol_routes.specs.Target.{path_of};
 
 use crate::bearer::caller_of;
 use crate::requests::action_of;
+use crate::routed::Routed;
 use crate::routes::Routes;
 use crate::target;
 use httparse::spans::Span;
@@ -50,7 +52,12 @@ pub fn plan(
     let row = row_of(routes, head.method.of(bytes), target)?;
     let caller = caller_of(alloc, bytes, head)?;
     let charge = body.end as u64 + REQUEST_CHARGE;
-    served_plan(alloc, row.2, charge, caller, target, body.of(bytes))
+    let message = Routed {
+        pattern: row.1.as_bytes(),
+        target,
+        body: body.of(bytes),
+    };
+    served_plan(alloc, row.2, charge, caller, &message)
 }
 
 /// The row by which a request of this method and target is served.
@@ -64,20 +71,19 @@ fn row_of(routes: &Routes, method: &[u8], target: &[u8]) -> Result<&'static Row,
 }
 
 /// The plan of a request by how such requests are served.
-#[tactic(auto, using(pol_requests::proofs::RefusedLemmas::stopped, pol_requests::proofs::RefusedLemmas::followed), unfolding(crate::specs::Plan::served_plan))]
+#[tactic(auto, using(pol_requests::proofs::RefusedLemmas::chained), unfolding(crate::specs::Plan::served_plan))]
 fn served_plan(
     alloc: Global,
     service: Service,
     charge: u64,
     caller: Caller,
-    target: &[u8],
-    body: &[u8],
+    message: &Routed<'_>,
 ) -> Result<Planned, Unplanned>
-    ensures { Gives (spec.served_plan charge caller target.now body.now service) result }
+    ensures { Gives (spec.served_plan charge caller (request_of message.now) service) result }
 {
     match service {
         Service::Built { endpoint, words } => Ok(Planned {
-            action: action_of(alloc, endpoint, target, body)?,
+            action: action_of(alloc, endpoint, message)?,
             caller: caller_for(endpoint, caller),
             words,
             charge,

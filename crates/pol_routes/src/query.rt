@@ -30,7 +30,8 @@ fn last_value<'q>(
     query: &'q [u8],
     key: &str,
 ) -> Result<Option<&'q [u8]>, OutOfMemory>
-    ensures { IfOk result (λ last. option_map (λ value. decode value.now) last ≡ last_or None (values_of key.now (parse query.now))) }
+    ensures { IfOk result (λ last. option_map (λ value. decode value.now) last
+        ≡ last_or None (values_of key.now (parse query.now))) }
 {
     let mut last = None;
     for (name, value) in raw_pairs(query) {

@@ -2,14 +2,16 @@
 ghost use Rattle.std.specs.Prelude.{◌≡◌};
 ghost use Rattle.pol_requests.specs.Refused.{Gives};
 ghost use Rattle.pol_requests.specs.declared.endpoint.Endpoint.TheVariants.{Content as OfContent, Namespace as OfNamespace};
+ghost use Rattle.pol_routes.specs.Request.{request_of};
 ghost use Rattle.pol_routes.specs.Requests as spec;
 
 use crate::management::{
     catalog_action, catalog_role_action, principal_action, principal_role_action,
 };
 use crate::query::query_value;
-use crate::segment::{namespace_of, namespace_segment, plain_of, plain_segment, segment_at};
-use crate::target::{path_of, query_of};
+use crate::routed::{PREFIX, Routed};
+use crate::segment::{namespace_of, plain_of};
+use crate::target::query_of;
 use crate::token_form::{TokenForm, read_token_form};
 use pol_bodies::{NewNamespace, PropertyUpdates, body_of};
 use pol_commands::Action;
@@ -20,53 +22,45 @@ use pol_requests::{
 use pol_types::Text;
 use std::alloc::Global;
 
-/// The place of the catalogue's name in a path of the catalogue API.
-const PREFIX_PLACE: usize = 4;
-
-/// The place of the namespace in such a path.
-const NAMESPACE_PLACE: usize = 6;
-
 /// The action that a request asks for. Its path is read first, then its query, then its body.
 pub(crate) fn action_of(
     alloc: Global,
     endpoint: Endpoint,
-    target: &[u8],
-    body: &[u8],
+    message: &Routed<'_>,
 ) -> Result<Action, Unplanned>
-    ensures { Gives (spec.action_of target.now body.now endpoint) result }
+    ensures { Gives (spec.action_of (request_of message.now) endpoint) result }
 {
     match endpoint {
-        Endpoint::OpenSession => open_session(alloc, body),
-        Endpoint::Content(request) => content_action(alloc, request, target, body),
-        Endpoint::Namespace(request) => namespace_action(alloc, request, target, body),
-        Endpoint::Catalog(request) => catalog_action(alloc, request, target, body),
-        Endpoint::Principal(request) => principal_action(alloc, request, target, body),
-        Endpoint::PrincipalRole(request) => principal_role_action(alloc, request, target, body),
-        Endpoint::CatalogRole(request) => catalog_role_action(alloc, request, target, body),
+        Endpoint::OpenSession => open_session(alloc, message.body),
+        Endpoint::Content(asked) => content_action(alloc, asked, message),
+        Endpoint::Namespace(asked) => namespace_action(alloc, asked, message),
+        Endpoint::Catalog(asked) => catalog_action(alloc, asked, message),
+        Endpoint::Principal(asked) => principal_action(alloc, asked, message),
+        Endpoint::PrincipalRole(asked) => principal_role_action(alloc, asked, message),
+        Endpoint::CatalogRole(asked) => catalog_role_action(alloc, asked, message),
     }
 }
 
 /// What a request asks for of what a catalogue holds.
-#[tactic(auto, using(pol_requests::proofs::RefusedLemmas::stopped, pol_requests::proofs::RefusedLemmas::followed))]
+#[tactic(auto, using(pol_requests::proofs::RefusedLemmas::chained))]
 fn content_action(
     alloc: Global,
-    request: ContentRequest,
-    target: &[u8],
-    body: &[u8],
+    asked: ContentRequest,
+    message: &Routed<'_>,
 ) -> Result<Action, Unplanned>
-    ensures { Gives (spec.action_of target.now body.now (OfContent request)) result }
+    ensures { Gives (spec.action_of (request_of message.now) (OfContent asked)) result }
 {
-    match request {
+    match asked {
         ContentRequest::GetConfig => Ok(Action::GetConfig {
-            catalog: warehouse(alloc, target)?,
+            catalog: warehouse(alloc, message.target)?,
         }),
         ContentRequest::ListNamespaces => Ok(Action::ListNamespaces {
-            catalog: prefix(alloc, target)?,
-            parent: parent(alloc, target)?,
+            catalog: message.plain(alloc, PREFIX)?,
+            parent: parent(alloc, message.target)?,
         }),
         ContentRequest::CreateNamespace => {
-            let catalog = prefix(alloc, target)?;
-            let new: NewNamespace = body_of(alloc, body)?;
+            let catalog = message.plain(alloc, PREFIX)?;
+            let new: NewNamespace = body_of(alloc, message.body)?;
             Ok(Action::CreateNamespace {
                 catalog,
                 namespace: new.namespace,
@@ -77,32 +71,36 @@ fn content_action(
 }
 
 /// What a request asks for of one namespace of a catalogue.
-#[tactic(auto, using(pol_requests::proofs::RefusedLemmas::stopped, pol_requests::proofs::RefusedLemmas::followed))]
+#[tactic(auto, using(pol_requests::proofs::RefusedLemmas::chained))]
 fn namespace_action(
     alloc: Global,
-    request: NamespaceRequest,
-    target: &[u8],
-    body: &[u8],
+    asked: NamespaceRequest,
+    message: &Routed<'_>,
 ) -> Result<Action, Unplanned>
-    ensures { Gives (spec.action_of target.now body.now (OfNamespace request)) result }
+    ensures { Gives (spec.action_of (request_of message.now) (OfNamespace asked)) result }
 {
-    match request {
-        NamespaceRequest::LoadNamespace => Ok(Action::LoadNamespace {
-            catalog: prefix(alloc, target)?,
-            namespace: namespace(alloc, target)?,
-        }),
-        NamespaceRequest::HeadNamespace => Ok(Action::HeadNamespace {
-            catalog: prefix(alloc, target)?,
-            namespace: namespace(alloc, target)?,
-        }),
-        NamespaceRequest::DropNamespace => Ok(Action::DropNamespace {
-            catalog: prefix(alloc, target)?,
-            namespace: namespace(alloc, target)?,
-        }),
+    let catalog = message.plain(alloc, PREFIX)?;
+    let namespace = message.namespace(alloc)?;
+    on_namespace(alloc, asked, message, catalog, namespace)
+}
+
+/// What a request asks for of a namespace that it names.
+#[tactic(auto, using(pol_requests::proofs::RefusedLemmas::chained))]
+fn on_namespace(
+    alloc: Global,
+    asked: NamespaceRequest,
+    message: &Routed<'_>,
+    catalog: Plain,
+    namespace: Namespace,
+) -> Result<Action, Unplanned>
+    ensures { Gives (spec.on_namespace (request_of message.now) catalog namespace asked) result }
+{
+    match asked {
+        NamespaceRequest::LoadNamespace => Ok(Action::LoadNamespace { catalog, namespace }),
+        NamespaceRequest::HeadNamespace => Ok(Action::HeadNamespace { catalog, namespace }),
+        NamespaceRequest::DropNamespace => Ok(Action::DropNamespace { catalog, namespace }),
         NamespaceRequest::UpdateProperties => {
-            let catalog = prefix(alloc, target)?;
-            let namespace = namespace(alloc, target)?;
-            let changes: PropertyUpdates = body_of(alloc, body)?;
+            let changes: PropertyUpdates = body_of(alloc, message.body)?;
             Ok(Action::UpdateProperties {
                 catalog,
                 namespace,
@@ -113,24 +111,8 @@ fn namespace_action(
     }
 }
 
-/// The catalogue that a path of the catalogue API names.
-#[tactic(auto, unfolding(crate::specs::Requests::prefix))]
-fn prefix(alloc: Global, target: &[u8]) -> Result<Plain, Unplanned>
-    ensures { Gives (spec.prefix target.now) result }
-{
-    plain_segment(alloc, segment_at(path_of(target), PREFIX_PLACE))
-}
-
-/// The namespace that such a path names.
-#[tactic(auto, unfolding(crate::specs::Requests::namespace))]
-fn namespace(alloc: Global, target: &[u8]) -> Result<Namespace, Unplanned>
-    ensures { Gives (spec.namespace target.now) result }
-{
-    namespace_segment(alloc, segment_at(path_of(target), NAMESPACE_PLACE))
-}
-
 /// The catalogue that a query names by the key `warehouse`.
-#[tactic(auto, using(pol_requests::proofs::RefusedLemmas::stopped, pol_requests::proofs::RefusedLemmas::followed), unfolding(crate::specs::Requests::warehouse))]
+#[tactic(auto, using(pol_requests::proofs::RefusedLemmas::chained), unfolding(crate::specs::Requests::warehouse))]
 fn warehouse(alloc: Global, target: &[u8]) -> Result<Plain, Unplanned>
     ensures { Gives (spec.warehouse target.now) result }
 {
@@ -150,7 +132,7 @@ fn warehouse_of(alloc: Global, value: Option<Text>) -> Result<Plain, Unplanned>
 }
 
 /// The parent that a query names by the key `parent`, if it names one.
-#[tactic(auto, using(pol_requests::proofs::RefusedLemmas::stopped, pol_requests::proofs::RefusedLemmas::followed), unfolding(crate::specs::Requests::parent))]
+#[tactic(auto, using(pol_requests::proofs::RefusedLemmas::chained), unfolding(crate::specs::Requests::parent))]
 fn parent(alloc: Global, target: &[u8]) -> Result<Option<Namespace>, Unplanned>
     ensures { Gives (spec.parent target.now) result }
 {
@@ -159,7 +141,7 @@ fn parent(alloc: Global, target: &[u8]) -> Result<Option<Namespace>, Unplanned>
 }
 
 /// The parent, where one is named. An empty one is an absent one.
-#[tactic(auto, using(pol_requests::proofs::RefusedLemmas::stopped, pol_requests::proofs::RefusedLemmas::followed), unfolding(crate::specs::Requests::parent_of))]
+#[tactic(auto, using(pol_requests::proofs::RefusedLemmas::chained), unfolding(crate::specs::Requests::parent_of))]
 fn parent_of(alloc: Global, value: Option<Text>) -> Result<Option<Namespace>, Unplanned>
     ensures { Gives (spec.parent_of value) result }
 {

@@ -75,7 +75,8 @@ fn row_at<'t>(rows: &'t [Row], method: &[u8], place: usize) -> Option<&'t Row>
 
 /// The row of a method and path.
 fn row_by<'t>(rows: &'t [Row], method: &[u8], path: &str) -> Option<&'t Row>
-    ensures { option_map (λ row. row.now) result ≡ find (λ row. spec.serves method.now path.now (entry_of row)) rows.now }
+    ensures { option_map (λ row. row.now) result
+        ≡ find (λ row. spec.serves method.now path.now (entry_of row)) rows.now }
 {
     rows.iter()
         .find(|row| row.0.as_bytes() == method && row.1 == path)

@@ -15,8 +15,29 @@ use std::alloc::Global;
 /// The field that is named where a segment can't be read.
 const PATH_FIELD: &str = "path";
 
-/// The segment of a path behind so many slashes. It is empty where the path has fewer.
-pub fn segment_at(path: &[u8], place: usize) -> &[u8]
+/// The segment of a path that stands for a parameter of its pattern, as `{namespace}`. It is empty where the pattern
+/// has no such parameter, or the path no such segment.
+#[tactic(auto, unfolding(crate::specs::Segment::segment_for))]
+pub(crate) fn segment_for<'p>(path: &'p [u8], pattern: &[u8], parameter: &[u8]) -> &'p [u8]
+    ensures { result.now ≡ spec.segment_for parameter.now pattern.now path.now }
+{
+    match place_of(pattern, parameter) {
+        Some(place) => segment_at(path, place),
+        None => b"",
+    }
+}
+
+/// The place among a pattern's segments of a parameter.
+fn place_of(pattern: &[u8], parameter: &[u8]) -> Option<usize>
+    ensures { result ≡ spec.place_of parameter.now pattern.now }
+{
+    pattern
+        .split(|byte| *byte == b'/')
+        .position(|segment| segment == parameter)
+}
+
+/// The segment of a path at a place. It is empty where the path has fewer.
+fn segment_at(path: &[u8], place: usize) -> &[u8]
     ensures { result.now ≡ spec.segment_at path.now place }
 {
     match path.split(|byte| *byte == b'/').nth(place) {
@@ -40,7 +61,7 @@ pub fn segment_text(alloc: Global, segment: &[u8]) -> Result<Text, Unplanned>
 }
 
 /// The plain name that a segment is, which is unreadable where it is none.
-#[tactic(auto, using(pol_requests::proofs::RefusedLemmas::stopped, pol_requests::proofs::RefusedLemmas::followed))]
+#[tactic(auto, using(pol_requests::proofs::RefusedLemmas::chained))]
 pub fn plain_segment(alloc: Global, segment: &[u8]) -> Result<Plain, Unplanned>
     ensures { Gives (spec.plain_segment segment.now) result }
 {
@@ -49,7 +70,7 @@ pub fn plain_segment(alloc: Global, segment: &[u8]) -> Result<Plain, Unplanned>
 }
 
 /// The name that a segment is, which is unreadable where it is none.
-#[tactic(auto, using(pol_requests::proofs::RefusedLemmas::stopped, pol_requests::proofs::RefusedLemmas::followed))]
+#[tactic(auto, using(pol_requests::proofs::RefusedLemmas::chained))]
 pub fn name_segment(alloc: Global, segment: &[u8]) -> Result<Name, Unplanned>
     ensures { Gives (spec.name_segment segment.now) result }
 {
@@ -59,7 +80,7 @@ pub fn name_segment(alloc: Global, segment: &[u8]) -> Result<Name, Unplanned>
 
 /// The namespace that a segment is, its levels behind one another with 0x1F between them (Iceberg REST OpenAPI,
 /// parameter `namespace`). It is unreadable where it is none.
-#[tactic(auto, using(pol_requests::proofs::RefusedLemmas::stopped, pol_requests::proofs::RefusedLemmas::followed))]
+#[tactic(auto, using(pol_requests::proofs::RefusedLemmas::chained))]
 pub fn namespace_segment(alloc: Global, segment: &[u8]) -> Result<Namespace, Unplanned>
     ensures { Gives (spec.namespace_segment segment.now) result }
 {

@@ -119,7 +119,8 @@ impl Connection {
         requires budget { count ≤ self.old.budget }
         ensures buffer { self.new.buffer.items ≡ self.old.buffer.items ++ take count self.old.piece.items }
         ensures budget { self.new.budget + count ≡ self.old.budget }
-        ensures same { self.new ≡ record self.old { buffer = self.new.buffer; budget = self.new.budget; wanted = self.new.wanted } }
+        ensures same { self.new
+            ≡ record self.old { buffer = self.new.buffer; budget = self.new.budget; wanted = self.new.wanted } }
     {
         let Ok(()) = self.buffer.extend_from_slice(&self.piece[..count]) else {
             unreachable!()
@@ -132,8 +133,10 @@ impl Connection {
     fn tell<L: Linked>(&mut self, link: &mut L, asks: bool) -> Result<(), Failed>
         ensures told { OnOk result (self.new ≡ record self.old { told = self.old.told || asks }) }
         ensures kept { OnErr result (self.new ≡ self.old) }
-        ensures given { OnOk result (GivesAll (L.ends link.old) (L.ends link.new) (if self.old.told then [] else told_text asks) result) }
-        ensures failed { OnErr result ((self.old.told ≡ false) × (asks ≡ true) × GivesAll (L.ends link.old) (L.ends link.new) CONTINUE.now result) }
+        ensures given { OnOk result (GivesAll (L.ends link.old) (L.ends link.new)
+            (if self.old.told then [] else told_text asks) result) }
+        ensures failed { OnErr result ((self.old.told ≡ false) × (asks ≡ true)
+            × GivesAll (L.ends link.old) (L.ends link.new) CONTINUE.now result) }
     {
         if self.told {
             return Ok(());
@@ -152,7 +155,8 @@ impl Connection {
     fn refuse<L: Linked>(&self, alloc: Global, link: &mut L, why: HeadRefused) -> Option<Ending>
         requires refused { IsRefusedAs self.now.buffer.items why }
         requires told { IsToldAsked self.now.told self.now.buffer.items }
-        ensures moves { (log : Log) → Moves result (standing (L.ends link.old) log self.now) (standing (L.ends link.new) log self.now) }
+        ensures moves { (log : Log) → Moves result (standing (L.ends link.old) log self.now)
+            (standing (L.ends link.new) log self.now) }
         ensures unread { IsUnread (L.ends link.old) (L.ends link.new) self.now self.now }
         ensures ended { IsSomeAnd result IsOwnEnding }
     {
@@ -167,8 +171,10 @@ impl Connection {
     fn wait<L: Linked>(&mut self, link: &mut L, at_end: Ending) -> Option<Ending>
         requires unfinished { IsUnfinishedRest self.old.buffer.items (told_text self.old.told) }
         requires told { IsToldAsked self.old.told self.old.buffer.items }
-        requires at_end { ((at_end ≡ Ending.Ended) × (self.old.buffer.items ≡ []) × (self.old.told ≡ false)) ⊎ ((at_end ≡ Ending.Cut) × (self.old.buffer.items ≢ [])) }
-        ensures moves { (log : Log) → Moves result (standing (L.ends link.old) log self.old) (standing (L.ends link.new) log self.new) }
+        requires at_end { ((at_end ≡ Ending.Ended) × (self.old.buffer.items ≡ []) × (self.old.told ≡ false))
+            ⊎ ((at_end ≡ Ending.Cut) × (self.old.buffer.items ≢ [])) }
+        ensures moves { (log : Log) → Moves result (standing (L.ends link.old) log self.old)
+            (standing (L.ends link.new) log self.new) }
         ensures told { IsToldAsked self.new.told self.new.buffer.items }
         ensures stops { KeepsStop (L.ends link.old) (L.ends link.new) self.old self.new }
         ensures ending { IfSome result (IsEndingOf self.new.stop) }
@@ -198,9 +204,11 @@ impl Connection {
         body: Span,
     ) -> Option<Ending>
         requires ranges { LiesWithin self.old.buffer.items head.now body body.end }
-        requires parts { (message : Message) × IsMessageAt self.old.buffer.items head.now body body.end message × (self.old.told ≡ asks message.head) }
+        requires parts { (message : Message) × IsMessageAt self.old.buffer.items head.now body body.end message
+            × (self.old.told ≡ asks message.head) }
         requires room { vec_len self.old.places < vec_capacity self.old.places }
-        ensures moves { Moves result (standing (L.ends link.old) catalogue.old self.old) (standing (L.ends link.new) catalogue.new self.new) }
+        ensures moves { Moves result (standing (L.ends link.old) catalogue.old self.old)
+            (standing (L.ends link.new) catalogue.new self.new) }
         ensures told { self.new.told ≡ false }
         ensures unread { IsUnread (L.ends link.old) (L.ends link.new) self.old self.new }
         ensures ending { IfSome result IsOwnEnding }
@@ -234,8 +242,10 @@ impl Connection {
         body: Span,
     ) -> Option<Ending>
         requires ranges { LiesWithin self.old.buffer.items head.now body body.end }
-        requires parts { (message : Message) × IsMessageAt self.old.buffer.items head.now body body.end message × (self.old.told ≡ asks message.head) }
-        ensures moves { Moves result (standing (L.ends link.old) catalogue.old self.old) (standing (L.ends link.new) catalogue.new self.new) }
+        requires parts { (message : Message) × IsMessageAt self.old.buffer.items head.now body body.end message
+            × (self.old.told ≡ asks message.head) }
+        ensures moves { Moves result (standing (L.ends link.old) catalogue.old self.old)
+            (standing (L.ends link.new) catalogue.new self.new) }
         ensures told { result ≡ None → self.new.told ≡ false }
         ensures unread { IsUnread (L.ends link.old) (L.ends link.new) self.old self.new }
         ensures ending { IfSome result IsOwnEnding }
@@ -260,7 +270,8 @@ impl Connection {
         requires ranges { LiesWithin self.old.buffer.items head.now body body.end }
         requires parts { (message : Message) × IsMessageAt self.old.buffer.items head.now body body.end message }
         requires told { IsToldAsked self.old.told self.old.buffer.items }
-        ensures moves { Moves result (standing (L.ends link.old) catalogue.old self.old) (standing (L.ends link.new) catalogue.new self.new) }
+        ensures moves { Moves result (standing (L.ends link.old) catalogue.old self.old)
+            (standing (L.ends link.new) catalogue.new self.new) }
         ensures told { result ≡ None → self.new.told ≡ false }
         ensures unread { IsUnread (L.ends link.old) (L.ends link.new) self.old self.new }
         ensures ending { IfSome result IsOwnEnding }
@@ -275,7 +286,8 @@ impl Connection {
     /// Tells the message at the front to go on, and waits for its body.
     fn go_on<L: Linked>(&mut self, link: &mut L) -> Option<Ending>
         requires awaits { Awaits self.old.buffer.items }
-        ensures moves { (log : Log) → Moves result (standing (L.ends link.old) log self.old) (standing (L.ends link.new) log self.new) }
+        ensures moves { (log : Log) → Moves result (standing (L.ends link.old) log self.old)
+            (standing (L.ends link.new) log self.new) }
         ensures told { result ≡ None → IsToldAsked self.new.told self.new.buffer.items }
         ensures stops { KeepsStop (L.ends link.old) (L.ends link.new) self.old self.new }
         ensures ending { IfSome result (IsEndingOf self.new.stop) }
@@ -291,7 +303,8 @@ impl Connection {
     fn await_more<L: Linked>(&mut self, link: &mut L) -> Option<Ending>
         requires unfinished { IsUnfinished self.old.buffer.items }
         requires told { IsToldAsked self.old.told self.old.buffer.items }
-        ensures moves { (log : Log) → Moves result (standing (L.ends link.old) log self.old) (standing (L.ends link.new) log self.new) }
+        ensures moves { (log : Log) → Moves result (standing (L.ends link.old) log self.old)
+            (standing (L.ends link.new) log self.new) }
         ensures told { result ≡ None → IsToldAsked self.new.told self.new.buffer.items }
         ensures stops { KeepsStop (L.ends link.old) (L.ends link.new) self.old self.new }
         ensures ending { IfSome result (IsEndingOf self.new.stop) }
@@ -324,7 +337,8 @@ impl Connection {
         link: &mut L,
     ) -> Option<Ending>
         requires told { IsToldAsked self.old.told self.old.buffer.items }
-        ensures moves { Moves result (standing (L.ends link.old) catalogue.old self.old) (standing (L.ends link.new) catalogue.new self.new) }
+        ensures moves { Moves result (standing (L.ends link.old) catalogue.old self.old)
+            (standing (L.ends link.new) catalogue.new self.new) }
         ensures told { result ≡ None → IsToldAsked self.new.told self.new.buffer.items }
         ensures stops { KeepsStop (L.ends link.old) (L.ends link.new) self.old self.new }
         ensures ending { IfSome result (IsEndingOf self.new.stop) }
@@ -349,7 +363,8 @@ impl Connection {
         requires empty { self.old.buffer.items ≡ [] }
         requires stop { self.old.stop ≡ None }
         requires told { self.old.told ≡ false }
-        ensures finishes { Finishes result (standing (L.ends link.old) catalogue.old self.old) (standing (L.ends link.new) catalogue.new self.new) }
+        ensures finishes { Finishes result (standing (L.ends link.old) catalogue.old self.old)
+            (standing (L.ends link.new) catalogue.new self.new) }
         ensures ending { IsEndingOf self.new.stop result }
         ensures stopped { IsStopped self.new.stop (L.ends link.old) (L.ends link.new) self.new.budget }
     {
@@ -369,7 +384,8 @@ impl Connection {
     ) -> Ending
         requires stop { self.old.stop ≡ None }
         requires told { self.old.told ≡ false }
-        ensures finishes { Finishes result (standing (L.ends link.old) catalogue.old self.old) (standing (L.ends link.new) catalogue.new self.new) }
+        ensures finishes { Finishes result (standing (L.ends link.old) catalogue.old self.old)
+            (standing (L.ends link.new) catalogue.new self.new) }
         ensures ending { IsEndingOf self.new.stop result }
         ensures stopped { IsStopped self.new.stop (L.ends link.old) (L.ends link.new) self.new.budget }
     {
@@ -384,7 +400,8 @@ impl Connection {
     fn end_without_memory<L: Linked>(&self, link: &mut L) -> Ending
         requires empty { self.now.buffer.items ≡ [] }
         requires told { self.now.told ≡ false }
-        ensures finishes { (log : Log) → Finishes result (standing (L.ends link.old) log self.now) (standing (L.ends link.new) log self.now) }
+        ensures finishes { (log : Log) → Finishes result (standing (L.ends link.old) log self.now)
+            (standing (L.ends link.new) log self.now) }
         ensures ending { IsOwnEnding result }
     {
         match give_all(link, INSUFFICIENT_STORAGE) {

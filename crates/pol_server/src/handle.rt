@@ -46,7 +46,8 @@ pub(crate) struct Framing {
 impl Render for Framing {
     type Out = Vec<u8>;
 
-    ghost renders = { λ framing reply out. out.items ≡ answer_text (framed framing.close framing.head_only (text.answer_of reply)) };
+    ghost renders = { λ framing reply out. out.items
+        ≡ answer_text (framed framing.close framing.head_only (text.answer_of reply)) };
 
     fn render(&self, alloc: Global, reply: &Reply) -> Result<Vec<u8>, OutOfMemory> {
         text(alloc, answer_of(alloc, reply)?, *self)
@@ -92,7 +93,8 @@ pub(crate) fn handle<L: Linked>(
 ) -> Handled
     requires { LiesWithin bytes.now head.now body body.end }
     ensures { (message : Message) → IsMessageAt bytes.now head.now body body.end message
-        → Handles (L.ends link.old) (L.ends link.new) catalogue.old catalogue.new message result.place (option_map (λ text. text.items) result.text) }
+        → Handles (L.ends link.old) (L.ends link.new) catalogue.old catalogue.new message result.place
+        (option_map (λ text. text.items) result.text) }
 {
     let framing = framing_of(bytes, head);
     match plan(alloc, routes, bytes, head, body) {
@@ -114,7 +116,8 @@ fn refusal_text(
     refused: &RouteRefused,
     framing: Framing,
 ) -> Result<Vec<u8>, OutOfMemory>
-    ensures { IfOk result (λ bytes. bytes.items ≡ answer_text (framed framing.close framing.head_only (text.refusal_answer refused.now))) }
+    ensures { IfOk result (λ bytes. bytes.items
+        ≡ answer_text (framed framing.close framing.head_only (text.refusal_answer refused.now))) }
 {
     text(alloc, refusal_answer(alloc, refused)?, framing)
 }
@@ -131,7 +134,8 @@ pub(crate) fn head_refused_text(alloc: Global, why: HeadRefused) -> Result<Vec<u
 }
 
 fn draw_fault_text(alloc: Global, framing: Framing) -> Result<Vec<u8>, OutOfMemory>
-    ensures { IfOk result (λ bytes. bytes.items ≡ answer_text (framed framing.close framing.head_only text.draw_fault_answer)) }
+    ensures { IfOk result (λ bytes. bytes.items
+        ≡ answer_text (framed framing.close framing.head_only text.draw_fault_answer)) }
 {
     text(alloc, draw_fault_answer(alloc)?, framing)
 }
@@ -144,8 +148,10 @@ fn answer_plan<L: Linked>(
     planned: Planned,
     framing: Framing,
 ) -> Handled
-    ensures { (message : Message) → plan_of message ≡ Ok planned → framing.close ≡ closes message.head → framing.head_only ≡ is_head message
-        → Handles (L.ends link.old) (L.ends link.new) catalogue.old catalogue.new message result.place (option_map (λ text. text.items) result.text) }
+    ensures { (message : Message) → plan_of message ≡ Ok planned → framing.close ≡ closes message.head
+        → framing.head_only ≡ is_head message
+        → Handles (L.ends link.old) (L.ends link.new) catalogue.old catalogue.new message result.place
+        (option_map (λ text. text.items) result.text) }
 {
     let moment = link.now();
     match draw_words(link, planned.words) {
@@ -165,7 +171,8 @@ fn answer_plan<L: Linked>(
 /// Steps a command.
 fn step(alloc: Global, catalogue: &mut Kept, command: Command, framing: Framing) -> Handled
     requires { command.moment ≤ 2 ^ 62 }
-    ensures { IsEntered catalogue.old catalogue.new command framing.close framing.head_only result.place (option_map (λ text. text.items) result.text) }
+    ensures { IsEntered catalogue.old catalogue.new command framing.close framing.head_only result.place
+        (option_map (λ text. text.items) result.text) }
 {
     match catalogue.step(alloc, FOUNDING, command, &framing) {
         Stepped::Done { place, out } => Handled {

@@ -20,7 +20,8 @@ pub(crate) fn answer<R: Render>(
     requires sound { IsSound state.now.rows }
     requires moment { command.now.moment ≤ 2 ^ 62 }
     ensures reply { IfOk result (λ answer. answer.0.reply ≡ reply_of state.now.rows command.now) }
-    ensures changes { IfOk result (λ answer. answer.0.changes ≡ changes_between state.now.rows (next_state state.now.rows command.now)) }
+    ensures changes { IfOk result (λ answer. answer.0.changes
+        ≡ changes_between state.now.rows (next_state state.now.rows command.now)) }
     ensures rendered { IfOk result (λ answer. R.renders render.now (reply_of state.now.rows command.now) answer.1) }
 {
     let decision = decide(alloc, state, command)?;
@@ -33,7 +34,8 @@ pub(crate) fn answer<R: Render>(
 
 /// The charges of the run and the charge of the command, where a reply tells that the run is full.
 pub(crate) fn full_run(reply: &Reply) -> Option<(u64, u64)>
-    ensures { MatchOption result ((charged charge : ℕ) → reply.now ≢ Reply.Refused (Refusal.RunFull charged charge)) (λ numbers. reply.now ≡ Reply.Refused (Refusal.RunFull numbers.0 numbers.1)) }
+    ensures { MatchOption result ((charged charge : ℕ) → reply.now ≢ Reply.Refused (Refusal.RunFull charged charge))
+        (λ numbers. reply.now ≡ Reply.Refused (Refusal.RunFull numbers.0 numbers.1)) }
 {
     match reply {
         Reply::Refused(Refusal::RunFull { charged, charge }) => Some((*charged, *charge)),

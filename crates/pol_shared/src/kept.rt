@@ -29,7 +29,8 @@ impl Model for Kept {
 
     ghost view = { λ kept. record { base = kept.base.rows; history = kept.history.items } };
 
-    ghost invariant = { λ kept. (kept.state.rows ≡ state_at kept.base.rows kept.history.items) × IsSound kept.state.rows };
+    ghost invariant = { λ kept. (kept.state.rows ≡ state_at kept.base.rows kept.history.items)
+        × IsSound kept.state.rows };
 }
 
 impl Kept {

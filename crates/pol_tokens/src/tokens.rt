@@ -21,7 +21,10 @@ impl Model for Tokens {
 
     ghost Value = { TokensValue };
 
-    ghost view = { λ tokens. record { rows = record { sessions = tokens.sessions.rows }; room = record { sessions = tokens.sessions.room } } };
+    ghost view = { λ tokens. record {
+      rows = record { sessions = tokens.sessions.rows };
+      room = record { sessions = tokens.sessions.room };
+    } };
 
     ghost invariant = { λ tokens. AreSessions tokens.sessions.rows };
 }
@@ -71,7 +74,8 @@ impl Tokens {
         requires { knows serial_of row.serial self.old.rows.sessions ≡ false → 0 < self.old.room.sessions }
         ensures sessions { self.new.rows.sessions ≡ rows_with serial_of row self.old.rows.sessions }
         ensures room { self.old.room.sessions ≤ self.new.room.sessions + 1 }
-        ensures known { knows serial_of row.serial self.old.rows.sessions ≡ true → self.old.room.sessions ≤ self.new.room.sessions }
+        ensures known { knows serial_of row.serial self.old.rows.sessions ≡ true
+            → self.old.room.sessions ≤ self.new.room.sessions }
     {
         self.sessions.put(row)
     }

@@ -32,7 +32,8 @@ impl<S: Standing> Model for Turns<S> {
 
     ghost Value = { Lock S.Fixed };
 
-    ghost view = { λ turns. record { table = turns.board.shared.table_id; fixed = Some (S.fixed turns.board.shared.key.value) } };
+    ghost view = { λ turns.
+        record { table = turns.board.shared.table_id; fixed = Some (S.fixed turns.board.shared.key.value) } };
 
     ghost invariant = { λ turns. (turns.board.shared.table_id.words ≡ 2) × (turns.board.shared.table_id.slots ≡ 1) };
 }
@@ -44,13 +45,14 @@ pub struct Held<S> {
 }
 
 impl<S: Standing> Turns<S> {
-    /// The lock over the value, and its founding pass, which has number 0. Where there is no memory the value comes back.
-    /// The items that it stands for already count as the founding pass's own.
+    /// The lock over the value, and its founding pass, which has number 0. Where there is no memory the value comes
+    /// back. The items that it stands for already count as the founding pass's own.
     pub fn new(alloc: Global, value: S) -> Result<(Turns<S>, Pass<S>), AllocFailed<S>>
         requires { All (λ item. S.number item ≡ 0) (S.items value) }
         ensures lock { IfOk result (λ made. (made.1.lock ≡ made.0) × (made.0.fixed ≡ Some (S.fixed value))) }
         ensures front { IfOk result (λ made. (made.1.front ≡ S.items value) × (made.1.own ≡ S.items value)) }
-        ensures founds { IfOk result (λ made. (made.1.number ≡ 0) × (made.1.made ≡ 1) × (made.1.gathered ≡ []) × (made.1.has_turn ≡ false)) }
+        ensures founds { IfOk result (λ made. (made.1.number ≡ 0) × (made.1.made ≡ 1) × (made.1.gathered ≡ [])
+            × (made.1.has_turn ≡ false)) }
         ensures refused { IfErr result (λ refused. refused.value ≡ value) }
     {
         let opened = Snapshot::of(&value);
@@ -102,7 +104,8 @@ impl<S: Standing> Turns<S> {
         requires fixed { Some (S.fixed held.value) ≡ self.now.fixed }
         ensures front { pass.new.front ≡ S.items held.value }
         ensures same { S.items held.value ≡ pass.old.front → pass.new.own ≡ pass.old.own }
-        ensures gained { (item : S.Item) → S.items held.value ≡ pass.old.front ++ item ∷ [] → pass.new.own ≡ pass.old.own ++ item ∷ [] }
+        ensures gained { (item : S.Item) → S.items held.value ≡ pass.old.front ++ item ∷ []
+            → pass.new.own ≡ pass.old.own ++ item ∷ [] }
         ensures pass { pass.new ≡ record pass.old { front = pass.new.front; own = pass.new.own; has_turn = false } }
         ensures accounts { AccountsFor S.number pass.new pass.new.front }
     {
@@ -143,7 +146,11 @@ impl<S: Standing> Turns<S> {
         requires free { (pass.old.has_turn ≡ false) × (other.has_turn ≡ false) }
         ensures front { IsPrefix pass.old.front pass.new.front × IsPrefix other.front pass.new.front }
         ensures longer { (pass.new.front ≡ pass.old.front) ⊎ (pass.new.front ≡ other.front) }
-        ensures pass { pass.new ≡ record pass.old { front = pass.new.front; gathered = pass.old.gathered ++ record { number = other.number; items = other.own } ∷ [] } }
+        ensures pass { pass.new
+            ≡ record pass.old {
+              front = pass.new.front;
+              gathered = pass.old.gathered ++ record { number = other.number; items = other.own } ∷ [];
+            } }
         ensures accounts { AccountsFor S.number pass.new pass.new.front }
     {
         let shared = &self.board.shared;
