@@ -1,22 +1,19 @@
 -- Members, joins and grants in rising order: what the sort does, and that the numbers of rows tell them apart.
-use Rattle.std.proofs.Common.{◌≡◌, ℕ, Bool, true, false, cond, List, [], ◌∷◌, refl, sym, ap, ◌∙◌, slice_index_or, nat_cmp, true≢false}
+use Rattle.std.proofs.Common.{◌≡◌, ℕ, Bool, List, [], ◌∷◌, refl, sym, ap, ◌∙◌, slice_index_or, nat_cmp}
 use Rattle.std.specs.Cmp.{IsTotalOrder, on_total}
 use Rattle.std.specs.Cmp.Lexicographic.{same_text, slice_cmp}
 use Rattle.std.specs.Coded.{Coded}
-use Rattle.std.specs.List.{list_all, AllByRecursion, IsDistinct}
-use Rattle.std.specs.List.Sorted.{IsPermutation, IsStrictlySortedBy}
-use Rattle.std.specs.Ordering.{is_eq, is_lt, ordering_reverse, ordering_then}
+use Rattle.std.specs.List.{list_all}
+use Rattle.std.specs.Ordering.{is_eq, ordering_then}
 use Rattle.std.specs.contracts.cmp.Ordering as ordering
 use Rattle.std.specs.declared.cmp.Ordering.{Ordering}
 use Rattle.std.specs.declared.cmp.Ordering.TheVariants.{Less, Equal, Greater}
 use Rattle.std.proofs.lemmas.Cmp.{nat_list_cmp_total}
-use Rattle.std.proofs.lemmas.List.Sorted.{IsPermutation-cons, IsPermutation-refl, IsPermutation-trans}
-use Rattle.std.proofs.lemmas.Map.Keys.{IsDistinct-head, IsDistinct-tail}
 use Rattle.std.proofs.lemmas.Map.Text.{is_eq-slice_cmp}
-use Rattle.pol_tables.specs.Changes.{in_order, placed}
+use Rattle.pol_tables.specs.Order.{in_order}
 use Rattle.pol_tables.specs.Same.{same, same_code}
-use Rattle.pol_tables.proofs.ListLemmas.{each-weaken}
-use Rattle.pol_tables.proofs.SameLemmas.{same-refl, same-true}
+use Rattle.pol_tables.proofs.OrderLemmas.{moved-in_order, rises-in_order}
+use Rattle.pol_tables.proofs.SameLemmas.{same-true}
 use Rattle.pol_access.specs.Laws.{AreListedInOrder, FactsAreInOrder}
 use Rattle.pol_access.specs.Order.{by_numbers, grant_cmp, grant_numbers, grants_in_order, join_cmp, join_numbers, joins_in_order, member_cmp, member_numbers, members_in_order, securable_numbers}
 use Rattle.pol_access.specs.Privilege.{privilege_is, privilege_number, privileges, same_privilege}
@@ -35,40 +32,7 @@ use Rattle.pol_access.specs.declared.rows.JoinRow.{JoinRow}
 use Rattle.pol_access.specs.declared.rows.MemberRow.{MemberRow}
 use Rattle.pol_access.specs.declared.securable.Securable.{Securable}
 use Rattle.pol_access.specs.declared.securable.Securable.TheVariants.{Realm, Catalog, Namespace, Table, View}
-use Rattle.pol_access.proofs.OrderLemmas.{moved-past}
 use Rattle.pol_access.proofs.PrivilegeLemmas.{each-privilege}
-
-module _ {T : Type 0} (cmp : T → T → Ordering) where
-  moved-placed : (fact : T) (facts : List T) → IsPermutation (fact ∷ facts) (placed cmp fact facts)
-  unfolding placed
-  moved-placed fact [] = IsPermutation-refl (fact ∷ [])
-  moved-placed fact (next ∷ facts) =
-      let rest = moved-past fact next facts (placed cmp fact facts) (moved-placed fact facts) in
-      elim (is_lt (cmp fact next)) as (λ b. IsPermutation (fact ∷ next ∷ facts) (cond b (fact ∷ next ∷ facts) (next ∷ placed cmp fact facts))) [
-        | true ↦ IsPermutation-refl (fact ∷ next ∷ facts)
-        | false ↦ rest
-      ]
-
-  moved-in_order : (facts : List T) → IsPermutation facts (in_order cmp facts)
-  unfolding in_order
-  moved-in_order [] = IsPermutation-refl []
-  moved-in_order (fact ∷ facts) =
-      IsPermutation-trans (fact ∷ facts) (fact ∷ in_order cmp facts) (placed cmp fact (in_order cmp facts)) (IsPermutation-cons fact facts (in_order cmp facts) (moved-in_order facts)) (moved-placed fact (in_order cmp facts))
-
-  each-placed : (P : T → Type 0) (fact : T) (facts : List T) → P fact → AllByRecursion P facts → AllByRecursion P (placed cmp fact facts)
-  unfolding placed
-  each-placed P fact [] here all = (here, tt)
-  each-placed P fact (next ∷ facts) here all =
-      let rest = each-placed P fact facts here all.1 in
-      elim (is_lt (cmp fact next)) as (λ b. AllByRecursion P (cond b (fact ∷ next ∷ facts) (next ∷ placed cmp fact facts))) [
-        | true ↦ (here, all)
-        | false ↦ (all.0, rest)
-      ]
-
-  each-in_order : (P : T → Type 0) (facts : List T) → AllByRecursion P facts → AllByRecursion P (in_order cmp facts)
-  unfolding in_order
-  each-in_order P [] all = tt
-  each-in_order P (fact ∷ facts) all = each-placed P fact (in_order cmp facts) all.0 (each-in_order P facts all.1)
 
 -- rows that their numbers tell apart
 module _ {T : Type 0} (code : Coded T) (numbers : T → List ℕ) (row_of : List ℕ → T) (told : (row : T) → row_of (numbers row) ≡ row) where
@@ -80,25 +44,8 @@ module _ {T : Type 0} (code : Coded T) (numbers : T → List ℕ) (row_of : List
       let alike : numbers left ≡ numbers right = same_text (numbers left) (numbers right) (sym (sym (is_eq-slice_cmp (numbers left) (numbers right)) ∙ ap is_eq equal)) in
       sym (told left) ∙ ap row_of alike ∙ told right
 
-  rises-placed : (fact : T) (facts : List T) → AllByRecursion (λ kept. same code fact kept ≡ false) facts → IsStrictlySortedBy (by_numbers numbers) facts → IsStrictlySortedBy (by_numbers numbers) (placed (by_numbers numbers) fact facts)
-  unfolding placed IsStrictlySortedBy
-  rises-placed fact [] apart rises = (tt, tt)
-  rises-placed fact (next ∷ facts) apart rises = by (by_numbers numbers fact next) refl (rises-placed fact facts apart.1 rises.1)
-    where
-      by : (o : Ordering) → by_numbers numbers fact next ≡ o → IsStrictlySortedBy (by_numbers numbers) (placed (by_numbers numbers) fact facts)
-          → IsStrictlySortedBy (by_numbers numbers) (cond (is_lt o) (fact ∷ next ∷ facts) (next ∷ placed (by_numbers numbers) fact facts))
-      by Less is rest = ((is, each-weaken (λ later. by_numbers numbers next later ≡ Less) (λ later. by_numbers numbers fact later ≡ Less) facts (λ later after. total.trans fact next later is after) rises.0), rises)
-      by Equal is rest = absurd (true≢false (sym (same-refl code fact) ∙ ap (same code fact) (tie fact next is) ∙ apart.0))
-      by Greater is rest = (each-placed (by_numbers numbers) (λ later. by_numbers numbers next later ≡ Less) fact facts (total.antisymm next fact ∙ ap ordering_reverse is) rises.0, rest)
-
-  rises-in_order : (rows : List T) → IsDistinct (same code) rows → IsStrictlySortedBy (by_numbers numbers) (in_order (by_numbers numbers) rows)
-  unfolding in_order IsStrictlySortedBy
-  rises-in_order [] differ = tt
-  rises-in_order (row ∷ rows) differ =
-      rises-placed row (in_order (by_numbers numbers) rows) (each-in_order (by_numbers numbers) (λ kept. same code row kept ≡ false) rows (IsDistinct-head (same code) row rows differ)) (rises-in_order rows (IsDistinct-tail (same code) row rows differ))
-
-  pub listed-in_order : AreListedInOrder code (by_numbers numbers)
-  listed-in_order rows = (moved-in_order (by_numbers numbers) rows, rises-in_order rows)
+  listed-in_order : AreListedInOrder code (by_numbers numbers)
+  listed-in_order rows = (moved-in_order (by_numbers numbers) rows, rises-in_order (by_numbers numbers) total code tie rows)
 
 -- rows of their numbers
 abbrev first_of : List ℕ → ℕ

@@ -1,5 +1,5 @@
 -- Lists of rows that are pushed to, filtered and altered, and sets of facts that are put to.
-use Rattle.std.proofs.Common.{◌≡◌, ℕ, ◌<◌, ◌≤◌, Bool, true, false, not, cond, ◌||◌, List, [], ◌∷◌, ◌++◌, map, filter, length, Some, None, nat_eq, refl, sym, ap, subst, ◌∙◌, inl, inr, true≢false, arith, length-append, suc}
+use Rattle.std.proofs.Common.{◌≡◌, ℕ, ◌<◌, ◌≤◌, Bool, true, false, not, cond, ◌&&◌, ◌||◌, List, [], ◌∷◌, ◌++◌, map, filter, length, Some, None, nat_eq, refl, sym, ap, subst, ◌∙◌, inl, inr, true≢false, arith, length-append, suc}
 use Rattle.std.specs.Cmp.{IsEquivalence, nat_eq_equiv}
 use Rattle.std.specs.Cmp.Lexicographic.{nat_list_eq_equiv}
 use Rattle.std.specs.Coded.{Coded}
@@ -8,14 +8,15 @@ use Rattle.std.specs.Option.{option_or}
 use Rattle.std.specs.Str.{bytes_eq}
 use Rattle.std.proofs.lemmas.Bool.{cases_Bool, eqb-true}
 use Rattle.std.proofs.lemmas.List.{map-append}
-use Rattle.std.proofs.lemmas.List.Folds.{find-append}
+use Rattle.std.proofs.lemmas.List.Folds.{find-append, list_any-append}
 use Rattle.std.proofs.lemmas.Map.Keys.{IsDistinct-cons, IsDistinct-head, IsDistinct-push, IsDistinct-tail}
 use Rattle.pol_tables.specs.Facts.{facts_with, holds}
 use Rattle.pol_tables.specs.Numbered.{AreNumbered}
 use Rattle.pol_tables.specs.Same.{same}
 use Rattle.pol_tables.specs.Table.{has_id, knows, rows_with}
+use Rattle.pol_tables.proofs.FactChangesLemmas.{holds-facts_with, holds-filter}
 use Rattle.pol_tables.proofs.FactsLemmas.{facts_with-known, facts_with-new}
-use Rattle.pol_tables.proofs.ListLemmas.{each-all, each-filter, each-map, each-push, each-weaken}
+use Rattle.pol_tables.proofs.ListLemmas.{each-all, each-filter, each-map, each-push, each-weaken, or_false, or_true}
 use Rattle.pol_tables.proofs.NumberedLemmas.{below-next}
 use Rattle.pol_tables.proofs.RisingLemmas.{knows-below}
 use Rattle.pol_tables.proofs.SameLemmas.{same-refl, same-symmetric, same-true}
@@ -80,11 +81,7 @@ module _ {X : Type 0} (test : X → Bool) where
 
   -- where one of a list passes, one of a longer list does, and one of a filter that keeps each item that passes
   pub any-push : (xs : List X) (x : X) → list_any test xs ≡ true → list_any test (xs ++ x ∷ []) ≡ true
-  any-push [] x there = absurd (true≢false (sym there))
-  any-push (first ∷ xs) x there = elim (cases_Bool (test first)) [
-    | inl passes ↦ ap (λ b. b || list_any test (xs ++ x ∷ [])) passes
-    | inr fails ↦ ap (λ b. b || list_any test (xs ++ x ∷ [])) fails ∙ any-push xs x (sym (ap (λ b. b || list_any test xs) fails) ∙ there)
-  ]
+  any-push xs x there = list_any-append test xs (x ∷ []) ∙ ap (λ b. b || list_any test (x ∷ [])) there
 
   pub any-kept : (keep : X → Bool) (xs : List X) → AllByRecursion (λ x. test x ≡ true → keep x ≡ true) xs → list_any test xs ≡ true → list_any test (filter keep xs) ≡ true
   any-kept keep [] keeps there = absurd (true≢false (sym there))
@@ -158,16 +155,8 @@ module _ {R : Type 0} (name : R → List ℕ) where
 module _ {R : Type 0} (key : R → ℕ) where
   -- an id of a longer list
   pub knows-push : (id : ℕ) (row : R) (rows : List R) → knows key id (rows ++ row ∷ []) ≡ (knows key id rows || has_id key id row)
-  knows-push id row [] = or_last (has_id key id row)
-    where
-      or_last : (b : Bool) → (b || false) ≡ b
-      or_last true = refl
-      or_last false = refl
-  knows-push id row (first ∷ rows) = ap (λ b. has_id key id first || b) (knows-push id row rows) ∙ or_grouped (has_id key id first) (knows key id rows) (has_id key id row)
-    where
-      or_grouped : (a b c : Bool) → (a || (b || c)) ≡ ((a || b) || c)
-      or_grouped true b c = refl
-      or_grouped false b c = refl
+  knows-push id row rows =
+      list_any-append (has_id key id) rows (row ∷ []) ∙ ap (λ b. knows key id rows || b) (or_false (has_id key id row))
 
   -- an id is still known where its rows are kept, and where that of another is taken away
   pub knows-kept : (id : ℕ) (keep : R → Bool) (rows : List R) → AllByRecursion (λ row. key row ≡ id → keep row ≡ true) rows → knows key id rows ≡ true → knows key id (filter keep rows) ≡ true
@@ -226,12 +215,9 @@ module _ {T : Type 0} (code : Coded T) where
   ]
 
   pub holds-with : (other fact : T) (facts : List T) → holds code other facts ≡ true → holds code other (facts_with code fact facts) ≡ true
-  holds-with other fact facts there = elim (cases_Bool (holds code fact facts)) [
-    | inl known ↦ ap (holds code other) (facts_with-known code fact facts known) ∙ there
-    | inr new ↦ ap (holds code other) (facts_with-new code fact facts new) ∙ any-push (same code other) facts fact there
-  ]
+  holds-with other fact facts there =
+      holds-facts_with code other fact facts ∙ ap (λ b. same code other fact || b) there ∙ or_true (same code other fact)
 
   -- a fact is still held where a filter keeps it
   pub holds-kept : (keep : T → Bool) (fact : T) (facts : List T) → holds code fact facts ≡ true → keep fact ≡ true → holds code fact (filter keep facts) ≡ true
-  holds-kept keep fact facts held stays =
-      any-kept (same code fact) keep facts (each-all (λ kept. same code fact kept ≡ true → keep kept ≡ true) facts (λ kept is. ap keep (sym (same-true code fact kept is)) ∙ stays)) held
+  holds-kept keep fact facts held stays = holds-filter code fact keep facts ∙ (λ i. stays i && held i)

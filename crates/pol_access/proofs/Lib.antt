@@ -2,7 +2,6 @@ mod FactOrderLemmas
 pub mod KeptLemmas
 pub mod MayLemmas
 pub mod NamesLemmas
-pub mod OrderLemmas
 pub mod PrivilegeLemmas
 pub mod ReferentLemmas
 pub mod SecurableLemmas

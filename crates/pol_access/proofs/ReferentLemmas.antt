@@ -2,7 +2,8 @@
 use Rattle.std.proofs.Common.{◌≡◌, Bool, true, false, not, List, map, filter, refl, ap, ◌∙◌}
 use Rattle.std.specs.Coded.{Coded}
 use Rattle.std.specs.declared.cmp.Ordering.{Ordering}
-use Rattle.pol_tables.specs.Changes.{fact_changes, in_order}
+use Rattle.pol_tables.specs.Changes.{fact_changes}
+use Rattle.pol_tables.specs.Order.{in_order}
 use Rattle.pol_tables.proofs.FactChangesLemmas.{fact_changes-filter}
 use Rattle.pol_tables.proofs.ListLemmas.{each-all, filter-alike}
 use Rattle.pol_access.specs.Order.{grant_cmp, join_cmp, member_cmp, grants_in_order, joins_in_order, members_in_order}

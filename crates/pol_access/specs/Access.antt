@@ -75,6 +75,18 @@ is_joined principal_role catalog_role access = holds join.the_row.coded (record 
 abbrev pub has_other_role : ℕ → List ℕ → AccessRows → Bool
 has_other_role catalog name access = list_any (λ row. row.catalog == catalog && not (bytes_eq name row.name)) access.catalog_roles
 
+-- the principal roles of which a principal is a member
+abbrev pub held_roles : ℕ → AccessRows → List PrincipalRoleRow
+held_roles principal access = filter (λ row. is_member principal row.id access) access.principal_roles
+
+-- the roles of a catalogue, and those of them to which a principal role is joined
+abbrev pub own_roles : ℕ → AccessRows → List CatalogRoleRow
+own_roles catalog access = filter (λ row. row.catalog == catalog) access.catalog_roles
+
+abbrev pub own_joined_roles : ℕ → ℕ → AccessRows → List CatalogRoleRow
+own_joined_roles principal_role catalog access =
+    filter (λ row. row.catalog == catalog && is_joined principal_role row.id access) access.catalog_roles
+
 -- the facts that don't name what is dropped
 abbrev pub unnamed : {T : Type 0} → (T → Bool) → List T → List T
 unnamed names facts = filter (λ fact. not (names fact)) facts

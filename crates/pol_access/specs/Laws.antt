@@ -2,13 +2,13 @@
 use Rattle.std.specs.Prelude.{◌≡◌, ◌↔◌, ℕ, true, List, Some, find}
 use Rattle.std.specs.Coded.{Coded}
 use Rattle.std.specs.List.{IsDistinct}
-use Rattle.std.specs.List.Sorted.{IsPermutation, IsSortedBy, IsStrictlySortedBy}
+use Rattle.std.specs.List.Sorted.{IsPermutation, IsStrictlySortedBy}
 use Rattle.std.specs.Str.{bytes_eq}
 use Rattle.std.specs.declared.cmp.Ordering.{Ordering}
 use Rattle.pol_access.specs.Access.{AccessRows}
 use Rattle.pol_access.specs.Implication.{implies}
 use Rattle.pol_access.specs.May.{May}
-use Rattle.pol_access.specs.Order.{by_name, grant_cmp, is_name_less, join_cmp, member_cmp}
+use Rattle.pol_access.specs.Order.{grant_cmp, join_cmp, member_cmp}
 use Rattle.pol_access.specs.Privilege.{privileges, text_of}
 use Rattle.pol_access.specs.Search.{may}
 use Rattle.pol_access.specs.contracts.rows.GrantRow as grant
@@ -17,7 +17,7 @@ use Rattle.pol_access.specs.contracts.rows.MemberRow as member
 use Rattle.pol_access.specs.declared.privilege.Privilege.{Privilege}
 use Rattle.pol_access.specs.declared.securable.Securable.{Securable}
 use Rattle.pol_names.specs.declared.scope.Scope.{Scope}
-use Rattle.pol_tables.specs.Changes.{in_order}
+use Rattle.pol_tables.specs.Order.{in_order}
 use Rattle.pol_tables.specs.Same.{same}
 
 -- each privilege is found by its text
@@ -38,10 +38,6 @@ abbrev pub SearchTellsMay : Type 0
 SearchTellsMay =
     (access : AccessRows) (principal : ℕ) (session : Scope) (wanted : Privilege) (chain : List Securable)
     → (may access principal session wanted chain ≡ true) ↔ May access principal session wanted chain
-
--- rows in byte order of their names are the rows, each as often, and no row's name comes before that of the row in front
-abbrev pub ListsAreInOrder : Type 0 → Type 0
-ListsAreInOrder R = (name : R → List ℕ) (rows : List R) → IsPermutation rows (by_name name rows) × IsSortedBy (is_name_less name) (by_name name rows)
 
 -- rows in order are the rows, each as often; where they differ, each comes before all behind it
 abbrev pub AreListedInOrder : {T : Type 0} → Coded T → (T → T → Ordering) → Type 0

@@ -1,7 +1,7 @@
 -- Lists in order.
-use Rattle.std.specs.Prelude.{ℕ, Bool, List, [], ◌∷◌, if◌then◌else◌}
+use Rattle.std.specs.Prelude.{ℕ, List, [], ◌∷◌}
 use Rattle.std.specs.Cmp.Lexicographic.{slice_cmp}
-use Rattle.std.specs.Ordering.{is_lt, nat_cmp}
+use Rattle.std.specs.Ordering.{nat_cmp}
 use Rattle.std.specs.declared.cmp.Ordering.{Ordering}
 use Rattle.pol_access.specs.Privilege.{privilege_number}
 use Rattle.pol_access.specs.declared.rows.GrantRow.{GrantRow}
@@ -9,27 +9,7 @@ use Rattle.pol_access.specs.declared.rows.JoinRow.{JoinRow}
 use Rattle.pol_access.specs.declared.rows.MemberRow.{MemberRow}
 use Rattle.pol_access.specs.declared.securable.Securable.{Securable}
 use Rattle.pol_access.specs.declared.securable.Securable.TheVariants.{Realm, Catalog, Namespace, Table, View}
-use Rattle.pol_tables.specs.Changes.{in_order}
-
-module _ {X : Type 0} (less : X → X → Bool) where
-  -- a list in order with one more item, which stands behind those that are less and before all others
-  unfoldable pub inserted : X → List X → List X
-  inserted item [] = item ∷ []
-  inserted item (next ∷ items) = if less next item then next ∷ inserted item items else item ∷ next ∷ items
-
-  -- the items in rising order, where those of which neither is less stay in their order
-  unfoldable pub ordered : List X → List X
-  ordered [] = []
-  ordered (item ∷ items) = inserted item (ordered items)
-
-module _ {R : Type 0} (name : R → List ℕ) where
-  -- whether a row's name comes before another's in byte order
-  abbrev pub is_name_less : R → R → Bool
-  is_name_less left right = is_lt (slice_cmp nat_cmp (name left) (name right))
-
-  -- the rows in byte order of their names
-  abbrev pub by_name : List R → List R
-  by_name rows = ordered is_name_less rows
+use Rattle.pol_tables.specs.Order.{in_order}
 
 -- the numbers of a securable: that of its kind, and its id where it has one
 abbrev pub securable_numbers : Securable → List ℕ
@@ -61,6 +41,10 @@ join_cmp = by_numbers join_numbers
 
 abbrev pub grant_cmp : GrantRow → GrantRow → Ordering
 grant_cmp = by_numbers grant_numbers
+
+-- the rows in byte order of their names
+abbrev pub by_name : {R : Type 0} → (R → List ℕ) → List R → List R
+by_name name rows = in_order (by_numbers name) rows
 
 -- members, joins and grants in rising order
 abbrev pub members_in_order : List MemberRow → List MemberRow

@@ -50,13 +50,32 @@ impl Model for Access {
 
     ghost Value = { AccessValue };
 
-    ghost view = { λ access. record { rows = record { principals = access.principals.rows; principal_roles = access.principal_roles.rows; catalog_roles = access.catalog_roles.rows; members = access.members.facts; joins = access.joins.facts; grants = access.grants.facts }; room = record { principals = access.principals.room; principal_roles = access.principal_roles.room; catalog_roles = access.catalog_roles.room; members = access.members.room; joins = access.joins.room; grants = access.grants.room } } };
+    ghost view = { λ access. record {
+      rows = record {
+        principals = access.principals.rows;
+        principal_roles = access.principal_roles.rows;
+        catalog_roles = access.catalog_roles.rows;
+        members = access.members.facts;
+        joins = access.joins.facts;
+        grants = access.grants.facts;
+      };
+      room = record {
+        principals = access.principals.room;
+        principal_roles = access.principal_roles.room;
+        catalog_roles = access.catalog_roles.room;
+        members = access.members.room;
+        joins = access.joins.room;
+        grants = access.grants.room;
+      };
+    } };
 }
 
 impl Access {
     /// No rows, and no memory taken.
     pub fn new(alloc: Global) -> Self
-        ensures { result.rows ≡ record { principals = []; principal_roles = []; catalog_roles = []; members = []; joins = []; grants = [] } }
+        ensures { result.rows
+            ≡ record
+            { principals = []; principal_roles = []; catalog_roles = []; members = []; joins = []; grants = [] } }
     {
         Access {
             principals: Principals::new(alloc),
@@ -85,15 +104,18 @@ impl Access {
     /// A principal of this name.
     pub fn principal_named(&self, name: &str) -> Option<&PrincipalRow>
         ensures found { Finds principal_id (has_name name.now) self.now.rows.principals (option_copied result) }
-        ensures only { IsDistinct bytes_eq (map principal_name self.now.rows.principals) → option_copied result ≡ principal_named name.now self.now.rows }
+        ensures only { IsDistinct bytes_eq (map principal_name self.now.rows.principals)
+            → option_copied result ≡ principal_named name.now self.now.rows }
     {
         self.principals.named(name)
     }
 
     /// A principal of this client id.
     pub fn principal_of_client(&self, client_id: &str) -> Option<&PrincipalRow>
-        ensures found { Finds principal_id (has_client_id client_id.now) self.now.rows.principals (option_copied result) }
-        ensures only { IsDistinct bytes_eq (map client_id_of self.now.rows.principals) → option_copied result ≡ principal_of_client client_id.now self.now.rows }
+        ensures found { Finds principal_id (has_client_id client_id.now) self.now.rows.principals
+            (option_copied result) }
+        ensures only { IsDistinct bytes_eq (map client_id_of self.now.rows.principals) → option_copied result
+            ≡ principal_of_client client_id.now self.now.rows }
     {
         self.principals.of_client(client_id)
     }
@@ -114,8 +136,10 @@ impl Access {
 
     /// A principal role of this name.
     pub fn principal_role_named(&self, name: &str) -> Option<&PrincipalRoleRow>
-        ensures found { Finds principal_role_id (has_role_name name.now) self.now.rows.principal_roles (option_copied result) }
-        ensures only { IsDistinct bytes_eq (map principal_role_name self.now.rows.principal_roles) → option_copied result ≡ principal_role_named name.now self.now.rows }
+        ensures found { Finds principal_role_id (has_role_name name.now) self.now.rows.principal_roles
+            (option_copied result) }
+        ensures only { IsDistinct bytes_eq (map principal_role_name self.now.rows.principal_roles)
+            → option_copied result ≡ principal_role_named name.now self.now.rows }
     {
         self.principal_roles.named(&PrincipalRoleName(name))
     }
@@ -136,8 +160,10 @@ impl Access {
 
     /// A role of the catalogue, named by its id, of this name.
     pub fn catalog_role_named(&self, catalog: u64, name: &str) -> Option<&CatalogRoleRow>
-        ensures found { Finds catalog_role_id (has_catalog_role_name catalog name.now) self.now.rows.catalog_roles (option_copied result) }
-        ensures only { IsDistinct same_role_name self.now.rows.catalog_roles → option_copied result ≡ catalog_role_named catalog name.now self.now.rows }
+        ensures found { Finds catalog_role_id (has_catalog_role_name catalog name.now) self.now.rows.catalog_roles
+            (option_copied result) }
+        ensures only { IsDistinct same_role_name self.now.rows.catalog_roles → option_copied result
+            ≡ catalog_role_named catalog name.now self.now.rows }
     {
         self.catalog_roles.named(&CatalogRoleName { catalog, name })
     }
@@ -206,7 +232,8 @@ impl Access {
     /// Puts a principal: a new id goes last, and a known id's row is replaced in its place.
     pub fn put_principal(&mut self, row: PrincipalRow)
         requires { 0 < self.old.room.principals }
-        ensures rows { self.new.rows ≡ record self.old.rows { principals = rows_with principal_id row self.old.rows.principals } }
+        ensures rows { self.new.rows
+            ≡ record self.old.rows { principals = rows_with principal_id row self.old.rows.principals } }
         ensures room { self.old.room.principals ≤ self.new.room.principals + 1 }
         ensures others { self.new.room ≡ record self.old.room { principals = self.new.room.principals } }
     {
@@ -216,7 +243,9 @@ impl Access {
     /// Puts a principal role: a new id goes last, and a known id's row is replaced in its place.
     pub fn put_principal_role(&mut self, row: PrincipalRoleRow)
         requires { 0 < self.old.room.principal_roles }
-        ensures rows { self.new.rows ≡ record self.old.rows { principal_roles = rows_with principal_role_id row self.old.rows.principal_roles } }
+        ensures rows { self.new.rows
+            ≡ record self.old.rows
+            { principal_roles = rows_with principal_role_id row self.old.rows.principal_roles } }
         ensures room { self.old.room.principal_roles ≤ self.new.room.principal_roles + 1 }
         ensures others { self.new.room ≡ record self.old.room { principal_roles = self.new.room.principal_roles } }
     {
@@ -226,7 +255,8 @@ impl Access {
     /// Puts a catalogue role: a new id goes last, and a known id's row is replaced in its place.
     pub fn put_catalog_role(&mut self, row: CatalogRoleRow)
         requires { 0 < self.old.room.catalog_roles }
-        ensures rows { self.new.rows ≡ record self.old.rows { catalog_roles = rows_with catalog_role_id row self.old.rows.catalog_roles } }
+        ensures rows { self.new.rows
+            ≡ record self.old.rows { catalog_roles = rows_with catalog_role_id row self.old.rows.catalog_roles } }
         ensures room { self.old.room.catalog_roles ≤ self.new.room.catalog_roles + 1 }
         ensures others { self.new.room ≡ record self.old.room { catalog_roles = self.new.room.catalog_roles } }
     {
@@ -236,7 +266,8 @@ impl Access {
     /// Puts a member: a new one goes last, and one that is known changes nothing.
     pub fn put_member(&mut self, row: MemberRow)
         requires { holds member.the_row.coded row self.old.rows.members ≡ false → 0 < self.old.room.members }
-        ensures rows { self.new.rows ≡ record self.old.rows { members = facts_with member.the_row.coded row self.old.rows.members } }
+        ensures rows { self.new.rows
+            ≡ record self.old.rows { members = facts_with member.the_row.coded row self.old.rows.members } }
         ensures room { self.old.room.members ≤ self.new.room.members + 1 }
         ensures others { self.new.room ≡ record self.old.room { members = self.new.room.members } }
     {
@@ -246,7 +277,8 @@ impl Access {
     /// Puts a join: a new one goes last, and one that is known changes nothing.
     pub fn put_join(&mut self, row: JoinRow)
         requires { holds join.the_row.coded row self.old.rows.joins ≡ false → 0 < self.old.room.joins }
-        ensures rows { self.new.rows ≡ record self.old.rows { joins = facts_with join.the_row.coded row self.old.rows.joins } }
+        ensures rows { self.new.rows
+            ≡ record self.old.rows { joins = facts_with join.the_row.coded row self.old.rows.joins } }
         ensures room { self.old.room.joins ≤ self.new.room.joins + 1 }
         ensures others { self.new.room ≡ record self.old.room { joins = self.new.room.joins } }
     {
@@ -256,7 +288,8 @@ impl Access {
     /// Puts a grant: a new one goes last, and one that is known changes nothing.
     pub fn put_grant(&mut self, row: GrantRow)
         requires { holds grant.the_row.coded row self.old.rows.grants ≡ false → 0 < self.old.room.grants }
-        ensures rows { self.new.rows ≡ record self.old.rows { grants = facts_with grant.the_row.coded row self.old.rows.grants } }
+        ensures rows { self.new.rows
+            ≡ record self.old.rows { grants = facts_with grant.the_row.coded row self.old.rows.grants } }
         ensures room { self.old.room.grants ≤ self.new.room.grants + 1 }
         ensures others { self.new.room ≡ record self.old.room { grants = self.new.room.grants } }
     {
@@ -265,7 +298,8 @@ impl Access {
 
     /// Drops the principal of this id, and nothing else.
     pub fn drop_principal(&mut self, id: u64)
-        ensures rows { self.new.rows ≡ record self.old.rows { principals = rows_without principal_id id self.old.rows.principals } }
+        ensures rows { self.new.rows
+            ≡ record self.old.rows { principals = rows_without principal_id id self.old.rows.principals } }
         ensures room { IsWithin self.old.room self.new.room }
     {
         self.principals.take(id);
@@ -273,7 +307,9 @@ impl Access {
 
     /// Drops the principal role of this id, and nothing else.
     pub fn drop_principal_role(&mut self, id: u64)
-        ensures rows { self.new.rows ≡ record self.old.rows { principal_roles = rows_without principal_role_id id self.old.rows.principal_roles } }
+        ensures rows { self.new.rows
+            ≡ record self.old.rows
+            { principal_roles = rows_without principal_role_id id self.old.rows.principal_roles } }
         ensures room { IsWithin self.old.room self.new.room }
     {
         self.principal_roles.take(id);
@@ -281,7 +317,8 @@ impl Access {
 
     /// Drops the catalogue role of this id, and nothing else.
     pub fn drop_catalog_role(&mut self, id: u64)
-        ensures rows { self.new.rows ≡ record self.old.rows { catalog_roles = rows_without catalog_role_id id self.old.rows.catalog_roles } }
+        ensures rows { self.new.rows
+            ≡ record self.old.rows { catalog_roles = rows_without catalog_role_id id self.old.rows.catalog_roles } }
         ensures room { IsWithin self.old.room self.new.room }
     {
         self.catalog_roles.take(id);
@@ -290,7 +327,8 @@ impl Access {
     /// Drops a member, and answers whether it was there.
     pub fn drop_member(&mut self, row: &MemberRow) -> bool
         ensures dropped { result ≡ holds member.the_row.coded row.now self.old.rows.members }
-        ensures rows { self.new.rows ≡ record self.old.rows { members = facts_without member.the_row.coded row.now self.old.rows.members } }
+        ensures rows { self.new.rows
+            ≡ record self.old.rows { members = facts_without member.the_row.coded row.now self.old.rows.members } }
         ensures room { IsWithin self.old.room self.new.room }
     {
         self.members.take(row)
@@ -299,7 +337,8 @@ impl Access {
     /// Drops a join, and answers whether it was there.
     pub fn drop_join(&mut self, row: &JoinRow) -> bool
         ensures dropped { result ≡ holds join.the_row.coded row.now self.old.rows.joins }
-        ensures rows { self.new.rows ≡ record self.old.rows { joins = facts_without join.the_row.coded row.now self.old.rows.joins } }
+        ensures rows { self.new.rows
+            ≡ record self.old.rows { joins = facts_without join.the_row.coded row.now self.old.rows.joins } }
         ensures room { IsWithin self.old.room self.new.room }
     {
         self.joins.take(row)
@@ -308,7 +347,8 @@ impl Access {
     /// Drops a grant, and answers whether it was there.
     pub fn drop_grant(&mut self, row: &GrantRow) -> bool
         ensures dropped { result ≡ holds grant.the_row.coded row.now self.old.rows.grants }
-        ensures rows { self.new.rows ≡ record self.old.rows { grants = facts_without grant.the_row.coded row.now self.old.rows.grants } }
+        ensures rows { self.new.rows
+            ≡ record self.old.rows { grants = facts_without grant.the_row.coded row.now self.old.rows.grants } }
         ensures room { IsWithin self.old.room self.new.room }
     {
         self.grants.take(row)

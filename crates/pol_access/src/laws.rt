@@ -1,5 +1,5 @@
 //! Theorems over the definitions of `specs/`: the clause of each function is the statement, and its body is empty.
-ghost use Rattle.pol_access.specs.Laws.{FactsAreInOrder, ImplicationIsReflexive, ImplicationIsTransitive, ListsAreInOrder, SearchTellsMay, TextsReadBack};
+ghost use Rattle.pol_access.specs.Laws.{FactsAreInOrder, ImplicationIsReflexive, ImplicationIsTransitive, SearchTellsMay, TextsReadBack};
 
 /// Each privilege is read back from its text.
 pub fn texts_read_back()
@@ -19,11 +19,6 @@ pub fn implication_is_transitive()
 /// The search through the rows, by which needs are judged, tells exactly what a caller may do.
 pub fn search_tells_may()
     ensures { SearchTellsMay }
-{}
-
-/// Lists by name have the rows, and no row's name comes before that of the row in front.
-pub fn lists_are_in_order<R>()
-    ensures { ListsAreInOrder R }
 {}
 
 /// Members, joins and grants in order are the rows, each as often, and where they differ they rise: members by

@@ -1,13 +1,12 @@
-ghost use Rattle.std.specs.Prelude.{◌≡◌, ◌==◌, ◌&&◌, filter, map, IfOk};
-ghost use Rattle.pol_access.specs.Access.{catalog_role_id, catalog_role_name, has_other_role, is_joined, is_member, principal_name, principal_role_name};
+ghost use Rattle.std.specs.Prelude.{◌≡◌, filter, map, IfOk};
+ghost use Rattle.pol_access.specs.Access.{catalog_role_id, catalog_role_name, has_other_role, held_roles, own_joined_roles, own_roles, principal_name, principal_role_name};
 ghost use Rattle.pol_access.specs.Order.{by_name, grants_in_order, joins_in_order, members_in_order};
 ghost use Rattle.pol_access.specs.Referent.{grant_names, join_names, member_names};
 
-use crate::order::sorted_by_name;
 use crate::{
     Access, CatalogRoleRow, GrantRow, JoinRow, MemberRow, PrincipalRoleRow, PrincipalRow, Referent,
 };
-use pol_tables::sorted_facts;
+use pol_tables::{rows_in_order, sorted_facts, sorted_rows};
 use pol_types::OutOfMemory;
 use std::alloc::{AllocError, Global};
 
@@ -19,7 +18,8 @@ impl Access {
         alloc: Global,
         referent: Referent,
     ) -> Result<Vec<MemberRow>, OutOfMemory>
-        ensures { IfOk result (λ rows. rows.items ≡ members_in_order (filter (member_names referent) self.now.rows.members)) }
+        ensures { IfOk result (λ rows.
+            rows.items ≡ members_in_order (filter (member_names referent) self.now.rows.members)) }
     {
         sorted_facts(self.members_that_name(alloc, referent)?)
     }
@@ -27,7 +27,9 @@ impl Access {
     /// The joins that name a referent, in rising order.
     #[tactic(auto, using(crate::proofs::FactOrderLemmas::joins_sorted))]
     pub fn joins_of(&self, alloc: Global, referent: Referent) -> Result<Vec<JoinRow>, OutOfMemory>
-        ensures { IfOk result (λ rows. rows.items ≡ joins_in_order (filter (join_names self.now.rows.catalog_roles referent) self.now.rows.joins)) }
+        ensures { IfOk result (λ rows.
+            rows.items
+            ≡ joins_in_order (filter (join_names self.now.rows.catalog_roles referent) self.now.rows.joins)) }
     {
         sorted_facts(self.joins_that_name(alloc, referent)?)
     }
@@ -35,16 +37,19 @@ impl Access {
     /// The grants that name a referent, in rising order.
     #[tactic(auto, using(crate::proofs::FactOrderLemmas::grants_sorted))]
     pub fn grants_of(&self, alloc: Global, referent: Referent) -> Result<Vec<GrantRow>, OutOfMemory>
-        ensures { IfOk result (λ rows. rows.items ≡ grants_in_order (filter (grant_names self.now.rows.catalog_roles referent) self.now.rows.grants)) }
+        ensures { IfOk result (λ rows.
+            rows.items
+            ≡ grants_in_order (filter (grant_names self.now.rows.catalog_roles referent) self.now.rows.grants)) }
     {
         sorted_facts(self.grants_that_name(alloc, referent)?)
     }
 
     /// The principals, in byte order of their names.
     pub fn principals_by_name(&self, alloc: Global) -> Result<Vec<&PrincipalRow>, OutOfMemory>
-        ensures { IfOk result (λ listed. map (λ row. row.now) listed.items ≡ by_name principal_name self.now.rows.principals) }
+        ensures { IfOk result (λ listed.
+            map (λ row. row.now) listed.items ≡ by_name principal_name self.now.rows.principals) }
     {
-        sorted_by_name(lent(alloc, self.principals().as_slice())?)
+        rows_in_order(alloc, self.principals().as_slice())
     }
 
     /// The principal roles, in byte order of their names.
@@ -52,9 +57,10 @@ impl Access {
         &self,
         alloc: Global,
     ) -> Result<Vec<&PrincipalRoleRow>, OutOfMemory>
-        ensures { IfOk result (λ listed. map (λ row. row.now) listed.items ≡ by_name principal_role_name self.now.rows.principal_roles) }
+        ensures { IfOk result (λ listed.
+            map (λ row. row.now) listed.items ≡ by_name principal_role_name self.now.rows.principal_roles) }
     {
-        sorted_by_name(lent(alloc, self.principal_roles().as_slice())?)
+        rows_in_order(alloc, self.principal_roles().as_slice())
     }
 
     /// The principal roles of which a principal, named by its id, is a member, in byte order of their names.
@@ -63,9 +69,10 @@ impl Access {
         alloc: Global,
         principal: u64,
     ) -> Result<Vec<&PrincipalRoleRow>, OutOfMemory>
-        ensures { IfOk result (λ listed. map (λ row. row.now) listed.items ≡ by_name principal_role_name (filter (λ row. is_member principal row.id self.now.rows) self.now.rows.principal_roles)) }
+        ensures { IfOk result (λ listed.
+            map (λ row. row.now) listed.items ≡ by_name principal_role_name (held_roles principal self.now.rows)) }
     {
-        sorted_by_name(self.held_roles(alloc, principal)?)
+        sorted_rows(self.held_roles(alloc, principal)?)
     }
 
     /// The roles of a catalogue, named by its id, in byte order of their names.
@@ -74,26 +81,30 @@ impl Access {
         alloc: Global,
         catalog: u64,
     ) -> Result<Vec<&CatalogRoleRow>, OutOfMemory>
-        ensures { IfOk result (λ listed. map (λ row. row.now) listed.items ≡ by_name catalog_role_name (filter (λ row. row.catalog == catalog) self.now.rows.catalog_roles)) }
+        ensures { IfOk result (λ listed.
+            map (λ row. row.now) listed.items ≡ by_name catalog_role_name (own_roles catalog self.now.rows)) }
     {
-        sorted_by_name(self.own_roles(alloc, catalog)?)
+        sorted_rows(self.own_roles(alloc, catalog)?)
     }
 
-    /// The roles of a catalogue to which a principal role is joined, each named by its id, in byte order of their names.
+    /// The roles of a catalogue to which a principal role is joined, each named by its id, in byte order of their
+    /// names.
     pub fn joined_roles(
         &self,
         alloc: Global,
         principal_role: u64,
         catalog: u64,
     ) -> Result<Vec<&CatalogRoleRow>, OutOfMemory>
-        ensures { IfOk result (λ listed. map (λ row. row.now) listed.items ≡ by_name catalog_role_name (filter (λ row. row.catalog == catalog && is_joined principal_role row.id self.now.rows) self.now.rows.catalog_roles)) }
+        ensures { IfOk result (λ listed.
+            map (λ row. row.now) listed.items
+            ≡ by_name catalog_role_name (own_joined_roles principal_role catalog self.now.rows)) }
     {
-        sorted_by_name(self.own_joined_roles(alloc, principal_role, catalog)?)
+        sorted_rows(self.own_joined_roles(alloc, principal_role, catalog)?)
     }
 
     /// The ids of the roles of a catalogue, named by its id, in the order of the rows.
     pub fn role_ids_of_catalog(&self, alloc: Global, catalog: u64) -> Result<Vec<u64>, OutOfMemory>
-        ensures { IfOk result (λ ids. ids.items ≡ map catalog_role_id (filter (λ row. row.catalog == catalog) self.now.rows.catalog_roles)) }
+        ensures { IfOk result (λ ids. ids.items ≡ map catalog_role_id (own_roles catalog self.now.rows)) }
     {
         Ok(
             self.catalog_roles()
@@ -127,7 +138,8 @@ impl Access {
 
     /// The joins that name a referent, in their order.
     fn joins_that_name(&self, alloc: Global, referent: Referent) -> Result<Vec<JoinRow>, AllocError>
-        ensures { IfOk result (λ rows. rows.items ≡ filter (join_names self.now.rows.catalog_roles referent) self.now.rows.joins) }
+        ensures { IfOk result (λ rows.
+            rows.items ≡ filter (join_names self.now.rows.catalog_roles referent) self.now.rows.joins) }
     {
         self.joins()
             .filter(|row| referent.is_named_by_join(self, row))
@@ -141,7 +153,8 @@ impl Access {
         alloc: Global,
         referent: Referent,
     ) -> Result<Vec<GrantRow>, AllocError>
-        ensures { IfOk result (λ rows. rows.items ≡ filter (grant_names self.now.rows.catalog_roles referent) self.now.rows.grants) }
+        ensures { IfOk result (λ rows.
+            rows.items ≡ filter (grant_names self.now.rows.catalog_roles referent) self.now.rows.grants) }
     {
         self.grants()
             .filter(|row| referent.is_named_by_grant(self, row))
@@ -155,7 +168,7 @@ impl Access {
         alloc: Global,
         principal: u64,
     ) -> Result<Vec<&PrincipalRoleRow>, AllocError>
-        ensures { IfOk result (λ lent. map (λ row. row.now) lent.items ≡ filter (λ row. is_member principal row.id self.now.rows) self.now.rows.principal_roles) }
+        ensures { IfOk result (λ lent. map (λ row. row.now) lent.items ≡ held_roles principal self.now.rows) }
     {
         self.principal_roles()
             .filter(|row| self.is_member(principal, row.id))
@@ -164,7 +177,7 @@ impl Access {
 
     /// The roles of a catalogue, in their order.
     fn own_roles(&self, alloc: Global, catalog: u64) -> Result<Vec<&CatalogRoleRow>, AllocError>
-        ensures { IfOk result (λ lent. map (λ row. row.now) lent.items ≡ filter (λ row. row.catalog == catalog) self.now.rows.catalog_roles) }
+        ensures { IfOk result (λ lent. map (λ row. row.now) lent.items ≡ own_roles catalog self.now.rows) }
     {
         self.catalog_roles()
             .filter(|row| row.catalog == catalog)
@@ -178,17 +191,11 @@ impl Access {
         principal_role: u64,
         catalog: u64,
     ) -> Result<Vec<&CatalogRoleRow>, AllocError>
-        ensures { IfOk result (λ lent. map (λ row. row.now) lent.items ≡ filter (λ row. row.catalog == catalog && is_joined principal_role row.id self.now.rows) self.now.rows.catalog_roles) }
+        ensures { IfOk result (λ lent.
+            map (λ row. row.now) lent.items ≡ own_joined_roles principal_role catalog self.now.rows) }
     {
         self.catalog_roles()
             .filter(|row| row.catalog == catalog && self.is_joined(principal_role, row.id))
             .collect(alloc)
     }
-}
-
-/// The rows, in their order.
-fn lent<R>(alloc: Global, rows: &[R]) -> Result<Vec<&R>, AllocError>
-    ensures { IfOk result (λ lent. map (λ row. row.now) lent.items ≡ rows.now) }
-{
-    rows.iter().collect(alloc)
 }

@@ -109,5 +109,7 @@ impl NameOf<CatalogRoleRow> for CatalogRoleName<'_> {
         row.catalog == self.catalog && self.name == row.name.as_str()
     }
 
-    ghost numbers_agree = { λ name row same i. role_number (eqb-true row.catalog name.catalog (first_so _ _ same) i) (sym (same_text name.name.now row.name (sym (second_so _ _ same))) i) };
+    ghost numbers_agree = { λ name row same i.
+        role_number (eqb-true row.catalog name.catalog (first_so _ _ same) i)
+        (sym (same_text name.name.now row.name (sym (second_so _ _ same))) i) };
 }

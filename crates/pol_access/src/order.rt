@@ -1,48 +1,38 @@
-ghost use Rattle.std.specs.Prelude.{◌≡◌, ℕ, List, map, IfOk};
+ghost use Rattle.std.specs.Cmp.{on_total};
+ghost use Rattle.std.proofs.lemmas.Cmp.{nat_list_cmp_total};
 ghost use Rattle.pol_access.specs.Access.{catalog_role_name, principal_name, principal_role_name};
-ghost use Rattle.pol_access.specs.Order.{by_name};
+ghost use Rattle.pol_access.specs.Order.{by_numbers};
 
 use crate::{CatalogRoleRow, PrincipalRoleRow, PrincipalRow};
-use pol_names::Plain;
-use pol_types::OutOfMemory;
+use pol_tables::Sortable;
+use std::cmp::Ordering;
 
-/// A row that has a name, by which lists are in order.
-pub(crate) trait HasName {
-    ghost name: { Self → List ℕ };
+impl Sortable for PrincipalRow {
+    ghost cmp = { by_numbers principal_name };
 
-    fn name(&self) -> &Plain
-        ensures { result.now ≡ name self.now };
-}
-
-impl HasName for PrincipalRow {
-    ghost name = { principal_name };
-
-    fn name(&self) -> &Plain {
-        &self.name
+    fn compare(&self, other: &Self) -> Ordering {
+        self.name.cmp(&other.name)
     }
+
+    ghost total = { on_total principal_name nat_list_cmp_total };
 }
 
-impl HasName for PrincipalRoleRow {
-    ghost name = { principal_role_name };
+impl Sortable for PrincipalRoleRow {
+    ghost cmp = { by_numbers principal_role_name };
 
-    fn name(&self) -> &Plain {
-        &self.name
+    fn compare(&self, other: &Self) -> Ordering {
+        self.name.cmp(&other.name)
     }
+
+    ghost total = { on_total principal_role_name nat_list_cmp_total };
 }
 
-impl HasName for CatalogRoleRow {
-    ghost name = { catalog_role_name };
+impl Sortable for CatalogRoleRow {
+    ghost cmp = { by_numbers catalog_role_name };
 
-    fn name(&self) -> &Plain {
-        &self.name
+    fn compare(&self, other: &Self) -> Ordering {
+        self.name.cmp(&other.name)
     }
-}
 
-/// The rows in byte order of their names.
-pub(crate) fn sorted_by_name<'a, R: HasName>(rows: Vec<&'a R>) -> Result<Vec<&'a R>, OutOfMemory>
-    ensures { IfOk result (λ sorted. map (λ row. row.now) sorted.items ≡ by_name R.name (map (λ row. row.now) rows.entry.items)) }
-{
-    let mut sorted = rows;
-    sorted.sort_by(|left, right| left.name().cmp(right.name()))?;
-    Ok(sorted)
+    ghost total = { on_total catalog_role_name nat_list_cmp_total };
 }

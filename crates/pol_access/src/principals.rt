@@ -34,7 +34,10 @@ impl Model for Principals {
 
     ghost Value = { TableValue PrincipalRow };
 
-    ghost view = { λ principals. record { rows = principals.table.rows; room = min principals.table.room principals.clients.room } };
+    ghost view = { λ principals. record {
+      rows = principals.table.rows;
+      room = min principals.table.room principals.clients.room;
+    } };
 
     ghost invariant = { λ principals. AreNoted principal_id client_number principals.clients principals.table.rows };
 }
@@ -134,7 +137,9 @@ fn first_client<'a>(
     clients: &Index,
     client_id: &str,
 ) -> Option<&'a PrincipalRow>
-    ensures found { FindsOr principal_id (has_client_id client_id.now) (IsMissedFirst principal_id (has_client_id client_id.now) table.now.rows (row_of number_noted (text_number client_id.now) clients.now.firsts)) table.now.rows (option_copied result) }
+    ensures found { FindsOr principal_id (has_client_id client_id.now)
+        (IsMissedFirst principal_id (has_client_id client_id.now) table.now.rows
+        (row_of number_noted (text_number client_id.now) clients.now.firsts)) table.now.rows (option_copied result) }
     ensures differ { IdsDiffer number_noted clients.now.firsts }
 {
     match clients.first(text_number(client_id)) {
@@ -149,7 +154,10 @@ fn other_client<'a>(
     others: &[Noted],
     client_id: &str,
 ) -> Option<&'a PrincipalRow>
-    ensures { FindsOr principal_id (has_client_id client_id.now) (AllByRecursion (IsMissed principal_id (has_client_id client_id.now) table.now.rows) others.now) table.now.rows (option_copied result) }
+    ensures { FindsOr principal_id (has_client_id client_id.now)
+        (AllByRecursion
+        (IsMissed principal_id (has_client_id client_id.now) table.now.rows) others.now) table.now.rows
+        (option_copied result) }
 {
     for noted in others {
         if let Some(row) = client_by(table, client_id, noted.id) {
@@ -165,7 +173,9 @@ fn client_by<'a>(
     client_id: &str,
     id: u64,
 ) -> Option<&'a PrincipalRow>
-    ensures { FindsOr principal_id (has_client_id client_id.now) (named_row principal_id (has_client_id client_id.now) table.now.rows id ≡ None) table.now.rows (option_copied result) }
+    ensures { FindsOr principal_id (has_client_id client_id.now)
+        (named_row principal_id (has_client_id client_id.now) table.now.rows id ≡ None) table.now.rows
+        (option_copied result) }
 {
     let row = table.find(id)?;
     if client_id == row.client_id.as_str() {

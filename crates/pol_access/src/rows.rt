@@ -127,7 +127,14 @@ pub struct GrantRow {
 impl Exact for GrantRow {
     ghost clones_exactly = { Prim.search rules };
 
-    ghost compares_exactly = { let securable_is : (left right : Securable) → ⟦<Securable as PartialEq>⟧.eq left right ≡ true → left ≡ right = Prim.grind exactness in λ left right same i. record { catalog_role = eqb-true left.catalog_role right.catalog_role (first_so _ _ same) i; privilege = privilege_is left.privilege right.privilege (first_so _ _ (second_so _ _ same)) i; securable = securable_is left.securable right.securable (second_so _ _ (second_so _ _ same)) i } };
+    ghost compares_exactly = { let securable_is : (left right : Securable)
+        → ⟦<Securable as PartialEq>⟧.eq left right ≡ true → left ≡ right = Prim.grind exactness
+        in
+        λ left right same i. record {
+          catalog_role = eqb-true left.catalog_role right.catalog_role (first_so _ _ same) i;
+          privilege = privilege_is left.privilege right.privilege (first_so _ _ (second_so _ _ same)) i;
+          securable = securable_is left.securable right.securable (second_so _ _ (second_so _ _ same)) i;
+        } };
 }
 
 impl Fact for GrantRow {

@@ -1,39 +1,29 @@
 -- Rows whose names differ: a look-up by name finds the one row of the name.
-use Rattle.std.proofs.Common.{◌≡◌, ℕ, ◌+◌, Bool, true, false, not, cond, List, [], ◌∷◌, map, Option, Some, None, is_none, is_some, nat_eq, refl, sym, ap, ◌∙◌, inl, inr, true≢false, suc}
+use Rattle.std.proofs.Common.{◌≡◌, ℕ, ◌+◌, Bool, true, false, not, cond, List, map, Option, Some, None, is_none, is_some, nat_eq, refl, sym, ap, ◌∙◌, true≢false, suc}
 use Rattle.std.specs.Borrow.{Bor}
 use Rattle.std.specs.Option.{option_copied}
 use Rattle.std.specs.Cmp.{IsEquivalence, nat_eq_equiv}
 use Rattle.std.specs.Cmp.Lexicographic.{lists_equiv, nat_list_eq_equiv}
 use Rattle.std.specs.List.{find, range_with_len}
-use Rattle.std.proofs.lemmas.Bool.{and_from, and_parts, cases_Bool}
+use Rattle.std.proofs.lemmas.Bool.{and_from, and_parts}
 use Rattle.pol_tables.specs.Named.{Finds}
 use Rattle.pol_tables.specs.Table.{has_id, row_of}
-use Rattle.pol_tables.proofs.TableLemmas.{some_is}
 use Rattle.pol_content.specs.Content.{is_catalog_named, is_namespace_named, same_levels}
 use Rattle.pol_content.specs.declared.rows.CatalogRow.{CatalogRow}
 use Rattle.pol_content.specs.declared.rows.NamespaceRow.{NamespaceRow}
+use Rattle.pol_access.proofs.KeptLemmas.{found-holds}
+use Rattle.pol_access.proofs.KeptLemmas as kept
+use Rattle.pol_content.proofs.SoundLemmas.{each-fails}
 
 module _ {R : Type 0} (key : R → ℕ) where
-  -- the row of an id is the first row, or it is among the others
-  past_first : (id : ℕ) (first row : R) (rows : List R) → has_id key id first ≡ false → row_of key id (first ∷ rows) ≡ Some row → row_of key id rows ≡ Some row
-  past_first id first row rows apart found = sym (ap (λ b. cond b (Some first) (row_of key id rows)) apart) ∙ found
-
-  at_first : (id : ℕ) (first row : R) (rows : List R) → has_id key id first ≡ true → row_of key id (first ∷ rows) ≡ Some row → first ≡ row
-  at_first id first row rows here found =
-      some_is first row (sym (ap (λ b. cond b (Some first) (row_of key id rows)) here) ∙ found)
-
   module _ (test : R → Bool) where
     found-some : (id : ℕ) (row : R) (rows : List R) → row_of key id rows ≡ Some row → test row ≡ true → is_none (find test rows) ≡ false
-    found-some id row [] found passes = let contrary : None ≡ Some row = found in cc
-    found-some id row (first ∷ rows) found passes = elim (cases_Bool (test first)) [
-      | inl here ↦ ap (λ b. is_none (cond b (Some first) (find test rows))) here
-      | inr fails ↦ elim (cases_Bool (has_id key id first)) [
-        | inl is ↦
-            absurd (true≢false (sym passes ∙ ap test (sym (at_first id first row rows is found)) ∙ fails))
-        | inr apart ↦
-            ap (λ b. is_none (cond b (Some first) (find test rows))) fails ∙ found-some id row rows (past_first id first row rows apart found) passes
-      ]
-    ]
+    found-some id row rows found passes = by (find test rows) refl
+      where
+        by : (first : Option R) → find test rows ≡ first → is_none first ≡ false
+        by (Some first) is = refl
+        by None none =
+            absurd (true≢false (sym passes ∙ found-holds (has_id key id) (λ kept. test kept ≡ false) rows row (each-fails test rows (kept.none-found test rows none)) found))
 
     none-alike : (rows : List R) (found : Option (Bor R)) → Finds key test rows (option_copied found) → is_none found ≡ is_none (find test rows)
     none-alike rows None none = sym (ap is_none none)

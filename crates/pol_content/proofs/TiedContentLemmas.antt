@@ -4,7 +4,7 @@ use Rattle.std.specs.Cmp.{nat_eq_equiv}
 use Rattle.std.specs.Cmp.Lexicographic.{nat_list_eq_equiv}
 use Rattle.std.specs.List.{find, list_any, AllByRecursion}
 use Rattle.std.specs.Str.{bytes_eq}
-use Rattle.std.proofs.lemmas.Bool.{and_from, eq-eqb, eqb-true, ne_eqb}
+use Rattle.std.proofs.lemmas.Bool.{and_from, eq-eqb, eqb-true, ne_eqb, or_parts}
 use Rattle.std.proofs.lemmas.List.{append_assoc}
 use Rattle.pol_access.specs.Access.{AccessRows, catalog_role_dropped, catalog_role_id, catalog_roles_dropped, grants_on_dropped}
 use Rattle.pol_access.specs.Names.{has_catalog_role_name, principal_role_named}
@@ -33,9 +33,9 @@ use Rattle.pol_content.specs.Ties.{admin_grant, admin_join, admin_of, catalog_of
 use Rattle.pol_content.specs.declared.rows.CatalogRow.{CatalogRow}
 use Rattle.pol_content.specs.declared.rows.NamespaceRow.{NamespaceRow}
 use Rattle.pol_content.proofs.SoundLemmas.{each-fails}
-use Rattle.pol_content.proofs.TiesLemmas.{apart-fewer, apart-put, each-within, find-new, find-pushed, find-without, found-own, holds-put, holds-with, knows-put, knows-without, mapped-kept, or-parts, other-id, role-name, row_of-new, row_of-other, row_of-put, unknown-from, unknown-parts, unknown-put, unknown-without, within-roles, IsUnknown}
+use Rattle.pol_content.proofs.TiesLemmas.{admin-kept, admins-kept, apart-fewer, apart-put, each-within, find-new, find-pushed, find-without, found-own, holds-put, knows-put, knows-without, mapped-kept, other-id, role-name, row_of-other, row_of-put, unknown-from, unknown-parts, unknown-put, unknown-without, within-roles, IsUnknown}
 use Rattle.pol_access.specs.declared.rows.PrincipalRoleRow.{PrincipalRoleRow}
-use Rattle.pol_access.proofs.KeptLemmas.{any-fewer, found-passes, find-kept, each-kept, holds-kept, each-with, not-true}
+use Rattle.pol_access.proofs.KeptLemmas.{any-fewer, found-passes, find-kept, each-kept, holds-kept, holds-with, each-with, not-true}
 
 -- where each item fails none passes, and one more that fails leaves it so
 any-none : {X : Type 0} (test : X → Bool) (xs : List X) → AllByRecursion (λ x. test x ≡ false) xs → list_any test xs ≡ false
@@ -57,15 +57,7 @@ pushed_catalog_role access content tied row new none there =
     record {
       role_catalogs = each-rows_with catalog_role_id (λ one. knows catalog_id one.catalog content.catalogs ≡ true) (λ one. knows catalog_id one.catalog content.catalogs ≡ true) row access.catalog_roles tied.role_catalogs (λ one known other. known) there;
       grants_within = each-within access after content (λ one within. find-pushed catalog_role_id (has_id catalog_role_id one.catalog_role) row within.role access.catalog_roles new within.there) access.grants tied.grants_within;
-      catalog_admins = each-weaken (λ one. HasAdmin access one.id) (λ one. HasAdmin after one.id) content.catalogs (λ one has. record {
-        role = has.role;
-        role_there = find-pushed catalog_role_id (is_admin one.id) row has.role access.catalog_roles new has.role_there;
-        service = has.service;
-        service_there = has.service_there;
-        joined = has.joined;
-        manages_access = has.manages_access;
-        manages_content = has.manages_content;
-      }) tied.catalog_admins;
+      catalog_admins = admins-kept access after content tied (λ one has. admin-kept access after one.id has (find-pushed catalog_role_id (is_admin one.id) row has.role access.catalog_roles new has.role_there) has.service_there has.joined (λ privilege managed. managed));
       ids_apart = apart-put access after content tied.ids_apart row.id none (λ id unknown other. record { principals = unknown.principals; principal_roles = unknown.principal_roles; catalog_roles = unknown-put catalog_role_id id row access.catalog_roles unknown.catalog_roles other });
     }
 
@@ -78,15 +70,7 @@ dropped_catalog_role access content tied row differ there named =
     record {
       role_catalogs = each-rows_without catalog_role_id (λ one. knows catalog_id one.catalog content.catalogs ≡ true) (λ one. knows catalog_id one.catalog content.catalogs ≡ true) row.id access.catalog_roles tied.role_catalogs (λ one known other. known);
       grants_within = each-kept (IsGrantWithin access content) (IsGrantWithin after content) (λ one. not (nat_eq one.catalog_role row.id)) access.grants tied.grants_within (λ one within stays. within-roles access after content one within (find-without catalog_role_id (has_id catalog_role_id one.catalog_role) row.id within.role access.catalog_roles within.there (nat_eq_equiv.symm row.id within.role.id ∙ ap (λ id. nat_eq id row.id) (sym (key-row_of catalog_role_id one.catalog_role within.role access.catalog_roles within.there)) ∙ not-true (nat_eq one.catalog_role row.id) stays)));
-      catalog_admins = each-weaken (λ one. HasAdmin access one.id) (λ one. HasAdmin after one.id) content.catalogs (λ one has. record {
-        role = has.role;
-        role_there = find-without catalog_role_id (is_admin one.id) row.id has.role access.catalog_roles has.role_there (nat_eq_equiv.symm row.id has.role.id ∙ apart one has);
-        service = has.service;
-        service_there = has.service_there;
-        joined = holds-kept join.the_row.coded (λ kept. not (nat_eq kept.catalog_role row.id)) (record { principal_role = has.service.id; catalog_role = has.role.id }) access.joins has.joined (ap not (apart one has));
-        manages_access = holds-kept grant.the_row.coded (λ kept. not (nat_eq kept.catalog_role row.id)) (record { catalog_role = has.role.id; privilege = CatalogManageAccess; securable = Catalog one.id }) access.grants has.manages_access (ap not (apart one has));
-        manages_content = holds-kept grant.the_row.coded (λ kept. not (nat_eq kept.catalog_role row.id)) (record { catalog_role = has.role.id; privilege = CatalogManageContent; securable = Catalog one.id }) access.grants has.manages_content (ap not (apart one has));
-      }) tied.catalog_admins;
+      catalog_admins = admins-kept access after content tied (λ one has. admin-kept access after one.id has (find-without catalog_role_id (is_admin one.id) row.id has.role access.catalog_roles has.role_there (nat_eq_equiv.symm row.id has.role.id ∙ apart one has)) has.service_there (holds-kept join.the_row.coded (λ kept. not (nat_eq kept.catalog_role row.id)) (record { principal_role = has.service.id; catalog_role = has.role.id }) access.joins has.joined (ap not (apart one has))) (λ privilege managed. holds-kept grant.the_row.coded (λ kept. not (nat_eq kept.catalog_role row.id)) (record { catalog_role = has.role.id; privilege = privilege; securable = Catalog one.id }) access.grants managed (ap not (apart one has))));
       ids_apart = apart-fewer access after content tied.ids_apart (λ id unknown. record { principals = unknown.principals; principal_roles = unknown.principal_roles; catalog_roles = unknown-without catalog_role_id id row.id access.catalog_roles unknown.catalog_roles });
     }
   where
@@ -144,15 +128,7 @@ dropped_namespace access content tied gone =
     record {
       role_catalogs = tied.role_catalogs;
       grants_within = each-kept (IsGrantWithin access content) (IsGrantWithin roles after) (λ one. not (same the_row.coded one.securable (Namespace gone))) access.grants tied.grants_within (λ one within stays. record { role = within.role; there = within.there; within = lies-kept content after within.role.catalog (λ kept found. found) one.securable (λ id kept is found in_. lies id kept within.role.catalog found in_ (ap (λ of. same the_row.coded of (Namespace gone)) (sym is) ∙ not-true (same the_row.coded one.securable (Namespace gone)) stays)) within.within });
-      catalog_admins = each-weaken (λ one. HasAdmin access one.id) (λ one. HasAdmin roles one.id) content.catalogs (λ one has. record {
-        role = has.role;
-        role_there = has.role_there;
-        service = has.service;
-        service_there = has.service_there;
-        joined = has.joined;
-        manages_access = holds-kept grant.the_row.coded (λ kept. not (same the_row.coded kept.securable (Namespace gone))) (record { catalog_role = has.role.id; privilege = CatalogManageAccess; securable = Catalog one.id }) access.grants has.manages_access (ap not (same-differ the_row.coded (Catalog one.id) (Namespace gone) (λ is. no_namespace one.id is)));
-        manages_content = holds-kept grant.the_row.coded (λ kept. not (same the_row.coded kept.securable (Namespace gone))) (record { catalog_role = has.role.id; privilege = CatalogManageContent; securable = Catalog one.id }) access.grants has.manages_content (ap not (same-differ the_row.coded (Catalog one.id) (Namespace gone) (λ is. no_namespace one.id is)));
-      }) tied.catalog_admins;
+      catalog_admins = admins-kept access roles content tied (λ one has. admin-kept access roles one.id has has.role_there has.service_there has.joined (λ privilege managed. holds-kept grant.the_row.coded (λ kept. not (same the_row.coded kept.securable (Namespace gone))) (record { catalog_role = has.role.id; privilege = privilege; securable = Catalog one.id }) access.grants managed (ap not (same-differ the_row.coded (Catalog one.id) (Namespace gone) (λ is. no_namespace one.id is)))));
       ids_apart = record {
         catalogs = tied.ids_apart.catalogs;
         namespaces = each-rows_without namespace_id (λ kept. is_access_id kept.id access ≡ false) (λ kept. is_access_id kept.id access ≡ false) gone content.namespaces tied.ids_apart.namespaces (λ kept apart other. apart);
@@ -202,15 +178,8 @@ dropped_catalog access content tied gone differ =
         let apart : nat_eq has.role.catalog gone ≡ false = ap (λ id. nat_eq id gone) named.0 ∙ nat_eq_equiv.symm one.id gone ∙ other in
         let own = found-own catalog_role_id (is_admin one.id) has.role access.catalog_roles differ has.role_there in
         let stays : not (is_role_of access.catalog_roles gone has.role.id) ≡ true = ap not (ap (is_of_catalog gone) own ∙ apart) in
-        record {
-          role = has.role;
-          role_there = find-kept (is_admin one.id) (λ row. not (nat_eq row.catalog gone)) access.catalog_roles has.role has.role_there (ap not apart);
-          service = has.service;
-          service_there = has.service_there;
-          joined = holds-kept join.the_row.coded (λ kept. not (is_role_of access.catalog_roles gone kept.catalog_role)) (record { principal_role = has.service.id; catalog_role = has.role.id }) access.joins has.joined stays;
-          manages_access = holds-kept grant.the_row.coded (λ kept. not (is_role_of access.catalog_roles gone kept.catalog_role)) (record { catalog_role = has.role.id; privilege = CatalogManageAccess; securable = Catalog one.id }) access.grants has.manages_access stays;
-          manages_content = holds-kept grant.the_row.coded (λ kept. not (is_role_of access.catalog_roles gone kept.catalog_role)) (record { catalog_role = has.role.id; privilege = CatalogManageContent; securable = Catalog one.id }) access.grants has.manages_content stays;
-        }
+        admin-kept access (catalog_roles_dropped gone access) one.id has (find-kept (is_admin one.id) (λ row. not (nat_eq row.catalog gone)) access.catalog_roles has.role has.role_there (ap not apart)) has.service_there (holds-kept join.the_row.coded (λ kept. not (is_role_of access.catalog_roles gone kept.catalog_role)) (record { principal_role = has.service.id; catalog_role = has.role.id }) access.joins has.joined stays)
+        (λ privilege managed. holds-kept grant.the_row.coded (λ kept. not (is_role_of access.catalog_roles gone kept.catalog_role)) (record { catalog_role = has.role.id; privilege = privilege; securable = Catalog one.id }) access.grants managed stays)
 
 -- a catalogue may be created, with its `catalog_admin`, where its id and the one after it are new
 pub created_catalog : (access : AccessRows) (content : ContentRows) → AreTied access content → (row : CatalogRow) (service : PrincipalRoleRow) → principal_role_named (codes "service_admin") access ≡ Some service
@@ -234,13 +203,13 @@ created_catalog access content tied row service service_there none none_after un
     after = record content { catalogs = rows_with catalog_id row content.catalogs }
 
     new_catalog : knows catalog_id row.id content.catalogs ≡ false
-    new_catalog = (or-parts (knows catalog_id row.id content.catalogs) (knows namespace_id row.id content.namespaces) none).0
+    new_catalog = (or_parts (knows catalog_id row.id content.catalogs) (knows namespace_id row.id content.namespaces) none).0
 
     new_role : knows catalog_role_id (row.id + 1) access.catalog_roles ≡ false
     new_role = (unknown-parts (row.id + 1) access unknown_after).catalog_roles
 
     catalog_there : knows catalog_id row.id (rows_with catalog_id row content.catalogs) ≡ true
-    catalog_there = sym (is_some-row_of catalog_id row.id (rows_with catalog_id row content.catalogs)) ∙ ap is_some (row_of-new catalog_id row content.catalogs new_catalog)
+    catalog_there = sym (is_some-row_of catalog_id row.id (rows_with catalog_id row content.catalogs)) ∙ ap is_some (row_of-put catalog_id row content.catalogs)
 
     still_unknown : (id : ℕ) → IsUnknown id access → nat_eq id (row.id + 1) ≡ false → IsUnknown id roles
     still_unknown id other apart = record { principals = other.principals; principal_roles = other.principal_roles; catalog_roles = unknown-put catalog_role_id id (admin_of row.id) access.catalog_roles other.catalog_roles apart }
@@ -258,8 +227,8 @@ created_catalog access content tied row service service_there none none_after un
     admin_within : (one : GrantRow) → one.catalog_role ≡ row.id + 1 → one.securable ≡ Catalog row.id → IsGrantWithin roles after one
     admin_within one of on = record {
       role = admin_of row.id;
-      there = ap (λ id. row_of catalog_role_id id (rows_with catalog_role_id (admin_of row.id) access.catalog_roles)) of ∙ row_of-new catalog_role_id (admin_of row.id) access.catalog_roles new_role;
-      within = ap (λ securable. catalog_of securable after) on ∙ ap (option_map (λ (kept : CatalogRow). kept.id)) (row_of-new catalog_id row content.catalogs new_catalog);
+      there = ap (λ id. row_of catalog_role_id id (rows_with catalog_role_id (admin_of row.id) access.catalog_roles)) of ∙ row_of-put catalog_role_id (admin_of row.id) access.catalog_roles;
+      within = ap (λ securable. catalog_of securable after) on ∙ ap (option_map (λ (kept : CatalogRow). kept.id)) (row_of-put catalog_id row content.catalogs);
     }
 
     both_kept : (one : GrantRow) → holds grant.the_row.coded one access.grants ≡ true → holds grant.the_row.coded one roles.grants ≡ true
@@ -268,15 +237,8 @@ created_catalog access content tied row service service_there none none_after un
 
     kept_admin : (catalog : ℕ) → HasAdmin access catalog → HasAdmin roles catalog
     kept_admin catalog has =
-        record {
-          role = has.role;
-          role_there = find-pushed catalog_role_id (is_admin catalog) (admin_of row.id) has.role access.catalog_roles new_role has.role_there;
-          service = has.service;
-          service_there = has.service_there;
-          joined = holds-with join.the_row.coded (record { principal_role = has.service.id; catalog_role = has.role.id }) (admin_join service.id row.id) access.joins has.joined;
-          manages_access = both_kept (record { catalog_role = has.role.id; privilege = CatalogManageAccess; securable = Catalog catalog }) has.manages_access;
-          manages_content = both_kept (record { catalog_role = has.role.id; privilege = CatalogManageContent; securable = Catalog catalog }) has.manages_content;
-        }
+        admin-kept access roles catalog has (find-pushed catalog_role_id (is_admin catalog) (admin_of row.id) has.role access.catalog_roles new_role has.role_there) has.service_there (holds-with join.the_row.coded (record { principal_role = has.service.id; catalog_role = has.role.id }) (admin_join service.id row.id) access.joins has.joined)
+        (λ privilege managed. both_kept (record { catalog_role = has.role.id; privilege = privilege; securable = Catalog catalog }) managed)
 
     elsewhere : (one : CatalogRoleRow) → knows catalog_id one.catalog content.catalogs ≡ true → is_admin row.id one ≡ false
     elsewhere one known = ap (λ b. b && bytes_eq (codes "catalog_admin") one.name) (ne_eqb one.catalog row.id (λ is. true≢false (sym known ∙ ap (λ id. knows catalog_id id content.catalogs) is ∙ new_catalog)))

@@ -1,17 +1,18 @@
 -- Rows that are tied stay so once a row is put or dropped.
-use Rattle.std.proofs.Common.{◌≡◌, ◌≢◌, ◌≤◌, ℕ, Bool, true, false, not, cond, ◌||◌, List, [], ◌∷◌, ◌++◌, map, Option, Some, None, option_map, nat_eq, refl, sym, ap, subst, ◌∙◌, inl, inr, true≢false, codes}
+use Rattle.std.proofs.Common.{◌≡◌, ◌≢◌, ◌≤◌, ℕ, Bool, true, false, not, cond, ◌&&◌, ◌||◌, List, [], ◌∷◌, ◌++◌, Option, Some, None, option_map, nat_eq, refl, sym, ap, subst, ◌∙◌, codes}
 use Rattle.std.specs.Cmp.{nat_eq_equiv}
 use Rattle.std.specs.Cmp.Lexicographic.{same_text}
 use Rattle.std.specs.Coded.{Coded}
 use Rattle.std.specs.List.{find, AllByRecursion}
 use Rattle.std.specs.Option.{option_or}
 use Rattle.std.specs.Str.{bytes_eq}
-use Rattle.std.proofs.lemmas.Bool.{and_parts, cases_Bool, eq-eqb, eqb-true, ne_eqb}
+use Rattle.std.proofs.lemmas.Bool.{and_parts, eq-eqb, eqb-true, ne_eqb, or_parts}
 use Rattle.std.proofs.lemmas.List.Folds.{find-append}
-use Rattle.pol_access.specs.Access.{AccessRows, catalog_role_id, principal_dropped, principal_id, principal_role_dropped, principal_role_id}
-use Rattle.pol_access.specs.Names.{has_catalog_role_name, has_role_name}
+use Rattle.pol_access.specs.Access.{AccessRows, catalog_role_id, is_joined, principal_dropped, principal_id, principal_role_dropped, principal_role_id}
+use Rattle.pol_access.specs.Names.{catalog_role_named, has_catalog_role_name, has_role_name, principal_role_named}
 use Rattle.pol_access.specs.contracts.rows.GrantRow as grant
 use Rattle.pol_access.specs.contracts.rows.JoinRow as join
+use Rattle.pol_access.specs.declared.privilege.Privilege.{Privilege}
 use Rattle.pol_access.specs.declared.privilege.Privilege.TheVariants.{CatalogManageAccess, CatalogManageContent}
 use Rattle.pol_access.specs.declared.rows.CatalogRoleRow.{CatalogRoleRow}
 use Rattle.pol_access.specs.declared.rows.GrantRow.{GrantRow}
@@ -21,28 +22,25 @@ use Rattle.pol_access.specs.declared.securable.Securable.TheVariants.{Catalog}
 use Rattle.pol_tables.specs.Facts.{facts_with, facts_without, holds}
 use Rattle.pol_tables.specs.Same.{same}
 use Rattle.pol_tables.specs.Table.{has_id, knows, row_of, rows_with, rows_without, IdsDiffer}
-use Rattle.pol_tables.proofs.FactsLemmas.{facts_with-known, facts_with-new}
-use Rattle.pol_tables.proofs.ListLemmas.{each-all, each-join, each-weaken}
-use Rattle.pol_tables.proofs.NamedLemmas.{each-own, find-none}
+use Rattle.pol_tables.proofs.FactChangesLemmas.{holds-facts_with}
+use Rattle.pol_tables.proofs.ListLemmas.{and_false, each-join, each-weaken, or_true}
+use Rattle.pol_tables.proofs.NamedLemmas.{each-own}
 use Rattle.pol_tables.proofs.NumberedLemmas.{below-next}
-use Rattle.pol_tables.proofs.RisingLemmas.{key-replaced, knows-below, KeysBelow-more}
+use Rattle.pol_tables.proofs.ReplayLemmas.{knows-rows_with, knows-rows_without, row_of-rows_with}
+use Rattle.pol_tables.proofs.RisingLemmas.{knows-below, KeysBelow-more}
 use Rattle.pol_tables.proofs.SameLemmas.{same-differ, same-refl}
-use Rattle.pol_tables.proofs.TableLemmas.{knows-map, rows_with-known, rows_with-new, some_is}
+use Rattle.pol_tables.proofs.TableLemmas.{rows_with-new, some_is}
 use Rattle.pol_content.specs.Content.{catalog_id, namespace_id, ContentRows}
-use Rattle.pol_content.specs.Ties.{is_access_id, is_content_id, HasAdmin, IdsApart, IsGrantWithin, AreTied}
+use Rattle.pol_content.specs.Ties.{is_access_id, is_content_id, manages, HasAdmin, IdsApart, IsGrantWithin, AreTied}
 use Rattle.pol_content.specs.declared.rows.CatalogRow.{CatalogRow}
 use Rattle.pol_content.proofs.SoundLemmas.{each-fails}
 use Rattle.pol_access.specs.declared.rows.MemberRow.{MemberRow}
 use Rattle.pol_access.specs.declared.rows.PrincipalRow.{PrincipalRow}
 use Rattle.pol_content.specs.Sound.{IsSoundContent}
-use Rattle.pol_access.proofs.KeptLemmas.{any-push, any-kept, any-fewer, knows-push, found-passes, find-kept, each-kept, holds-kept, each-with, find-push, found-holds}
+use Rattle.pol_access.proofs.KeptLemmas.{found-passes, find-kept, each-kept, holds-kept, holds-with, each-with, find-push, found-holds}
 
 pub or-false : (a b : Bool) → a ≡ false → b ≡ false → (a || b) ≡ false
 or-false a b left right = λ i. left i || right i
-
-pub or-parts : (a b : Bool) → (a || b) ≡ false → (a ≡ false) × (b ≡ false)
-or-parts true b neither = absurd (true≢false neither)
-or-parts false b neither = (refl, neither)
 
 -- what is found in a list with an item more, where none was found before
 module _ {X : Type 0} (test : X → Bool) where
@@ -58,20 +56,18 @@ mapped-kept f value (Some row) after so is = so row refl (some_is (f row) value 
 module _ {R : Type 0} (key : R → ℕ) where
   -- rows once one is put
   pub knows-put : (id : ℕ) (row : R) (rows : List R) → knows key id rows ≡ true → knows key id (rows_with key row rows) ≡ true
-  knows-put id row rows there = elim (cases_Bool (knows key (key row) rows)) [
-    | inl known ↦ ap (knows key id) (rows_with-known key row rows known) ∙ knows-map key (λ kept. cond (has_id key (key row) kept) row kept) (key-replaced key row) id rows ∙ there
-    | inr unknown ↦ ap (knows key id) (rows_with-new key row rows unknown) ∙ any-push (has_id key id) rows row there
-  ]
+  knows-put id row rows there =
+      knows-rows_with key id row rows ∙ ap (λ b. has_id key id row || b) there ∙ or_true (has_id key id row)
 
   pub unknown-put : (id : ℕ) (row : R) (rows : List R) → knows key id rows ≡ false → has_id key id row ≡ false → knows key id (rows_with key row rows) ≡ false
-  unknown-put id row rows unknown apart = elim (cases_Bool (knows key (key row) rows)) [
-    | inl known ↦ ap (knows key id) (rows_with-known key row rows known) ∙ knows-map key (λ kept. cond (has_id key (key row) kept) row kept) (key-replaced key row) id rows ∙ unknown
-    | inr new ↦ ap (knows key id) (rows_with-new key row rows new) ∙ knows-push key id row rows ∙ or-false (knows key id rows) (has_id key id row) unknown apart
-  ]
+  unknown-put id row rows unknown apart = knows-rows_with key id row rows ∙ (λ i. apart i || unknown i)
 
   pub unknown-without : (id gone : ℕ) (rows : List R) → knows key id rows ≡ false → knows key id (rows_without key gone rows) ≡ false
-  unfolding rows_without
-  unknown-without id gone rows unknown = any-fewer (has_id key id) (λ row. not (has_id key gone row)) rows unknown
+  unknown-without id gone rows unknown =
+      knows-rows_without key id gone rows ∙ ap (λ b. not (nat_eq id gone) && b) unknown ∙ and_false (not (nat_eq id gone))
+
+  pub knows-without : (id gone : ℕ) (rows : List R) → knows key id rows ≡ true → nat_eq id gone ≡ false → knows key id (rows_without key gone rows) ≡ true
+  knows-without id gone rows known apart = knows-rows_without key id gone rows ∙ (λ i. not (apart i) && known i)
 
   pub find-pushed : (test : R → Bool) (new row : R) (rows : List R) → knows key (key new) rows ≡ false → find test rows ≡ Some row → find test (rows_with key new rows) ≡ Some row
   find-pushed test new row rows unknown found = ap (find test) (rows_with-new key new rows unknown) ∙ find-push test rows (new ∷ []) row found
@@ -84,50 +80,13 @@ module _ {R : Type 0} (key : R → ℕ) where
   find-without test gone row rows found apart =
       find-kept test (λ kept. not (has_id key gone kept)) rows row found (ap not apart)
 
-  pub row_of-new : (new : R) (rows : List R) → knows key (key new) rows ≡ false → row_of key (key new) (rows_with key new rows) ≡ Some new
-  row_of-new new rows unknown =
-      find-new (has_id key (key new)) new rows unknown (find-none (has_id key (key new)) rows (each-fails (has_id key (key new)) rows unknown)) (eq-eqb (key new) (key new) refl)
-
-  pub knows-without : (id gone : ℕ) (rows : List R) → knows key id rows ≡ true → nat_eq id gone ≡ false → knows key id (rows_without key gone rows) ≡ true
-  unfolding rows_without
-  knows-without id gone rows known apart =
-      any-kept (has_id key id) (λ row. not (has_id key gone row)) rows (each-all (λ row. has_id key id row ≡ true → not (has_id key gone row) ≡ true) rows (λ row is. ap not (nat_eq_equiv.symm gone (key row) ∙ ap (λ n. nat_eq n gone) (sym (eqb-true id (key row) is)) ∙ apart))) known
-
   -- the row of an id once one is put
   pub row_of-put : (row : R) (rows : List R) → row_of key (key row) (rows_with key row rows) ≡ Some row
-  row_of-put row rows = elim (cases_Bool (knows key (key row) rows)) [
-    | inl known ↦ ap (row_of key (key row)) (rows_with-known key row rows known) ∙ replaced-found rows known
-    | inr unknown ↦ row_of-new row rows unknown
-  ]
-    where
-      replaced-found : (kept : List R) → knows key (key row) kept ≡ true → row_of key (key row) (map (λ one. cond (has_id key (key row) one) row one) kept) ≡ Some row
-      replaced-found [] known = absurd (true≢false (sym known))
-      replaced-found (first ∷ kept) known = elim (cases_Bool (has_id key (key row) first)) [
-        | inl is ↦
-            ap (λ b. row_of key (key row) (cond b row first ∷ map (λ one. cond (has_id key (key row) one) row one) kept)) is ∙ ap (λ b. cond b (Some row) (row_of key (key row) (map (λ one. cond (has_id key (key row) one) row one) kept))) (eq-eqb (key row) (key row) refl)
-        | inr other ↦
-            ap (λ b. row_of key (key row) (cond b row first ∷ map (λ one. cond (has_id key (key row) one) row one) kept)) other ∙ ap (λ b. cond b (Some first) (row_of key (key row) (map (λ one. cond (has_id key (key row) one) row one) kept))) other ∙ replaced-found kept (sym (ap (λ b. b || knows key (key row) kept) other) ∙ known)
-      ]
+  row_of-put row rows =
+      row_of-rows_with key (key row) row rows ∙ ap (λ b. cond b (Some row) (row_of key (key row) rows)) (eq-eqb (key row) (key row) refl)
 
   pub row_of-other : (id : ℕ) (row : R) (rows : List R) → has_id key id row ≡ false → row_of key id (rows_with key row rows) ≡ row_of key id rows
-  row_of-other id row rows apart = elim (cases_Bool (knows key (key row) rows)) [
-    | inl known ↦ ap (row_of key id) (rows_with-known key row rows known) ∙ others rows
-    | inr unknown ↦ ap (row_of key id) (rows_with-new key row rows unknown) ∙ find-append (has_id key id) rows (row ∷ []) ∙ ap (λ b. option_or (row_of key id rows) (cond b (Some row) None)) apart ∙ or_none (row_of key id rows)
-  ]
-    where
-      or_none : (one : Option R) → option_or one None ≡ one
-      or_none None = refl
-      or_none (Some one) = refl
-
-      others : (kept : List R) → row_of key id (map (λ one. cond (has_id key (key row) one) row one) kept) ≡ row_of key id kept
-      others [] = refl
-      others (first ∷ kept) = elim (cases_Bool (has_id key (key row) first)) [
-        | inl is ↦
-            let unlike : has_id key id first ≡ false = ap (λ n. nat_eq id n) (sym (eqb-true (key row) (key first) is)) ∙ apart in
-            ap (λ b. row_of key id (cond b row first ∷ map (λ one. cond (has_id key (key row) one) row one) kept)) is ∙ ap (λ b. cond b (Some row) (row_of key id (map (λ one. cond (has_id key (key row) one) row one) kept))) apart ∙ others kept ∙ sym (ap (λ b. cond b (Some first) (row_of key id kept)) unlike)
-        | inr other ↦
-            ap (λ b. row_of key id (cond b row first ∷ map (λ one. cond (has_id key (key row) one) row one) kept)) other ∙ ap (λ rest. cond (has_id key id first) (Some first) rest) (others kept)
-      ]
+  row_of-other id row rows apart = row_of-rows_with key id row rows ∙ ap (λ b. cond b (Some row) (row_of key id rows)) apart
 
   -- what is found is the row of its id, where ids differ; and two rows of one id are one
   pub found-own : (test : R → Bool) (row : R) (rows : List R) → IdsDiffer key rows → find test rows ≡ Some row → row_of key (key row) rows ≡ Some row
@@ -145,25 +104,8 @@ module _ {R : Type 0} (key : R → ℕ) where
 
 -- facts once one is put, or some are dropped
 module _ {T : Type 0} (code : Coded T) where
-  pub holds-with : (other fact : T) (facts : List T) → holds code other facts ≡ true → holds code other (facts_with code fact facts) ≡ true
-  holds-with other fact facts held = elim (cases_Bool (holds code fact facts)) [
-    | inl known ↦ ap (holds code other) (facts_with-known code fact facts known) ∙ held
-    | inr new ↦ ap (holds code other) (facts_with-new code fact facts new) ∙ any-push (same code other) facts fact held
-  ]
-
-  last-held : (fact : T) (facts : List T) → holds code fact (facts ++ fact ∷ []) ≡ true
-  last-held fact [] = ap (λ b. b || false) (same-refl code fact)
-  last-held fact (first ∷ facts) = ap (λ b. same code fact first || b) (last-held fact facts) ∙ or_last (same code fact first)
-    where
-      or_last : (b : Bool) → (b || true) ≡ true
-      or_last true = refl
-      or_last false = refl
-
   pub holds-put : (fact : T) (facts : List T) → holds code fact (facts_with code fact facts) ≡ true
-  holds-put fact facts = elim (cases_Bool (holds code fact facts)) [
-    | inl known ↦ ap (holds code fact) (facts_with-known code fact facts known) ∙ known
-    | inr new ↦ ap (holds code fact) (facts_with-new code fact facts new) ∙ last-held fact facts
-  ]
+  holds-put fact facts = holds-facts_with code fact fact facts ∙ ap (λ b. b || holds code fact facts) (same-refl code fact)
 
   pub holds-without : (gone fact : T) (facts : List T) → holds code fact facts ≡ true → fact ≢ gone → holds code fact (facts_without code gone facts) ≡ true
   unfolding facts_without
@@ -178,8 +120,8 @@ pub record IsUnknown (id : ℕ) (access : AccessRows) : Type 0 where
 
 pub unknown-parts : (id : ℕ) (access : AccessRows) → is_access_id id access ≡ false → IsUnknown id access
 unknown-parts id access none =
-    let last = or-parts (knows principal_id id access.principals || knows principal_role_id id access.principal_roles) (knows catalog_role_id id access.catalog_roles) none in
-    let first = or-parts (knows principal_id id access.principals) (knows principal_role_id id access.principal_roles) last.0 in
+    let last = or_parts (knows principal_id id access.principals || knows principal_role_id id access.principal_roles) (knows catalog_role_id id access.catalog_roles) none in
+    let first = or_parts (knows principal_id id access.principals) (knows principal_role_id id access.principal_roles) last.0 in
     record { principals = first.0; principal_roles = first.1; catalog_roles = last.1 }
 
 pub unknown-from : (id : ℕ) (access : AccessRows) → IsUnknown id access → is_access_id id access ≡ false
@@ -196,7 +138,7 @@ module _ (access after : AccessRows) (content : ContentRows) (apart : IdsApart a
 
   pub apart-put : (new : ℕ) → is_content_id new content ≡ false → ((id : ℕ) → IsUnknown id access → nat_eq id new ≡ false → IsUnknown id after) → IdsApart after content
   apart-put new none so =
-      let parts = or-parts (knows catalog_id new content.catalogs) (knows namespace_id new content.namespaces) none in
+      let parts = or_parts (knows catalog_id new content.catalogs) (knows namespace_id new content.namespaces) none in
       record {
         catalogs = each-join (λ row. nat_eq new row.id ≡ false) (λ row. is_access_id row.id access ≡ false) (λ row. is_access_id row.id after ≡ false) content.catalogs (λ row other unknown. unknown-from row.id after (so row.id (unknown-parts row.id access unknown) (nat_eq_equiv.symm row.id new ∙ other))) (each-fails (has_id catalog_id new) content.catalogs parts.0) apart.catalogs;
         namespaces = each-join (λ row. nat_eq new row.id ≡ false) (λ row. is_access_id row.id access ≡ false) (λ row. is_access_id row.id after ≡ false) content.namespaces (λ row other unknown. unknown-from row.id after (so row.id (unknown-parts row.id access unknown) (nat_eq_equiv.symm row.id new ∙ other))) (each-fails (has_id namespace_id new) content.namespaces parts.1) apart.namespaces;
@@ -215,6 +157,23 @@ module _ (access after : AccessRows) (content : ContentRows) where
   pub each-within : ((row : GrantRow) (within : IsGrantWithin access content row) → row_of catalog_role_id row.catalog_role after.catalog_roles ≡ Some within.role) → (grants : List GrantRow) → AllByRecursion (IsGrantWithin access content) grants → AllByRecursion (IsGrantWithin after content) grants
   each-within there grants all = each-weaken (IsGrantWithin access content) (IsGrantWithin after content) grants (λ row within. within-roles row within (there row within)) all
 
+-- a catalogue keeps its `catalog_admin` where its rows are found as before
+pub admin-kept : (access after : AccessRows) (catalog : ℕ) (has : HasAdmin access catalog) → catalog_role_named catalog (codes "catalog_admin") after ≡ Some has.role → principal_role_named (codes "service_admin") after ≡ Some has.service
+    → is_joined has.service.id has.role.id after ≡ true → ((privilege : Privilege) → manages privilege has.role.id catalog access ≡ true → manages privilege has.role.id catalog after ≡ true) → HasAdmin after catalog
+admin-kept access after catalog has role service joined managed = record {
+  role = has.role;
+  role_there = role;
+  service = has.service;
+  service_there = service;
+  joined = joined;
+  manages_access = managed CatalogManageAccess has.manages_access;
+  manages_content = managed CatalogManageContent has.manages_content;
+}
+
+pub admins-kept : (access after : AccessRows) (content : ContentRows) → AreTied access content → ((one : CatalogRow) → HasAdmin access one.id → HasAdmin after one.id) → AllByRecursion (λ one. HasAdmin after one.id) content.catalogs
+admins-kept access after content tied so =
+    each-weaken (λ one. HasAdmin access one.id) (λ one. HasAdmin after one.id) content.catalogs so tied.catalog_admins
+
 -- a principal may be put whose id is no catalogue's and no namespace's, and any may be dropped
 pub put_principal : (access : AccessRows) (content : ContentRows) → AreTied access content → (row : PrincipalRow) → is_content_id row.id content ≡ false
     → AreTied (record access { principals = rows_with principal_id row access.principals }) content
@@ -223,7 +182,7 @@ put_principal access content tied row none =
     record {
       role_catalogs = tied.role_catalogs;
       grants_within = each-within access after content (λ one within. within.there) access.grants tied.grants_within;
-      catalog_admins = each-weaken (λ one. HasAdmin access one.id) (λ one. HasAdmin after one.id) content.catalogs (λ one has. record { role = has.role; role_there = has.role_there; service = has.service; service_there = has.service_there; joined = has.joined; manages_access = has.manages_access; manages_content = has.manages_content }) tied.catalog_admins;
+      catalog_admins = admins-kept access after content tied (λ one has. admin-kept access after one.id has has.role_there has.service_there has.joined (λ privilege managed. managed));
       ids_apart = apart-put access after content tied.ids_apart row.id none (λ id unknown other. record { principals = unknown-put principal_id id row access.principals unknown.principals other; principal_roles = unknown.principal_roles; catalog_roles = unknown.catalog_roles });
     }
 
@@ -233,7 +192,7 @@ dropped_principal access content tied gone =
     record {
       role_catalogs = tied.role_catalogs;
       grants_within = each-within access after content (λ one within. within.there) access.grants tied.grants_within;
-      catalog_admins = each-weaken (λ one. HasAdmin access one.id) (λ one. HasAdmin after one.id) content.catalogs (λ one has. record { role = has.role; role_there = has.role_there; service = has.service; service_there = has.service_there; joined = has.joined; manages_access = has.manages_access; manages_content = has.manages_content }) tied.catalog_admins;
+      catalog_admins = admins-kept access after content tied (λ one has. admin-kept access after one.id has has.role_there has.service_there has.joined (λ privilege managed. managed));
       ids_apart = apart-fewer access after content tied.ids_apart (λ id unknown. record { principals = unknown-without principal_id id gone access.principals unknown.principals; principal_roles = unknown.principal_roles; catalog_roles = unknown.catalog_roles });
     }
 
@@ -245,15 +204,7 @@ pushed_principal_role access content tied row new none =
     record {
       role_catalogs = tied.role_catalogs;
       grants_within = each-within access after content (λ one within. within.there) access.grants tied.grants_within;
-      catalog_admins = each-weaken (λ one. HasAdmin access one.id) (λ one. HasAdmin after one.id) content.catalogs (λ one has. record {
-        role = has.role;
-        role_there = has.role_there;
-        service = has.service;
-        service_there = find-pushed principal_role_id (has_role_name (codes "service_admin")) row has.service access.principal_roles new has.service_there;
-        joined = has.joined;
-        manages_access = has.manages_access;
-        manages_content = has.manages_content;
-      }) tied.catalog_admins;
+      catalog_admins = admins-kept access after content tied (λ one has. admin-kept access after one.id has has.role_there (find-pushed principal_role_id (has_role_name (codes "service_admin")) row has.service access.principal_roles new has.service_there) has.joined (λ privilege managed. managed));
       ids_apart = apart-put access after content tied.ids_apart row.id none (λ id unknown other. record { principals = unknown.principals; principal_roles = unknown-put principal_role_id id row access.principal_roles unknown.principal_roles other; catalog_roles = unknown.catalog_roles });
     }
 
@@ -271,15 +222,7 @@ dropped_principal_role access content tied row differ there named =
     record {
       role_catalogs = tied.role_catalogs;
       grants_within = each-within access after content (λ one within. within.there) access.grants tied.grants_within;
-      catalog_admins = each-weaken (λ one. HasAdmin access one.id) (λ one. HasAdmin after one.id) content.catalogs (λ one has. record {
-        role = has.role;
-        role_there = has.role_there;
-        service = has.service;
-        service_there = find-without principal_role_id test row.id has.service access.principal_roles has.service_there (nat_eq_equiv.symm row.id has.service.id ∙ apart has.service has.service_there);
-        joined = holds-kept join.the_row.coded (λ kept. not (nat_eq kept.principal_role row.id)) (record { principal_role = has.service.id; catalog_role = has.role.id }) access.joins has.joined (ap not (apart has.service has.service_there));
-        manages_access = has.manages_access;
-        manages_content = has.manages_content;
-      }) tied.catalog_admins;
+      catalog_admins = admins-kept access after content tied (λ one has. admin-kept access after one.id has has.role_there (find-without principal_role_id test row.id has.service access.principal_roles has.service_there (nat_eq_equiv.symm row.id has.service.id ∙ apart has.service has.service_there)) (holds-kept join.the_row.coded (λ kept. not (nat_eq kept.principal_role row.id)) (record { principal_role = has.service.id; catalog_role = has.role.id }) access.joins has.joined (ap not (apart has.service has.service_there))) (λ privilege managed. managed));
       ids_apart = apart-fewer access after content tied.ids_apart (λ id unknown. record { principals = unknown.principals; principal_roles = unknown-without principal_role_id id row.id access.principal_roles unknown.principal_roles; catalog_roles = unknown.catalog_roles });
     }
 
@@ -288,7 +231,7 @@ pub members_keep : (access : AccessRows) (content : ContentRows) → AreTied acc
 members_keep access content tied members = record {
   role_catalogs = tied.role_catalogs;
   grants_within = each-within access (record access { members = members }) content (λ row within. within.there) access.grants tied.grants_within;
-  catalog_admins = each-weaken (λ row. HasAdmin access row.id) (λ row. HasAdmin (record access { members = members }) row.id) content.catalogs (λ row has. record { role = has.role; role_there = has.role_there; service = has.service; service_there = has.service_there; joined = has.joined; manages_access = has.manages_access; manages_content = has.manages_content }) tied.catalog_admins;
+  catalog_admins = admins-kept access (record access { members = members }) content tied (λ one has. admin-kept access (record access { members = members }) one.id has has.role_there has.service_there has.joined (λ privilege managed. managed));
   ids_apart = record { catalogs = tied.ids_apart.catalogs; namespaces = tied.ids_apart.namespaces };
 }
 
@@ -299,15 +242,7 @@ put_join access content tied row =
     record {
       role_catalogs = tied.role_catalogs;
       grants_within = each-within access after content (λ one within. within.there) access.grants tied.grants_within;
-      catalog_admins = each-weaken (λ one. HasAdmin access one.id) (λ one. HasAdmin after one.id) content.catalogs (λ one has. record {
-        role = has.role;
-        role_there = has.role_there;
-        service = has.service;
-        service_there = has.service_there;
-        joined = holds-with join.the_row.coded (record { principal_role = has.service.id; catalog_role = has.role.id }) row access.joins has.joined;
-        manages_access = has.manages_access;
-        manages_content = has.manages_content;
-      }) tied.catalog_admins;
+      catalog_admins = admins-kept access after content tied (λ one has. admin-kept access after one.id has has.role_there has.service_there (holds-with join.the_row.coded (record { principal_role = has.service.id; catalog_role = has.role.id }) row access.joins has.joined) (λ privilege managed. managed));
       ids_apart = record { catalogs = tied.ids_apart.catalogs; namespaces = tied.ids_apart.namespaces };
     }
 
@@ -327,15 +262,7 @@ dropped_join access content tied principal_role catalog_role roles_differ differ
     record {
       role_catalogs = tied.role_catalogs;
       grants_within = each-within access after content (λ one within. within.there) access.grants tied.grants_within;
-      catalog_admins = each-weaken (λ one. HasAdmin access one.id) (λ one. HasAdmin after one.id) content.catalogs (λ one has. record {
-        role = has.role;
-        role_there = has.role_there;
-        service = has.service;
-        service_there = has.service_there;
-        joined = holds-without join.the_row.coded gone (record { principal_role = has.service.id; catalog_role = has.role.id }) access.joins has.joined (λ is. stays one has (ap (λ join_. join_.principal_role) is) (ap (λ join_. join_.catalog_role) is));
-        manages_access = has.manages_access;
-        manages_content = has.manages_content;
-      }) tied.catalog_admins;
+      catalog_admins = admins-kept access after content tied (λ one has. admin-kept access after one.id has has.role_there has.service_there (holds-without join.the_row.coded gone (record { principal_role = has.service.id; catalog_role = has.role.id }) access.joins has.joined (λ is. stays one has (ap (λ join_. join_.principal_role) is) (ap (λ join_. join_.catalog_role) is))) (λ privilege managed. managed));
       ids_apart = record { catalogs = tied.ids_apart.catalogs; namespaces = tied.ids_apart.namespaces };
     }
   where
@@ -356,15 +283,7 @@ put_grant access content tied row within =
     record {
       role_catalogs = tied.role_catalogs;
       grants_within = each-with grant.the_row.coded (IsGrantWithin after content) row access.grants (each-within access after content (λ one inside. inside.there) access.grants tied.grants_within) (within-roles access after content row within within.there);
-      catalog_admins = each-weaken (λ one. HasAdmin access one.id) (λ one. HasAdmin after one.id) content.catalogs (λ one has. record {
-        role = has.role;
-        role_there = has.role_there;
-        service = has.service;
-        service_there = has.service_there;
-        joined = has.joined;
-        manages_access = holds-with grant.the_row.coded (record { catalog_role = has.role.id; privilege = CatalogManageAccess; securable = Catalog one.id }) row access.grants has.manages_access;
-        manages_content = holds-with grant.the_row.coded (record { catalog_role = has.role.id; privilege = CatalogManageContent; securable = Catalog one.id }) row access.grants has.manages_content;
-      }) tied.catalog_admins;
+      catalog_admins = admins-kept access after content tied (λ one has. admin-kept access after one.id has has.role_there has.service_there has.joined (λ privilege managed. holds-with grant.the_row.coded (record { catalog_role = has.role.id; privilege = privilege; securable = Catalog one.id }) row access.grants managed));
       ids_apart = record { catalogs = tied.ids_apart.catalogs; namespaces = tied.ids_apart.namespaces };
     }
 

@@ -1,21 +1,12 @@
--- Laws of lists in order, and of chains.
+-- Laws of chains.
 use Rattle.std.specs.Prelude.{◌≡◌, ◌⊎◌, ◌↔◌, ◌-◌, ◌<◌, ℕ, List, [], length, take, Contains, Some, None}
 use Rattle.std.specs.List.{AllByRecursion}
-use Rattle.std.specs.List.Sorted.{IsPermutation, IsSortedBy}
 use Rattle.pol_access.specs.declared.securable.Securable.{Securable}
 use Rattle.pol_access.specs.declared.securable.Securable.TheVariants.{Catalog, Namespace}
 use Rattle.pol_tables.specs.Table.{IdsDiffer}
 use Rattle.pol_content.specs.Chain.{Encloses, chain_of, deepest}
 use Rattle.pol_content.specs.Content.{ContentRows, NamespaceNamesDiffer, namespace_id, namespace_named}
-use Rattle.pol_content.specs.Order.{are_levels_less, by_levels, by_name, is_name_less}
-use Rattle.pol_content.specs.declared.rows.CatalogRow.{CatalogRow}
 use Rattle.pol_content.specs.declared.rows.NamespaceRow.{NamespaceRow}
-
--- the lists in order have the rows, each as often, and no row's name or levels come before those of the row in front
-abbrev pub ListsAreInOrder : Type 0
-ListsAreInOrder =
-    ((rows : List CatalogRow) → IsPermutation rows (by_name rows) × IsSortedBy is_name_less (by_name rows))
-    × ((rows : List NamespaceRow) → IsPermutation rows (by_levels rows) × IsSortedBy are_levels_less (by_levels rows))
 
 -- a chain has the securable and what contains it, and nothing else, where each namespace has a level
 abbrev pub ChainsHaveWhatContains : Type 0

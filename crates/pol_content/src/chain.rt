@@ -13,7 +13,8 @@ impl Content {
     /// stands, from the nearest out, and its catalogue. Nothing contains a catalogue, the realm, or what isn't there.
     /// It scans no rows.
     pub fn chain(&self, alloc: Global, of: Securable) -> Result<Vec<Securable>, OutOfMemory>
-        ensures { NamespaceNamesDiffer self.now.rows.namespaces → IfOk result (λ chain. chain.items ≡ chain_of of self.now.rows) }
+        ensures { NamespaceNamesDiffer self.now.rows.namespaces
+            → IfOk result (λ chain. chain.items ≡ chain_of of self.now.rows) }
     {
         let mut chain = Vec::new(alloc);
         chain.push(of)?;
@@ -33,7 +34,8 @@ impl Content {
         catalog: u64,
         levels: &Namespace,
     ) -> Result<Securable, OutOfMemory>
-        ensures { NamespaceNamesDiffer self.now.rows.namespaces → IfOk result (λ part. part ≡ deepest catalog levels.now self.now.rows) }
+        ensures { NamespaceNamesDiffer self.now.rows.namespaces
+            → IfOk result (λ part. part ≡ deepest catalog levels.now self.now.rows) }
     {
         let depth = levels.levels().len();
         for fewer in 0..depth {
@@ -51,7 +53,8 @@ impl Content {
         row: &NamespaceRow,
         chain: &mut Vec<Securable>,
     ) -> Result<(), OutOfMemory>
-        ensures { NamespaceNamesDiffer self.now.rows.namespaces → OnOk result (chain.new.items ≡ chain.old.items ++ uppers_of row.now self.now.rows) }
+        ensures { NamespaceNamesDiffer self.now.rows.namespaces
+            → OnOk result (chain.new.items ≡ chain.old.items ++ uppers_of row.now self.now.rows) }
     {
         if let Some(parent) = row.levels.parent(alloc)? {
             self.push_namespaces(alloc, row.catalog, &parent, chain)?;
@@ -68,7 +71,8 @@ impl Content {
         levels: &Namespace,
         chain: &mut Vec<Securable>,
     ) -> Result<(), OutOfMemory>
-        ensures { NamespaceNamesDiffer self.now.rows.namespaces → OnOk result (chain.new.items ≡ chain.old.items ++ namespaces_out catalog levels.now self.now.rows) }
+        ensures { NamespaceNamesDiffer self.now.rows.namespaces
+            → OnOk result (chain.new.items ≡ chain.old.items ++ namespaces_out catalog levels.now self.now.rows) }
     {
         let depth = levels.levels().len();
         for fewer in 0..depth {
@@ -87,7 +91,8 @@ impl Content {
         depth: usize,
     ) -> Result<Option<Securable>, OutOfMemory>
         requires { (0 < depth) × (depth ≤ length levels.now) }
-        ensures { NamespaceNamesDiffer self.now.rows.namespaces → IfOk result (λ found. found ≡ namespace_at catalog self.now.rows (take depth levels.now)) }
+        ensures { NamespaceNamesDiffer self.now.rows.namespaces
+            → IfOk result (λ found. found ≡ namespace_at catalog self.now.rows (take depth levels.now)) }
     {
         let path = levels.ancestor(alloc, depth)?;
         let found = self.namespace(catalog, &path);

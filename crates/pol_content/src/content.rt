@@ -8,7 +8,7 @@ ghost use Rattle.pol_content.specs.Content.{CatalogNamesDiffer, NamespaceNamesDi
 
 use crate::{CatalogRow, NamespaceName, NamespaceRow};
 use pol_names::{Namespace, Plain};
-use pol_tables::NamedTable;
+use pol_tables::{NamedTable, rows_in_order, sorted_rows};
 use pol_types::OutOfMemory;
 use std::alloc::{AllocError, Global};
 use std::marker::Model;
@@ -27,7 +27,10 @@ impl Model for Content {
 
     ghost Value = { ContentValue };
 
-    ghost view = { λ content. record { rows = record { catalogs = content.catalogs.rows; namespaces = content.namespaces.rows }; room = record { catalogs = content.catalogs.room; namespaces = content.namespaces.room } } };
+    ghost view = { λ content. record {
+      rows = record { catalogs = content.catalogs.rows; namespaces = content.namespaces.rows };
+      room = record { catalogs = content.catalogs.room; namespaces = content.namespaces.room };
+    } };
 }
 
 impl Content {
@@ -44,7 +47,8 @@ impl Content {
     /// The catalogue of this name. It scans no rows.
     pub fn catalogue(&self, name: &Plain) -> Option<&CatalogRow>
         ensures found { Finds catalog_id (is_catalog_named name.now) self.now.rows.catalogs (option_copied result) }
-        ensures first { CatalogNamesDiffer self.now.rows.catalogs → option_copied result ≡ catalog_named name.now self.now.rows }
+        ensures first { CatalogNamesDiffer self.now.rows.catalogs
+            → option_copied result ≡ catalog_named name.now self.now.rows }
     {
         self.catalogs.named(name)
     }
@@ -67,14 +71,15 @@ impl Content {
     pub fn catalogs_by_name(&self, alloc: Global) -> Result<Vec<&CatalogRow>, OutOfMemory>
         ensures { IfOk result (λ listed. map (λ row. row.now) listed.items ≡ by_name self.now.rows.catalogs) }
     {
-        let rows = self.catalogs.rows().as_slice();
-        sorted_by_name(lent(alloc, rows)?)
+        rows_in_order(alloc, self.catalogs.rows().as_slice())
     }
 
     /// The namespace of this catalogue with these levels. It scans no rows.
     pub fn namespace(&self, catalog: u64, levels: &Namespace) -> Option<&NamespaceRow>
-        ensures found { Finds namespace_id (is_namespace_named catalog levels.now) self.now.rows.namespaces (option_copied result) }
-        ensures first { NamespaceNamesDiffer self.now.rows.namespaces → option_copied result ≡ namespace_named catalog levels.now self.now.rows }
+        ensures found { Finds namespace_id (is_namespace_named catalog levels.now) self.now.rows.namespaces
+            (option_copied result) }
+        ensures first { NamespaceNamesDiffer self.now.rows.namespaces
+            → option_copied result ≡ namespace_named catalog levels.now self.now.rows }
     {
         self.namespaces.named(&NamespaceName { catalog, levels })
     }
@@ -127,10 +132,11 @@ impl Content {
         catalog: u64,
         parent: Option<&Namespace>,
     ) -> Result<Vec<&NamespaceRow>, OutOfMemory>
-        ensures { IfOk result (λ found. map (λ row. row.now) found.items ≡ children catalog (option_copied parent.entry) self.now.rows) }
+        ensures { IfOk result (λ found.
+            map (λ row. row.now) found.items ≡ children catalog (option_copied parent.entry) self.now.rows) }
     {
         let rows = self.namespaces.rows().as_slice();
-        sorted_by_levels(children_of(alloc, rows, catalog, parent)?)
+        sorted_rows(children_of(alloc, rows, catalog, parent)?)
     }
 
     /// Whether no namespace stands below this one, directly or deeper. An id that isn't there has none below it.
@@ -177,7 +183,8 @@ impl Content {
     /// Puts a catalogue, and takes no memory: a new id goes last, and a known id's row is replaced in its place.
     pub fn put_catalog(&mut self, row: CatalogRow)
         requires { 0 < self.old.room.catalogs }
-        ensures rows { self.new.rows ≡ record self.old.rows { catalogs = rows_with catalog_id row self.old.rows.catalogs } }
+        ensures rows { self.new.rows
+            ≡ record self.old.rows { catalogs = rows_with catalog_id row self.old.rows.catalogs } }
         ensures room { self.old.room.catalogs ≤ self.new.room.catalogs + 1 }
         ensures namespaces { self.new.room.namespaces ≡ self.old.room.namespaces }
     {
@@ -186,7 +193,8 @@ impl Content {
 
     /// Takes the catalogue of this id away, and takes no memory. Its namespaces stay.
     pub fn drop_catalog(&mut self, id: u64)
-        ensures rows { self.new.rows ≡ record self.old.rows { catalogs = rows_without catalog_id id self.old.rows.catalogs } }
+        ensures rows { self.new.rows
+            ≡ record self.old.rows { catalogs = rows_without catalog_id id self.old.rows.catalogs } }
         ensures room { self.old.room.catalogs ≤ self.new.room.catalogs }
         ensures namespaces { self.new.room.namespaces ≡ self.old.room.namespaces }
     {
@@ -196,7 +204,8 @@ impl Content {
     /// Puts a namespace, and takes no memory: a new id goes last, and a known id's row is replaced in its place.
     pub fn put_namespace(&mut self, row: NamespaceRow)
         requires { 0 < self.old.room.namespaces }
-        ensures rows { self.new.rows ≡ record self.old.rows { namespaces = rows_with namespace_id row self.old.rows.namespaces } }
+        ensures rows { self.new.rows
+            ≡ record self.old.rows { namespaces = rows_with namespace_id row self.old.rows.namespaces } }
         ensures room { self.old.room.namespaces ≤ self.new.room.namespaces + 1 }
         ensures catalogs { self.new.room.catalogs ≡ self.old.room.catalogs }
     {
@@ -205,7 +214,8 @@ impl Content {
 
     /// Takes the namespace of this id away, and takes no memory. Those below it stay.
     pub fn drop_namespace(&mut self, id: u64)
-        ensures rows { self.new.rows ≡ record self.old.rows { namespaces = rows_without namespace_id id self.old.rows.namespaces } }
+        ensures rows { self.new.rows
+            ≡ record self.old.rows { namespaces = rows_without namespace_id id self.old.rows.namespaces } }
         ensures room { self.old.room.namespaces ≤ self.new.room.namespaces }
         ensures catalogs { self.new.room.catalogs ≡ self.old.room.catalogs }
     {
@@ -226,31 +236,6 @@ impl Clone for Content {
     }
 }
 
-/// The catalogues, in their order.
-fn lent(alloc: Global, rows: &[CatalogRow]) -> Result<Vec<&CatalogRow>, AllocError>
-    ensures { IfOk result (λ lent. map (λ row. row.now) lent.items ≡ rows.now) }
-{
-    rows.iter().collect(alloc)
-}
-
-/// The catalogues in byte order of their names.
-fn sorted_by_name<'a>(rows: Vec<&'a CatalogRow>) -> Result<Vec<&'a CatalogRow>, OutOfMemory>
-    ensures { IfOk result (λ sorted. map (λ row. row.now) sorted.items ≡ by_name (map (λ row. row.now) rows.entry.items)) }
-{
-    let mut sorted = rows;
-    sorted.sort_by(|left, right| left.name.cmp(&right.name))?;
-    Ok(sorted)
-}
-
-/// The namespaces in the order of their levels.
-fn sorted_by_levels<'a>(rows: Vec<&'a NamespaceRow>) -> Result<Vec<&'a NamespaceRow>, OutOfMemory>
-    ensures { IfOk result (λ sorted. map (λ row. row.now) sorted.items ≡ by_levels (map (λ row. row.now) rows.entry.items)) }
-{
-    let mut sorted = rows;
-    sorted.sort_by(|left, right| left.levels.cmp(&right.levels))?;
-    Ok(sorted)
-}
-
 /// Those of the namespaces that have the catalogue and stand directly below the parent.
 fn children_of<'a>(
     alloc: Global,
@@ -258,7 +243,8 @@ fn children_of<'a>(
     catalog: u64,
     parent: Option<&Namespace>,
 ) -> Result<Vec<&'a NamespaceRow>, OutOfMemory>
-    ensures { IfOk result (λ found. map (λ row. row.now) found.items ≡ filter (is_child_of catalog (option_copied parent.entry)) rows.now) }
+    ensures { IfOk result (λ found.
+        map (λ row. row.now) found.items ≡ filter (is_child_of catalog (option_copied parent.entry)) rows.now) }
 {
     let mut found = Vec::new(alloc);
     for row in rows {

@@ -1,10 +1,5 @@
 //! Theorems over the definitions of `specs/`: the clause of each function is the statement, and its body is empty.
-ghost use Rattle.pol_content.specs.Laws.{ChainsHaveWhatContains, DeepestPartsAreFirst, ListsAreInOrder};
-
-/// The lists in order have the rows, and no row's name or levels come before those of the row in front.
-pub fn lists_are_in_order()
-    ensures { ListsAreInOrder }
-{}
+ghost use Rattle.pol_content.specs.Laws.{ChainsHaveWhatContains, DeepestPartsAreFirst};
 
 /// A chain has the securable and what contains it, and nothing else.
 pub fn chains_have_what_contains()

@@ -3,8 +3,9 @@ ghost use Rattle.std.proofs.Common.{rules};
 use pol_locations::Location;
 use pol_names::{Namespace, Plain};
 use pol_properties::Properties;
-use pol_tables::{Keyed, NameOf, Named, number_of};
+use pol_tables::{Keyed, NameOf, Named, Sortable, number_of};
 use pol_types::{Exact, Listed};
+use std::cmp::Ordering;
 
 /// A catalogue: its name, the base of its tables' default locations, the locations that are allowed beside it, and
 /// its properties.
@@ -65,6 +66,21 @@ impl NameOf<CatalogRow> for Plain {
     ghost numbers_agree = { λ name row. catalog_numbers_agree name row.name };
 }
 
+impl Sortable for CatalogRow {
+    ghost use Rattle.std.specs.Cmp.{on_total};
+    ghost use Rattle.std.proofs.lemmas.Cmp.{nat_list_cmp_total};
+    ghost use Rattle.pol_access.specs.Order.{by_numbers};
+    ghost use Rattle.pol_content.specs.Order.{catalog_name};
+
+    ghost cmp = { by_numbers catalog_name };
+
+    fn compare(&self, other: &Self) -> Ordering {
+        self.name.cmp(&other.name)
+    }
+
+    ghost total = { on_total catalog_name nat_list_cmp_total };
+}
+
 /// A namespace of a catalogue: its levels and its properties.
 #[derive(Clone, Debug, Drop, PartialEq, Eq)]
 pub struct NamespaceRow {
@@ -102,6 +118,20 @@ impl Named for NamespaceRow {
     }
 }
 
+impl Sortable for NamespaceRow {
+    ghost use Rattle.std.specs.Cmp.{on_total};
+    ghost use Rattle.std.proofs.lemmas.Cmp.{lists_total, nat_list_cmp_total};
+    ghost use Rattle.pol_content.specs.Order.{levels_cmp};
+
+    ghost cmp = { levels_cmp };
+
+    fn compare(&self, other: &Self) -> Ordering {
+        self.levels.cmp(&other.levels)
+    }
+
+    ghost total = { on_total (λ row. row.levels) (lists_total nat_list_cmp_total) };
+}
+
 /// What a namespace is sought by: its catalogue's id and its levels.
 #[derive(Clone, Copy, Debug)]
 pub struct NamespaceName<'a> {
@@ -114,7 +144,8 @@ impl NameOf<NamespaceRow> for NamespaceName<'_> {
     ghost use Rattle.std.specs.Cmp.Lexicographic.{pointwise};
     ghost use Rattle.pol_content.specs.Numbers.{namespace_number, namespace_numbers_agree};
 
-    ghost names = { λ name row. nat_eq name.catalog row.catalog && pointwise (pointwise nat_eq) name.levels.now row.levels };
+    ghost names = { λ name row.
+        nat_eq name.catalog row.catalog && pointwise (pointwise nat_eq) name.levels.now row.levels };
 
     ghost numbered = { λ name. namespace_number name.catalog name.levels.now };
 

@@ -3,7 +3,7 @@ use Rattle.std.proofs.Common.{◌≡◌, ℕ, ◌+◌, ◌<◌, ◌≤◌, ◌^�
 use Rattle.std.specs.List.{fold}
 use Rattle.std.specs.Option.{option_map}
 use Rattle.std.specs.Str.{bytes_eq}
-use Rattle.std.proofs.lemmas.Bool.{cases_Bool, eq-eqb, ne_eqb}
+use Rattle.std.proofs.lemmas.Bool.{cases_Bool, eq-eqb, ne_eqb, or_parts}
 use Rattle.pol_access.specs.Access.{AccessRows, catalog_role_id, has_other_role, principal_role_id}
 use Rattle.pol_access.specs.Names.{catalog_role_named, has_catalog_role_name, has_role_name, principal_role_named}
 use Rattle.pol_access.specs.Order.{grants_in_order, joins_in_order}
@@ -37,7 +37,7 @@ use Rattle.pol_content.specs.declared.rows.NamespaceRow.{NamespaceRow}
 use Rattle.pol_content.proofs.SoundLemmas.{dropped_catalog, dropped_namespace, more_ids, new_rows_last, pushed_catalog, pushed_namespace, replaced_namespace, whole_path}
 use Rattle.pol_content.proofs.TiedContentLemmas as ties
 use Rattle.pol_content.proofs.TiedContentLemmas.{created_catalog, put_namespace}
-use Rattle.pol_content.proofs.TiesLemmas.{new_ids, or-parts}
+use Rattle.pol_content.proofs.TiesLemmas.{new_ids}
 use Rattle.pol_names.specs.Namespace.{parent_of}
 use Rattle.pol_properties.specs.Properties.{pairs_updated}
 use Rattle.pol_properties.specs.declared.property.Property.{Property}
@@ -92,7 +92,7 @@ module _ (s : Rows) where
   catalog-empty : (catalog : CatalogRow) → catalog_holds s catalog ≡ None → catalog_is_empty catalog.id s.content ≡ true
   unfolding catalog_holds
   catalog-empty catalog passes =
-      not_not _ (or-parts (not (catalog_is_empty catalog.id s.content)) (has_other_role catalog.id (codes "catalog_admin") s.access) (refused-not (not (catalog_is_empty catalog.id s.content) || has_other_role catalog.id (codes "catalog_admin") s.access) _ passes)).0
+      not_not _ (or_parts (not (catalog_is_empty catalog.id s.content)) (has_other_role catalog.id (codes "catalog_admin") s.access) (refused-not (not (catalog_is_empty catalog.id s.content) || has_other_role catalog.id (codes "catalog_admin") s.access) _ passes)).0
 
   namespace-empty : (namespace : NamespaceRow) → namespace_holds s namespace ≡ None → is_empty namespace.id s.content ≡ true
   unfolding namespace_holds

@@ -14,7 +14,8 @@ use Rattle.pol_access.specs.declared.privilege.Privilege.TheVariants.{CatalogMan
 use Rattle.pol_access.specs.declared.rows.PrincipalRoleRow.{PrincipalRoleRow}
 use Rattle.pol_access.specs.declared.securable.Securable.TheVariants as securable
 use Rattle.pol_access.proofs.ReferentLemmas.{named_is_dropped}
-use Rattle.pol_tables.specs.Changes.{fact_changes, in_order, new_rows, placed}
+use Rattle.pol_tables.specs.Changes.{fact_changes, new_rows}
+use Rattle.pol_tables.specs.Order.{in_order, placed}
 use Rattle.pol_tables.specs.Rising.{KeysBelow}
 use Rattle.pol_tables.specs.Same.{same}
 use Rattle.pol_tables.specs.Table.{knows, row_of, IdsDiffer}

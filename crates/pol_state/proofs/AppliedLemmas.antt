@@ -3,6 +3,7 @@ use Rattle.std.proofs.Common.{◌≡◌, ℕ, Bool, true, false, not, ◌&&◌, 
 use Rattle.std.specs.Coded.{Coded}
 use Rattle.std.specs.List.{fold, AllByRecursion}
 use Rattle.std.specs.declared.cmp.Ordering.{Ordering}
+use Rattle.std.proofs.lemmas.Bool.{or_parts}
 use Rattle.std.proofs.lemmas.List.{append-nil}
 use Rattle.std.proofs.lemmas.List.Sums.{fold-append}
 use Rattle.pol_access.specs.Access.{catalog_role_id}
@@ -15,7 +16,7 @@ use Rattle.pol_access.specs.declared.rows.GrantRow.{GrantRow}
 use Rattle.pol_access.specs.declared.rows.JoinRow.{JoinRow}
 use Rattle.pol_access.specs.contracts.rows.MemberRow as member
 use Rattle.pol_access.specs.declared.rows.MemberRow.{MemberRow}
-use Rattle.pol_tables.specs.Changes.{in_order}
+use Rattle.pol_tables.specs.Order.{in_order}
 use Rattle.pol_tables.specs.Facts.{facts_without, holds}
 use Rattle.pol_tables.specs.Rising.{KeysBelow, KeysRise}
 use Rattle.pol_tables.specs.Same.{same}
@@ -28,7 +29,6 @@ use Rattle.pol_tables.proofs.RisingLemmas.{IdsDiffer-rising, KeysRise-filter}
 use Rattle.pol_tables.proofs.SameLemmas.{same-symmetric}
 use Rattle.pol_content.specs.declared.change.Change.{Change}
 use Rattle.pol_content.specs.declared.change.Change.TheVariants.{PutCatalogRole, DropCatalogRole, DropGrant, DropJoin, DropMember}
-use Rattle.pol_content.proofs.TiesLemmas.{or-parts}
 use Rattle.pol_state.specs.Applied.{changed}
 use Rattle.pol_state.specs.Rows.{Rows}
 
@@ -128,7 +128,7 @@ module _ {T : Type 0} (code : Coded T) where
   each-other : (fact : T) (facts : List T) → holds code fact facts ≡ false → AllByRecursion (λ kept. not (same code fact kept) ≡ true) facts
   each-other fact [] none = tt
   each-other fact (first ∷ facts) none =
-      let parts = or-parts (same code fact first) (holds code fact facts) none in
+      let parts = or_parts (same code fact first) (holds code fact facts) none in
       (ap not parts.0, each-other fact facts parts.1)
 
   pub facts_without-unknown : (fact : T) (facts : List T) → holds code fact facts ≡ false → facts_without code fact facts ≡ facts

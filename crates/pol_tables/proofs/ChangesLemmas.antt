@@ -181,9 +181,6 @@ module _ {R : Type 0} (code : Coded R) where
           let lacks = each-weaken (λ row. knows key (key row) old ≡ false) (λ row. holds code row old ≡ false) more (λ row. holds-unknown row old) unknown in
           changes-of old (old ++ more) more [] (new_rows-append old more lacks) (gone_ids-append old more) ∙ append-nil (map put more)
 
-      pub table_changes-from_nothing : (rows : List R) → changes [] rows ≡ map put rows
-      table_changes-from_nothing rows = table_changes-append [] rows (each-all (λ row. knows key (key row) [] ≡ false) rows (λ row. refl))
-
       pub table_changes-map : (alter : R → R) → ((row : R) → key (alter row) ≡ key row) → (rows : List R) → IdsDiffer key rows → changes rows (map alter rows) ≡ map put (map alter (filter (λ row. not (same code (alter row) row)) rows))
       table_changes-map alter keeps rows differ =
           let kept = map alter (filter (λ row. not (same code (alter row) row)) rows) in
@@ -219,8 +216,3 @@ module _ {R : Type 0} (code : Coded R) where
           table_changes-filter (λ kept. not (has_id key id kept)) rows differ
           ∙ ap (λ kept. map drop (map key kept)) (filter-only key id row rows differ found)
           ∙ ap (λ n. drop n ∷ []) (sym (key-row_of key id row rows found))
-
-      pub table_changes-take_unknown : (id : ℕ) (rows : List R) → knows key id rows ≡ false → changes rows (rows_without key id rows) ≡ []
-      unfolding rows_without
-      table_changes-take_unknown id rows unknown =
-          ap (changes rows) (filter-lacks key id rows (lacks-unknown key id rows unknown)) ∙ table_changes-itself rows

@@ -9,7 +9,8 @@ use Rattle.std.proofs.lemmas.List.Sums.{fold-append}
 use Rattle.std.proofs.lemmas.Map.Keys.{IsDistinct-head, IsDistinct-tail}
 use Rattle.pol_tables.specs.Same.{same}
 use Rattle.pol_tables.specs.Facts.{holds, facts_with, facts_without}
-use Rattle.pol_tables.specs.Changes.{new_rows, placed, in_order, fact_changes, ActsOnFacts}
+use Rattle.pol_tables.specs.Changes.{new_rows, fact_changes, ActsOnFacts}
+use Rattle.pol_tables.specs.Order.{in_order, placed}
 use Rattle.pol_tables.proofs.ListLemmas.{and_false, and_true, or_swapped, each-weaken, filter-none, filter-alike}
 use Rattle.pol_tables.proofs.SameLemmas.{same-true, same-symmetric}
 use Rattle.pol_tables.proofs.FactsLemmas.{facts_with-known, facts_with-new}
@@ -24,11 +25,11 @@ module _ {T : Type 0} (cmp : T → T → Ordering) where
   any-placed : (test : T → Bool) (fact : T) (facts : List T) → list_any test (placed cmp fact facts) ≡ (test fact || list_any test facts)
   unfolding placed
   any-placed test fact [] = refl
-  any-placed test fact (next ∷ facts) = by (is_lt (cmp fact next)) (any-placed test fact facts)
+  any-placed test fact (next ∷ facts) = by (is_lt (cmp next fact)) (any-placed test fact facts)
     where
-      by : (b : Bool) → list_any test (placed cmp fact facts) ≡ (test fact || list_any test facts) → list_any test (cond b (fact ∷ next ∷ facts) (next ∷ placed cmp fact facts)) ≡ (test fact || (test next || list_any test facts))
-      by true rest = refl
-      by false rest = ap (λ later. test next || later) rest ∙ or_swapped (test next) (test fact) (list_any test facts)
+      by : (b : Bool) → list_any test (placed cmp fact facts) ≡ (test fact || list_any test facts) → list_any test (cond b (next ∷ placed cmp fact facts) (fact ∷ next ∷ facts)) ≡ (test fact || (test next || list_any test facts))
+      by true rest = ap (λ later. test next || later) rest ∙ or_swapped (test next) (test fact) (list_any test facts)
+      by false rest = refl
 
   pub any-in_order : (test : T → Bool) (facts : List T) → list_any test (in_order cmp facts) ≡ list_any test facts
   unfolding in_order

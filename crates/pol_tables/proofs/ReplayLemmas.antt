@@ -89,6 +89,23 @@ module _ {R : Type 0} (key : R → ℕ) where
         ])
       ]
 
+  -- and the ids that they know
+  pub knows-rows_with : (id : ℕ) (row : R) (rows : List R) → knows key id (rows_with key row rows) ≡ (nat_eq id (key row) || knows key id rows)
+  knows-rows_with id row rows =
+      sym (is_some-row_of key id (rows_with key row rows)) ∙ ap is_some (row_of-rows_with id row rows) ∙ by (nat_eq id (key row))
+    where
+      by : (b : Bool) → is_some (cond b (Some row) (row_of key id rows)) ≡ (b || knows key id rows)
+      by true = refl
+      by false = is_some-row_of key id rows
+
+  pub knows-rows_without : (id gone : ℕ) (rows : List R) → knows key id (rows_without key gone rows) ≡ (not (nat_eq id gone) && knows key id rows)
+  knows-rows_without id gone rows =
+      sym (is_some-row_of key id (rows_without key gone rows)) ∙ ap is_some (row_of-rows_without id gone rows) ∙ by (nat_eq id gone)
+    where
+      by : (b : Bool) → is_some (cond b None (row_of key id rows)) ≡ (not b && knows key id rows)
+      by true = refl
+      by false = is_some-row_of key id rows
+
   -- each of these rows is put, and each of these ids is taken away
   abbrev put_all : List R → List R → List R
   put_all more rows = fold (λ kept row. rows_with key row kept) rows more

@@ -1,10 +1,10 @@
 -- The difference of two tables, and of two sets of facts, as a list of changes.
-use Rattle.std.specs.Prelude.{◌≡◌, ℕ, false, not, if◌then◌else◌, List, [], ◌∷◌, ◌++◌, map, filter}
+use Rattle.std.specs.Prelude.{◌≡◌, ℕ, false, not, List, ◌++◌, map, filter}
 use Rattle.std.specs.Coded.{Coded}
 use Rattle.std.specs.List.{AllByRecursion}
-use Rattle.std.specs.Ordering.{is_lt}
 use Rattle.std.specs.declared.cmp.Ordering.{Ordering}
 use Rattle.pol_tables.specs.Facts.{holds, facts_with, facts_without}
+use Rattle.pol_tables.specs.Order.{in_order}
 use Rattle.pol_tables.specs.Rising.{KeysBelow}
 use Rattle.pol_tables.specs.Table.{knows, rows_with, rows_without}
 
@@ -19,16 +19,6 @@ gone_ids key old new = map key (filter (λ row. not (knows key (key row) new)) o
 -- a put for each row that is new or altered, and then a drop for each id that is gone
 unfoldable pub table_changes : {R Change : Type 0} → Coded R → (R → ℕ) → (R → Change) → (ℕ → Change) → List R → List R → List Change
 table_changes code key put drop old new = map put (new_rows code old new) ++ map drop (gone_ids key old new)
-
--- the list with the fact before the first that it is less than
-unfoldable pub placed : {T : Type 0} → (T → T → Ordering) → T → List T → List T
-placed cmp fact [] = fact ∷ []
-placed cmp fact (next ∷ facts) = if is_lt (cmp fact next) then fact ∷ next ∷ facts else next ∷ placed cmp fact facts
-
--- the facts in rising order
-unfoldable pub in_order : {T : Type 0} → (T → T → Ordering) → List T → List T
-in_order cmp [] = []
-in_order cmp (fact ∷ facts) = placed cmp fact (in_order cmp facts)
 
 -- a put for each fact that is new, and then a drop for each that is gone, each in rising order
 unfoldable pub fact_changes : {T Change : Type 0} → Coded T → (T → T → Ordering) → (T → Change) → (T → Change) → List T → List T → List Change

@@ -1,17 +1,26 @@
--- The laws of equality by code, and of the difference of two tables and of two sets of facts.
+-- The laws of equality by code, of lists in order, and of the difference of two tables and of two sets of facts.
 use Rattle.std.specs.Prelude.{◌≡◌, ◌↔◌, ℕ, Bool, true, false, not, List, [], ◌∷◌, ◌++◌, map, filter, Some}
+use Rattle.std.specs.Cmp.{IsTotalOrder}
 use Rattle.std.specs.Coded.{Coded}
 use Rattle.std.specs.List.{AllByRecursion, IsDistinct, fold}
+use Rattle.std.specs.List.Sorted.{IsPermutation, IsSorted, IsStable}
 use Rattle.std.specs.declared.cmp.Ordering.{Ordering}
 use Rattle.pol_tables.specs.Same.{same}
 use Rattle.pol_tables.specs.Rising.{KeysBelow, KeysRise}
 use Rattle.pol_tables.specs.Table.{knows, row_of, rows_with, rows_without, IdsDiffer}
 use Rattle.pol_tables.specs.Facts.{holds, facts_with, facts_without}
-use Rattle.pol_tables.specs.Changes.{table_changes, fact_changes, in_order, NewAreAbove, ActsOnRows, ActsOnFacts}
+use Rattle.pol_tables.specs.Changes.{table_changes, fact_changes, NewAreAbove, ActsOnRows, ActsOnFacts}
+use Rattle.pol_tables.specs.Order.{in_order}
 
 -- two values are the same by their code exactly where they are equal
 abbrev pub CodesTellEquality : Type 0 → Type 0
 CodesTellEquality T = (code : Coded T) (left right : T) → (same code left right ≡ true) ↔ (left ≡ right)
+
+-- a list in order has the items, each as often; none is less than the one in front of it, and those that tie stay in
+-- their order
+abbrev pub ListsAreInOrder : Type 0 → Type 0
+ListsAreInOrder T =
+    (cmp : T → T → Ordering) → IsTotalOrder cmp → (items : List T) → IsPermutation items (in_order cmp items) × IsSorted cmp (in_order cmp items) × IsStable cmp items (in_order cmp items)
 
 module _ (R Change : Type 0) where
   -- what holds of each difference of tables, for every code and key of the rows and every form of the changes

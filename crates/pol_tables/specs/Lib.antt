@@ -5,6 +5,7 @@ pub mod Laws
 pub mod Named
 pub mod Number
 pub mod Numbered
+pub mod Order
 pub mod Rising
 pub mod Same
 pub mod Table

@@ -52,7 +52,11 @@ impl Model for Index {
 
     ghost Value = { IndexValue };
 
-    ghost view = { λ index. record { firsts = index.firsts.rows; others = index.others.facts; room = min index.firsts.room index.others.room } };
+    ghost view = { λ index. record {
+      firsts = index.firsts.rows;
+      others = index.others.facts;
+      room = min index.firsts.room index.others.room;
+    } };
 }
 
 impl Index {
@@ -111,7 +115,8 @@ impl Index {
 
     /// Forgets an id under a number, and takes no memory.
     pub fn forget(&mut self, noted: &Noted)
-        ensures noted { (other : Noted) → is_noted other self.new ≡ (not (same_note other noted.now) && is_noted other self.old) }
+        ensures noted { (other : Noted) → is_noted other self.new
+            ≡ (not (same_note other noted.now) && is_noted other self.old) }
         ensures room { self.old.room ≤ self.new.room }
     {
         self.others.take(noted);

@@ -1,9 +1,15 @@
 //! Theorems over the definitions of `specs/`: the clause of each function is the statement, and its body is empty.
-ghost use Rattle.pol_tables.specs.Laws.{CodesTellEquality, EqualTablesHaveNoChanges, PushedRowIsPut, AppendedRowsArePut, AlteredRowIsPut, UnalteredRowChangesNothing, AlteredRowsArePut, TakenRowIsDropped, FilteredRowsAreDropped, ChangesLeadToRows, ChangesLeadToRowsById, EqualFactsHaveNoChanges, NewFactIsPut, AppendedFactsArePut, TakenFactIsDropped, FilteredFactsAreDropped, ChangesLeadToFacts};
+ghost use Rattle.pol_tables.specs.Laws.{CodesTellEquality, ListsAreInOrder, EqualTablesHaveNoChanges, PushedRowIsPut, AppendedRowsArePut, AlteredRowIsPut, UnalteredRowChangesNothing, AlteredRowsArePut, TakenRowIsDropped, FilteredRowsAreDropped, ChangesLeadToRows, ChangesLeadToRowsById, EqualFactsHaveNoChanges, NewFactIsPut, AppendedFactsArePut, TakenFactIsDropped, FilteredFactsAreDropped, ChangesLeadToFacts};
 
 /// Two values are the same by their code exactly where they are equal.
 pub fn codes_tell_equality<T>()
     ensures { CodesTellEquality T }
+{}
+
+/// A list in order has the items, each as often. None is less than the one in front of it, and those that tie stay in
+/// their order.
+pub fn lists_are_in_order<T>()
+    ensures { ListsAreInOrder T }
 {}
 
 /// Between a table and itself there is no change.

@@ -19,5 +19,5 @@ pub use keyed::Keyed;
 pub use named::{NameOf, Named};
 pub use named_table::NamedTable;
 pub use number::number_of;
-pub use order::sorted_facts;
+pub use order::{Sortable, rows_in_order, sorted_facts, sorted_rows};
 pub use table::Table;

@@ -135,7 +135,9 @@ fn first_named<'a, R: Named, N: NameOf<R>>(
     index: &Index,
     name: &N,
 ) -> Option<&'a R>
-    ensures found { FindsOr R.key (N.names name.now) (IsMissedFirst R.key (N.names name.now) table.now.rows (row_of number_noted (N.numbered name.now) index.now.firsts)) table.now.rows (option_copied result) }
+    ensures found { FindsOr R.key (N.names name.now)
+        (IsMissedFirst R.key (N.names name.now) table.now.rows
+        (row_of number_noted (N.numbered name.now) index.now.firsts)) table.now.rows (option_copied result) }
     ensures differ { IdsDiffer number_noted index.now.firsts }
 {
     match index.first(name.number()) {
@@ -150,7 +152,9 @@ fn other_named<'a, R: Named, N: NameOf<R>>(
     others: &[Noted],
     name: &N,
 ) -> Option<&'a R>
-    ensures { FindsOr R.key (N.names name.now) (AllByRecursion (IsMissed R.key (N.names name.now) table.now.rows) others.now) table.now.rows (option_copied result) }
+    ensures { FindsOr R.key (N.names name.now)
+        (AllByRecursion (IsMissed R.key (N.names name.now) table.now.rows) others.now) table.now.rows
+        (option_copied result) }
 {
     for noted in others {
         if let Some(row) = named_by(table, name, noted.id) {
@@ -162,7 +166,8 @@ fn other_named<'a, R: Named, N: NameOf<R>>(
 
 /// The row of this id, where it has the name.
 fn named_by<'a, R: Named, N: NameOf<R>>(table: &'a Table<R>, name: &N, id: u64) -> Option<&'a R>
-    ensures { FindsOr R.key (N.names name.now) (named_row R.key (N.names name.now) table.now.rows id ≡ None) table.now.rows (option_copied result) }
+    ensures { FindsOr R.key (N.names name.now)
+        (named_row R.key (N.names name.now) table.now.rows id ≡ None) table.now.rows (option_copied result) }
 {
     let row = table.find(id)?;
     if name.names(row) {

@@ -1,8 +1,39 @@
-ghost use Rattle.std.specs.Prelude.{◌≡◌, IfOk};
-ghost use Rattle.pol_tables.specs.Changes.{in_order};
+ghost use Rattle.std.specs.Prelude.{◌≡◌, map, IfOk};
+ghost use Rattle.std.specs.Cmp.{IsTotalOrder};
+ghost use Rattle.std.specs.declared.cmp.Ordering.{Ordering};
+ghost use Rattle.pol_tables.specs.Order.{in_order};
 
 use crate::Fact;
 use pol_types::OutOfMemory;
+use std::alloc::{AllocError, Global};
+use std::cmp::Ordering;
+
+/// A row that stands in lists in an order of its own, as that of its name. Rows that tie need not be equal.
+pub trait Sortable {
+    ghost cmp: { Self → Self → Ordering };
+
+    fn compare(&self, other: &Self) -> Ordering
+        ensures { result ≡ cmp self.now other.now };
+
+    ghost total: { IsTotalOrder cmp };
+}
+
+/// The rows in rising order, where those that tie stay in theirs.
+pub fn rows_in_order<R: Sortable>(alloc: Global, rows: &[R]) -> Result<Vec<&R>, OutOfMemory>
+    ensures { IfOk result (λ sorted. map (λ row. row.now) sorted.items ≡ in_order R.cmp rows.now) }
+{
+    sorted_rows(lent(alloc, rows)?)
+}
+
+/// The same of rows that are lent.
+pub fn sorted_rows<'a, R: Sortable>(rows: Vec<&'a R>) -> Result<Vec<&'a R>, OutOfMemory>
+    ensures { IfOk result (λ sorted.
+        map (λ row. row.now) sorted.items ≡ in_order R.cmp (map (λ row. row.now) rows.entry.items)) }
+{
+    let mut sorted = rows;
+    sorted.sort_by(|left, right| left.compare(right))?;
+    Ok(sorted)
+}
 
 /// The facts in rising order, in which a list of changes has them.
 pub fn sorted_facts<T: Fact + Ord>(facts: Vec<T>) -> Result<Vec<T>, OutOfMemory>
@@ -11,4 +42,10 @@ pub fn sorted_facts<T: Fact + Ord>(facts: Vec<T>) -> Result<Vec<T>, OutOfMemory>
     let mut sorted = facts;
     sorted.sort()?;
     Ok(sorted)
+}
+
+fn lent<R>(alloc: Global, rows: &[R]) -> Result<Vec<&R>, AllocError>
+    ensures { IfOk result (λ lent. map (λ row. row.now) lent.items ≡ rows.now) }
+{
+    rows.iter().collect(alloc)
 }

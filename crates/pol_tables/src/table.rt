@@ -26,7 +26,8 @@ impl<R: Keyed> Model for Table<R> {
 
     ghost view = { λ table. record { rows = values table.by_id; room = spare table.by_id } };
 
-    ghost invariant = { λ table. (table.by_id.entries ≡ under_ids R.key (values table.by_id)) × IsUnique nat_eq table.by_id };
+    ghost invariant = { λ table.
+        (table.by_id.entries ≡ under_ids R.key (values table.by_id)) × IsUnique nat_eq table.by_id };
 }
 
 impl<R: Keyed> Table<R> {
@@ -113,7 +114,11 @@ impl<R: Keyed> Clone for Table<R> {
 impl<R: Keyed> PartialEq for Table<R> {
     ghost eq = { λ left right. pointwise R.eq left.rows right.rows };
 
-    ghost laws = { let items = lists_per R.PartialEq.laws in record { symm = λ left right. items.symm left.rows right.rows; trans = λ left middle right. items.trans left.rows middle.rows right.rows } };
+    ghost laws = { let items = lists_per R.PartialEq.laws in
+        record {
+          symm = λ left right. items.symm left.rows right.rows;
+          trans = λ left middle right. items.trans left.rows middle.rows right.rows;
+        } };
 
     fn eq(&self, other: &Self) -> bool {
         self.rows().as_slice() == other.rows().as_slice()
