@@ -1,3 +1,1 @@
-mod bodies;
 mod metadata;
-mod printed;
