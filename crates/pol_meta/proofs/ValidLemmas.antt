@@ -130,14 +130,20 @@ pub created_valid : (uuid location : List ℕ) (schema : Schema) (spec : Unbound
 unfolding created create_refusal
 created_valid uuid location schema spec order properties moment asked passes =
     let spec_part = spec_form schema.fields spec asked.spec_fields (spec_passes _ _ passes) in
+    let order_part = order_form order asked.order_fields in
     record {
       forms = record {
         version = refl;
+        current_schema = lit≤ tt;
+        current_snapshot = tt;
+        default_order = order_part.id;
+        default_spec = lit≤ tt;
         schemas = holds_alone IsSchema (first_schema schema) (schema_form schema asked.schema_form);
         specs = holds_alone IsPartitionSpec (first_spec spec) spec_part;
-        orders = holds_alone IsSortOrder (first_order order) (order_form order asked.order_fields);
+        orders = holds_alone IsSortOrder (first_order order) order_part;
         snapshots = All-nil IsSnapshot;
         refs = All-nil IsNamedRef;
+        ordered = unnamed _;
         metadata_log = All-nil IsMetadataLogEntry;
         snapshot_log = All-nil IsSnapshotLogEntry;
         column = column_bound schema asked.schema_form;
@@ -146,7 +152,7 @@ created_valid uuid location schema spec order properties moment asked passes =
         sequence = lit< tt;
         updated = asked.time;
       };
-      ids = record { schemas = alone 0; specs = alone 0; orders = alone (order_id order.fields); snapshots = nobody; refs = unnamed _ };
+      ids = record { schemas = alone 0; specs = alone 0; orders = alone (order_id order.fields); snapshots = nobody };
       members = record {
         schema = (0, lit< tt, refl);
         spec = (0, lit< tt, refl);

@@ -27,18 +27,27 @@ parts (nest first inner beside) = first.part ∷ parts beside
 -- whether a part is a field
 abbrev pub is_field : Part → Bool
 is_field (Field name required doc) = true
-is_field part = false
+is_field (Element required) = false
+is_field Key = false
+is_field (Value required) = false
 
 -- the names of those that are fields
 abbrev pub name_of : Part → Option (List ℕ)
 name_of (Field name required doc) = Some name
-name_of part = None
+name_of (Element required) = None
+name_of Key = None
+name_of (Value required) = None
 
 -- the columns of a struct: fields, whose names differ and aren't empty
 pub record AreFields (chosen : List Part) : Type 0 where
   pub fields : All (λ part. is_field part ≡ true) chosen
   pub named : All (λ name. name ≢ []) (filter_map name_of chosen)
   pub differ : IsDistinct bytes_eq (filter_map name_of chosen)
+
+-- no columns
+abbrev pub AreNone : List Part → Type 0
+AreNone [] = ⊤
+AreNone (first ∷ others) = ⊥
 
 -- the columns in one: a struct has fields, a list its element, a map its key and its value, and any other none
 abbrev pub AreIn : Kind → List Part → Type 0
@@ -47,8 +56,20 @@ AreIn kind.List (Element required ∷ []) = ⊤
 AreIn kind.List chosen = ⊥
 AreIn kind.Map (Key ∷ Value required ∷ []) = ⊤
 AreIn kind.Map chosen = ⊥
-AreIn other [] = ⊤
-AreIn other chosen = ⊥
+AreIn kind.Boolean chosen = AreNone chosen
+AreIn kind.Int chosen = AreNone chosen
+AreIn kind.Long chosen = AreNone chosen
+AreIn kind.Float chosen = AreNone chosen
+AreIn kind.Double chosen = AreNone chosen
+AreIn kind.Date chosen = AreNone chosen
+AreIn kind.Time chosen = AreNone chosen
+AreIn kind.Timestamp chosen = AreNone chosen
+AreIn kind.Timestamptz chosen = AreNone chosen
+AreIn kind.String chosen = AreNone chosen
+AreIn kind.Uuid chosen = AreNone chosen
+AreIn kind.Binary chosen = AreNone chosen
+AreIn (kind.Decimal precision scale) chosen = AreNone chosen
+AreIn (kind.Fixed length) chosen = AreNone chosen
 
 -- each stands in as many columns as it says, and the columns in each are those that its type asks for
 abbrev pub StandAt : ℕ → Columns → Type 0

@@ -44,8 +44,14 @@ is_same_id (Some left) (Some right) = left == right
 is_same_id (Some left) None = false
 is_same_id None right = false
 
+abbrev pub is_same_given : UnboundField → UnboundField → Bool
+is_same_given left right = is_same_id left.field_id right.field_id
+
+abbrev pub is_same_name : UnboundField → UnboundField → Bool
+is_same_name left right = bytes_eq left.name right.name
+
 abbrev pub is_same_field : UnboundField → UnboundField → Bool
-is_same_field left right = is_same_id left.field_id right.field_id || bytes_eq left.name right.name
+is_same_field left right = is_same_given left right || is_same_name left right
 
 -- ids are given out above this: above 999, and above all that are given
 abbrev pub highest_given : List UnboundField → ℕ

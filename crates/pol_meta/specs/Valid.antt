@@ -186,14 +186,19 @@ snapshot_ids snapshots = map (λ snapshot. snapshot.snapshot_id) snapshots
 abbrev pub snapshot_named : List ℕ → List NamedRef → Option ℕ
 snapshot_named name refs = option_map (λ named. named.reference.snapshot_id) (find (λ named. bytes_eq named.name name) refs)
 
--- each part of a metadata has its form
+-- each part of a metadata has its form, and references stand in byte order of their names
 pub record HasForms (meta : TableMetadata) : Type 0 where
   pub version : meta.format_version ≡ 2
+  pub current_schema : IsId meta.current_schema_id
+  pub current_snapshot : IfSome meta.current_snapshot_id IsLong
+  pub default_order : IsId meta.default_sort_order_id
+  pub default_spec : IsId meta.default_spec_id
   pub schemas : All IsSchema meta.schemas
   pub specs : All IsPartitionSpec meta.partition_specs
   pub orders : All IsSortOrder meta.sort_orders
   pub snapshots : All IsSnapshot meta.snapshots
   pub refs : All IsNamedRef meta.refs
+  pub ordered : IsStrictlySortedBy (λ left right. slice_cmp nat_cmp left.name right.name) meta.refs
   pub metadata_log : All IsMetadataLogEntry meta.metadata_log
   pub snapshot_log : All IsSnapshotLogEntry meta.snapshot_log
   pub column : IsColumnId meta.last_column_id
@@ -202,13 +207,12 @@ pub record HasForms (meta : TableMetadata) : Type 0 where
   pub sequence : IsLong meta.last_sequence_number
   pub updated : IsLong meta.last_updated_ms
 
--- the members of each kind have ids of their own, and references stand in byte order of their names
+-- the members of each kind have ids of their own
 pub record HasOwnIds (meta : TableMetadata) : Type 0 where
   pub schemas : IsDistinct nat_eq (schema_ids meta.schemas)
   pub specs : IsDistinct nat_eq (spec_ids meta.partition_specs)
   pub orders : IsDistinct nat_eq (order_ids meta.sort_orders)
   pub snapshots : IsDistinct nat_eq (snapshot_ids meta.snapshots)
-  pub refs : IsStrictlySortedBy (λ left right. slice_cmp nat_cmp left.name right.name) meta.refs
 
 -- what is named is there, and the current snapshot is that of the reference `main`
 pub record NamesMembers (meta : TableMetadata) : Type 0 where

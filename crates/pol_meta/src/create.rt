@@ -1,13 +1,15 @@
-ghost use Rattle.std.specs.Prelude.{◌≡◌, ◌≤◌, ◌+◌, ◌∷◌, ◌↔◌, [], None, Some, IfErr, IfOk, IsTrue, OnOk, List, map, not};
-ghost use Rattle.std.specs.List.{list_all, list_any};
+ghost use Rattle.std.specs.Prelude.{◌≡◌, ◌≤◌, ◌+◌, ◌∷◌, [], ℕ, None, IfErr, IfOk, OnOk, nat_eq};
+ghost use Rattle.std.specs.List.{list_all};
+ghost use Rattle.indexmap.specs.IndexSet.{contains};
 ghost use Rattle.pol_meta.specs.Columns.{column_ids, has_column};
-ghost use Rattle.pol_meta.specs.Creation.{IsAskedFor, IsCreateRefusal, assembled, bound, bound_fields, create_refusal, created, field_ids, first_order, first_schema, first_spec, given_ids, highest, highest_given, is_same_field, is_same_id, numbered, order_refusal, spec_refusal, stands_twice, unnumbered};
+ghost use Rattle.pol_meta.specs.Creation.{IsAskedFor, IsCreateRefusal, assembled, bound, create_refusal, created, field_ids, first_order, first_schema, first_spec, highest, highest_given, is_same_field, is_same_given, is_same_name, numbered, stands_twice, unnumbered};
 ghost use Rattle.pol_meta.specs.Valid.{IsValid};
 
 use crate::{
     Column, CreateRefused, PartitionField, PartitionSpec, Schema, SortField, SortOrder,
     TableMetadata, UnboundField, UnboundOrder, UnboundSpec, Why,
 };
+use indexmap::IndexSet;
 use pol_properties::Properties;
 use pol_types::{Listed, Text};
 use std::alloc::{AllocError, AllocFailed, Global};
@@ -37,7 +39,7 @@ impl TableMetadata {
         ensures refused { IfErr result (IsCreateRefusal schema spec order) }
         ensures valid { IsAskedFor schema spec order moment → IfOk result IsValid }
     {
-        let highest = judge(&schema, &spec, &order)?;
+        let highest = judge(alloc, &schema, &spec, &order)?;
         let spec = first_spec(alloc, spec, highest)?;
         let location = Text::from(String::from_str(alloc, location)?);
         Ok(assembled(
@@ -53,65 +55,96 @@ impl TableMetadata {
     }
 }
 
-/// Whether a column has this id.
-fn has_column(columns: &[Column], id: u32) -> bool
-    ensures { result ≡ has_column columns.now id }
+/// The ids of columns.
+fn ids_of(alloc: Global, columns: &[Column]) -> Result<IndexSet<u32>, AllocError>
+    ensures { IfOk result (λ ids. (id : ℕ) → contains nat_eq ids id ≡ has_column columns.now id) }
 {
-    columns.iter().any(|column| column.id == id)
+    let mut ids = IndexSet::new(alloc);
+    for column in columns {
+        ids.insert(column.id)?;
+    }
+    Ok(ids)
 }
 
 /// Whether the sources of all these partition fields are columns.
-fn are_partition_sources(columns: &[Column], fields: &[UnboundField]) -> bool
-    ensures { result ≡ list_all (λ field. has_column columns.now field.source_id) fields.now }
+fn are_partition_sources(
+    alloc: Global,
+    columns: &[Column],
+    fields: &[UnboundField],
+) -> Result<bool, AllocError>
+    ensures { IfOk result (λ known. known ≡ list_all (λ field. has_column columns.now field.source_id) fields.now) }
 {
-    fields
-        .iter()
-        .all(|field| has_column(columns, field.source_id))
+    if fields.is_empty() {
+        return Ok(true);
+    }
+    let ids = ids_of(alloc, columns)?;
+    Ok(has_partition_sources(&ids, fields))
 }
 
 /// Whether the sources of all these sort fields are columns.
-fn are_sort_sources(columns: &[Column], fields: &[SortField]) -> bool
-    ensures { result ≡ list_all (λ field. has_column columns.now field.source_id) fields.now }
+fn are_sort_sources(
+    alloc: Global,
+    columns: &[Column],
+    fields: &[SortField],
+) -> Result<bool, AllocError>
+    ensures { IfOk result (λ known. known ≡ list_all (λ field. has_column columns.now field.source_id) fields.now) }
 {
-    fields
-        .iter()
-        .all(|field| has_column(columns, field.source_id))
-}
-
-fn is_same_id(left: Option<u32>, right: Option<u32>) -> bool
-    ensures { result ≡ is_same_id left right }
-{
-    match (left, right) {
-        (Some(left), Some(right)) => left == right,
-        _ => false,
+    if fields.is_empty() {
+        return Ok(true);
     }
+    let ids = ids_of(alloc, columns)?;
+    Ok(has_sort_sources(&ids, fields))
 }
 
-/// Whether two fields are asked for with one id or one name.
-fn is_same_field(left: &UnboundField, right: &UnboundField) -> bool
-    ensures { result ≡ is_same_field left.now right.now }
+fn has_partition_sources(ids: &IndexSet<u32>, fields: &[UnboundField]) -> bool
+    ensures { result ≡ list_all (λ field. contains nat_eq ids.now field.source_id) fields.now }
 {
-    is_same_id(left.field_id, right.field_id) || left.name == right.name
+    fields.iter().all(|field| ids.contains(&field.source_id))
 }
 
-/// Whether one of these fields is asked for with the id or the name of the first.
-fn is_among(field: &UnboundField, others: &[UnboundField]) -> bool
-    ensures { result ≡ list_any (is_same_field field.now) others.now }
+fn has_sort_sources(ids: &IndexSet<u32>, fields: &[SortField]) -> bool
+    ensures { result ≡ list_all (λ field. contains nat_eq ids.now field.source_id) fields.now }
 {
-    others.iter().any(|other| is_same_field(field, other))
+    fields.iter().all(|field| ids.contains(&field.source_id))
 }
 
 /// Whether two of these fields are asked for with one id or one name.
-#[tactic(auto, using(crate::proofs::CreationLemmas::stands_twice_past))]
-fn is_field_twice(fields: &[UnboundField]) -> bool
-    ensures { result ≡ stands_twice is_same_field fields.now }
+#[tactic(auto, using(crate::proofs::CreationLemmas::twice_either))]
+fn is_field_twice(alloc: Global, fields: &[UnboundField]) -> Result<bool, AllocError>
+    ensures { IfOk result (λ twice. twice ≡ stands_twice is_same_field fields.now) }
 {
-    for (place, field) in fields.iter().enumerate() {
-        if is_among(field, &fields[place + 1..]) {
-            return true;
+    if is_id_twice(alloc, fields)? {
+        return Ok(true);
+    }
+    is_name_twice(alloc, fields)
+}
+
+/// Whether two of these fields are asked for with one id.
+fn is_id_twice(alloc: Global, fields: &[UnboundField]) -> Result<bool, AllocError>
+    ensures { IfOk result (λ twice. twice ≡ stands_twice is_same_given fields.now) }
+{
+    let mut ids = IndexSet::new(alloc);
+    for field in fields {
+        if let Some(id) = field.field_id {
+            if !ids.insert(id)? {
+                return Ok(true);
+            }
         }
     }
-    false
+    Ok(false)
+}
+
+/// Whether two of these fields are asked for with one name.
+fn is_name_twice(alloc: Global, fields: &[UnboundField]) -> Result<bool, AllocError>
+    ensures { IfOk result (λ twice. twice ≡ stands_twice is_same_name fields.now) }
+{
+    let mut names = IndexSet::new(alloc);
+    for field in fields {
+        if !names.insert(field.name.clone()?)? {
+            return Ok(true);
+        }
+    }
+    Ok(false)
 }
 
 /// The highest id that fields are asked for with, at least 999.
@@ -134,50 +167,42 @@ fn unnumbered(fields: &[UnboundField]) -> usize
         .count()
 }
 
-/// Judges a partition spec, and tells above which id its fields get theirs.
-#[tactic(auto, unfolding(crate::specs::Creation::spec_refusal))]
-fn judge_spec(columns: &[Column], fields: &[UnboundField]) -> Result<u32, Why>
-    ensures highest { IfOk result (λ highest. highest ≡ highest_given fields.now) }
-    ensures bounded { OnOk result (highest_given fields.now + unnumbered fields.now ≤ 2147483647) }
-    ensures passes { OnOk result (spec_refusal columns.now fields.now ≡ None) }
-    ensures refused { IfErr result (λ why. spec_refusal columns.now fields.now ≡ Some why) }
-{
-    if !are_partition_sources(columns, fields) {
-        return Err(Why::NoSuchField);
-    }
-    if is_field_twice(fields) {
-        return Err(Why::FieldTwice);
-    }
-    let highest = highest_given(fields);
-    if highest as u64 + unnumbered(fields) as u64 > HIGHEST_ID {
-        return Err(Why::IdsUsedUp);
-    }
-    Ok(highest)
-}
-
-#[tactic(auto, unfolding(crate::specs::Creation::order_refusal))]
-fn judge_order(columns: &[Column], fields: &[SortField]) -> Result<(), Why>
-    ensures passes { OnOk result (order_refusal columns.now fields.now ≡ None) }
-    ensures refused { IfErr result (λ why. order_refusal columns.now fields.now ≡ Some why) }
-{
-    if are_sort_sources(columns, fields) {
-        Ok(())
-    } else {
-        Err(Why::NoSuchField)
-    }
-}
-
 /// Judges what a table is asked for with, and tells above which id its partition fields get theirs.
-#[tactic(auto, unfolding(crate::specs::Creation::create_refusal))]
-fn judge(schema: &Schema, spec: &UnboundSpec, order: &UnboundOrder) -> Result<u32, Why>
+#[tactic(auto, unfolding(crate::specs::Creation::create_refusal, crate::specs::Creation::spec_refusal, crate::specs::Creation::order_refusal))]
+fn judge(
+    alloc: Global,
+    schema: &Schema,
+    spec: &UnboundSpec,
+    order: &UnboundOrder,
+) -> Result<u32, CreateRefused>
     ensures highest { IfOk result (λ highest. highest ≡ highest_given spec.now.fields) }
     ensures bounded { OnOk result (highest_given spec.now.fields + unnumbered spec.now.fields ≤ 2147483647) }
     ensures passes { OnOk result (create_refusal schema.now spec.now order.now ≡ None) }
-    ensures refused { IfErr result (λ why. create_refusal schema.now spec.now order.now ≡ Some why) }
+    ensures refused { IfErr result (IsCreateRefusal schema.now spec.now order.now) }
 {
     let columns = schema.fields.as_slice();
-    let highest = judge_spec(columns, spec.fields.as_slice())?;
-    judge_order(columns, order.fields.as_slice())?;
+    let fields = spec.fields.as_slice();
+    if !are_partition_sources(alloc, columns, fields)? {
+        return Err(CreateRefused::Refused {
+            why: Why::NoSuchField,
+        });
+    }
+    if is_field_twice(alloc, fields)? {
+        return Err(CreateRefused::Refused {
+            why: Why::FieldTwice,
+        });
+    }
+    let highest = highest_given(fields);
+    if highest as u64 + unnumbered(fields) as u64 > HIGHEST_ID {
+        return Err(CreateRefused::Refused {
+            why: Why::IdsUsedUp,
+        });
+    }
+    if !are_sort_sources(alloc, columns, order.fields.as_slice())? {
+        return Err(CreateRefused::Refused {
+            why: Why::NoSuchField,
+        });
+    }
     Ok(highest)
 }
 

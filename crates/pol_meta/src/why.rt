@@ -1,5 +1,5 @@
 ghost use Rattle.std.specs.Prelude.{◌≡◌};
-ghost use Rattle.pol_meta.specs.declared.why.CreateRefused.TheVariants.{OutOfMemory, Refused};
+ghost use Rattle.pol_meta.specs.declared.why.CreateRefused.TheVariants.{OutOfMemory};
 
 use std::alloc::{AllocError, AllocFailed};
 
@@ -54,13 +54,5 @@ impl<T: Drop> From<AllocFailed<T>> for CreateRefused {
 
     fn from(_error: AllocFailed<T>) -> Self {
         CreateRefused::OutOfMemory
-    }
-}
-
-impl From<Why> for CreateRefused {
-    ghost from_gives = { λ why refused. refused ≡ Refused why };
-
-    fn from(why: Why) -> Self {
-        CreateRefused::Refused { why }
     }
 }

@@ -1,4 +1,5 @@
 pub mod ColumnsLemmas
+pub mod FailedLemmas
 pub mod FormLemmas
 pub mod KindLemmas
 pub mod NumeralLemmas

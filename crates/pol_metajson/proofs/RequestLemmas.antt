@@ -41,7 +41,7 @@ given_formed : (d : Data) (given : Option ℕ) → MayHaveField FIELD_ID.now (Is
 given_formed d None so = tt
 given_formed d (Some id) so = record { least = so.3.1; most = so.3.2 }
 
-partition_field_formed : (d : Data) (value : UnboundField) → unbound_field.stands d value → IsUnboundField value
+pub partition_field_formed : (d : Data) (value : UnboundField) → unbound_field.stands d value → IsUnboundField value
 unfolding unbound_field
 partition_field_formed d value so =
     subst IsUnboundField (sym so.2.2.2.2.2)
@@ -57,7 +57,7 @@ spec_formed d value so =
     subst (λ (other : UnboundSpec). All IsUnboundField other.fields) (sym so.2.2.2)
     (items_hold IsUnboundField unbound_field.stands partition_field_formed so.2.2.1.2.0 so.2.2.0 so.2.2.1.2.2)
 
-sort_field_formed : (d : Data) (value : SortField) → sort_field.stands d value → IsSortField value
+pub sort_field_formed : (d : Data) (value : SortField) → sort_field.stands d value → IsSortField value
 unfolding sort_field
 sort_field_formed d value so =
     subst IsSortField (sym so.2.2.2.2.2)

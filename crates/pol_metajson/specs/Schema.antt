@@ -45,7 +45,9 @@ plain_form = text_of plain_typed
 -- a name that isn't empty, and that none of the columns beside it has
 abbrev pub is_named : List ℕ → Part → Bool
 is_named name (Field other required doc) = bytes_eq other name
-is_named name other = false
+is_named name (Element required) = false
+is_named name Key = false
+is_named name (Value required) = false
 
 abbrev pub has_name : ℕ → List ℕ → Column → Bool
 has_name depth name column = column.depth == depth && is_named name column.part

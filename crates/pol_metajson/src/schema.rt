@@ -90,6 +90,9 @@ fn known_at(alloc: Global, key: &str, columns: &[Column], ids: &[u32]) -> Result
 fn known(alloc: Global, columns: &[Column], ids: &[u32]) -> Result<(), ReadError>
     ensures { Gives result (known_from (has_field columns.now) 0 ids.now) }
 {
+    if ids.is_empty() {
+        return Ok(());
+    }
     let fields = field_ids(alloc, columns)?;
     for (place, id) in ids.iter().enumerate() {
         if !fields.contains(id) {

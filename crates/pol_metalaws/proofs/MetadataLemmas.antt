@@ -1,17 +1,14 @@
 -- A printed metadata is read as the same.
-use Rattle.std.proofs.Common.{◌≡◌, ◌≤◌, ℕ, Bool, true, false, cond, List, [], ◌∷◌, codes, All, Contains, Option, None, Some, Ok, option_map, find, IfSome, bytes_eq, refl, sym, subst, arith, inl}
-use Rattle.std.specs.List.{AllByRecursion}
-use Rattle.std.proofs.lemmas.List.Elements.{All-map}
-use Rattle.serde_json.specs.Data.{Data, Members, object, string}
+use Rattle.std.proofs.Common.{◌≡◌, ◌≤◌, ℕ, List, All, Option, None, Some, Ok, option_map, IsUtf8, refl, sym, ap, ◌∙◌, arith, inl}
+use Rattle.serde_json.specs.Data.{Data, Members, depth, object, string}
 use Rattle.serde_json.specs.Find.{get}
+use Rattle.serde_json.specs.Read.{max_depth, read}
 use Rattle.uuid.specs.Text.{hyphenated_text, lower}
 use Rattle.uuid.proofs.RoundTrips.{parses_hyphenated}
-use Rattle.pol_meta.specs.Valid.{IsId, IsLong, IsMetadataLogEntry, IsNamedRef, IsPartitionSpec, IsSchema, IsSnapshotLogEntry, IsSortOrder, IsValid, order_ids, schema_ids, snapshot_named, spec_ids}
+use Rattle.pol_meta.specs.Valid.{HasForms, IsLong, IsMetadataLogEntry, IsPartitionSpec, IsSchema, IsSnapshotLogEntry, IsSortOrder}
 use Rattle.pol_meta.specs.declared.metadata.TableMetadata.{TableMetadata}
-use Rattle.pol_meta.specs.declared.partition.PartitionSpec.{PartitionSpec}
-use Rattle.pol_meta.specs.declared.reference.NamedRef.{NamedRef}
-use Rattle.pol_meta.specs.declared.schema.Schema.{Schema}
-use Rattle.pol_meta.specs.declared.sort.SortOrder.{SortOrder}
+use Rattle.pol_readers.specs.Exactness.{bodies_exact}
+use Rattle.pol_readers.specs.Forms.{body}
 use Rattle.pol_metaread.specs.Ids.{long}
 use Rattle.pol_metaread.specs.Metadata.{current, described, listing, numbers, table_metadata, uuid}
 use Rattle.pol_metaread.specs.Numbered.{numbered_schema, partition_spec, sort_order}
@@ -20,7 +17,6 @@ use Rattle.pol_metakeys.specs.declared.keys.TheConstants as key
 use Rattle.pol_metaprint.specs.Json.{list_json, metadata_log_entry_json, number_json, pairs_json, partition_spec_json, refs_json, snapshot_json, snapshot_log_entry_json, sort_order_json}
 use Rattle.pol_metaprint.specs.Metadata.{put_current, put_numbers, put_shapes, put_snapshots, put_table, schema_json, table_json}
 use Rattle.pol_metalaws.specs.Laws.{IsHeld, IsUuid}
-use Rattle.pol_metalaws.proofs.ColumnLemmas.{by_recursion}
 use Rattle.pol_metalaws.proofs.ObjectLemmas as objects
 use Rattle.pol_metalaws.proofs.PartLemmas.{partition_spec_read, sort_order_read}
 use Rattle.pol_metalaws.proofs.SchemaLemmas.{schema_read}
@@ -85,24 +81,7 @@ an_object : (m : TableMetadata) → (ms : Members) × (table_json m ≡ object m
 unfolding table_json
 an_object m = (_, refl)
 
--- what holds of all ids holds of one among them
-among : (P : ℕ → Type 0) (ids : List ℕ) (one : ℕ) → All P ids → Contains ids one → P one
-among P ids one all there = subst P there.2 (all there.0 one there.1)
-
-first_long : (here : Bool) (named : NamedRef) (rest : Option NamedRef) → IsLong named.reference.snapshot_id
-    → IfSome (option_map (λ (one : NamedRef). one.reference.snapshot_id) rest) IsLong
-    → IfSome (option_map (λ (one : NamedRef). one.reference.snapshot_id) (cond here (Some named) rest)) IsLong
-first_long true named rest fits later = fits
-first_long false named rest fits later = later
-
-named_long : (name : List ℕ) (refs : List NamedRef) → AllByRecursion IsNamedRef refs
-    → IfSome (snapshot_named name refs) IsLong
-named_long name [] all = tt
-named_long name (named ∷ refs) all =
-    first_long (bytes_eq named.name name) named (find (λ (one : NamedRef). bytes_eq one.name name) refs)
-    all.0.snapshot (named_long name refs all.1)
-
-current_read : (m : TableMetadata) → IsValid m
+current_read : (m : TableMetadata) → HasForms m
     → current.stands (table_json m) (record {
       schema = m.current_schema_id;
       snapshot = m.current_snapshot_id;
@@ -111,38 +90,22 @@ current_read : (m : TableMetadata) → IsValid m
       spec = m.default_spec_id;
     })
 unfolding current CurrentGets Has
-current_read m valid =
-    let gets = current_gets m m.current_snapshot_id refl in
-    let members = valid.members in
-    let forms = valid.forms in
-    let columns : IsId m.current_schema_id =
-    among IsId (schema_ids m.schemas) m.current_schema_id
-    (All-map IsId (λ (one : Schema). one.schema_id) m.schemas (λ k d inside. (forms.schemas k d inside).id))
-    members.schema in
-    let sorted : IsId m.default_sort_order_id =
-    among IsId (order_ids m.sort_orders) m.default_sort_order_id
-    (All-map IsId (λ (one : SortOrder). one.order_id) m.sort_orders (λ k d inside. (forms.orders k d inside).id))
-    members.order in
-    let parted : IsId m.default_spec_id =
-    among IsId (spec_ids m.partition_specs) m.default_spec_id
-    (All-map IsId (λ (one : PartitionSpec). one.spec_id) m.partition_specs
-    (λ k d inside. (forms.specs k d inside).id)) members.spec in
-    let shown : IfSome m.current_snapshot_id IsLong =
-    rw members.current (named_long (codes "main") m.refs (by_recursion IsNamedRef m.refs forms.refs)) in (
+current_read m forms =
+    let gets = current_gets m m.current_snapshot_id refl in (
       m.current_schema_id,
-      (_, gets.0, objects.up_to 2147483647 m.current_schema_id columns),
+      (_, gets.0, objects.up_to 2147483647 m.current_schema_id forms.current_schema),
       (
         m.current_snapshot_id,
-        objects.may_hold long.stands IsLong objects.long _ m.current_snapshot_id gets.1 shown,
+        objects.may_hold long.stands IsLong objects.long _ m.current_snapshot_id gets.1 forms.current_snapshot,
         (
           m.default_sort_order_id,
-          (_, gets.2, objects.up_to 2147483647 m.default_sort_order_id sorted),
-          (m.default_spec_id, (_, gets.3, objects.up_to 2147483647 m.default_spec_id parted), refl),
+          (_, gets.2, objects.up_to 2147483647 m.default_sort_order_id forms.default_order),
+          (m.default_spec_id, (_, gets.3, objects.up_to 2147483647 m.default_spec_id forms.default_spec), refl),
         ),
       ),
     )
 
-numbers_read : (m : TableMetadata) → IsValid m
+numbers_read : (m : TableMetadata) → HasForms m
     → numbers.stands (table_json m) (record {
       version = m.format_version;
       column = m.last_column_id;
@@ -152,9 +115,8 @@ numbers_read : (m : TableMetadata) → IsValid m
       updated = m.last_updated_ms;
     })
 unfolding numbers NumbersGets Has
-numbers_read m valid =
+numbers_read m forms =
     let gets = numbers_gets m m.current_snapshot_id refl in
-    let forms = valid.forms in
     let least : 2 ≤ m.format_version = omega (arith, forms.version) in
     let most : m.format_version ≤ 2 = omega (arith, forms.version) in (
       m.format_version,
@@ -174,7 +136,7 @@ numbers_read m valid =
       ),
     )
 
-described_read : (m : TableMetadata) → IsValid m → IsHeld m
+described_read : (m : TableMetadata) → HasForms m → IsHeld m
     → described.stands (table_json m) (record {
       location = m.location;
       metadata_log = m.metadata_log;
@@ -183,9 +145,8 @@ described_read : (m : TableMetadata) → IsValid m → IsHeld m
       properties = m.properties;
     })
 unfolding described DescribedGets Has
-described_read m valid held =
-    let gets = described_gets m m.current_snapshot_id refl in
-    let forms = valid.forms in (
+described_read m forms held =
+    let gets = described_gets m m.current_snapshot_id refl in (
       m.location,
       (_, gets.0, refl),
       (
@@ -209,7 +170,7 @@ described_read m valid held =
       ),
     )
 
-listing_read : (m : TableMetadata) → IsValid m → IsHeld m
+listing_read : (m : TableMetadata) → HasForms m → IsHeld m
     → listing.stands (table_json m) (record {
       refs = m.refs;
       schemas = m.schemas;
@@ -217,13 +178,12 @@ listing_read : (m : TableMetadata) → IsValid m → IsHeld m
       snapshots = m.snapshots;
     })
 unfolding listing ListingGets Has
-listing_read m valid held =
+listing_read m forms held =
     let gets = listing_gets m m.current_snapshot_id refl in
-    let forms = valid.forms in
     let snapshots : All IsKeptSnapshot m.snapshots = λ k d inside. record
     { form = forms.snapshots k d inside; summary = held.summaries k d inside } in (
       m.refs,
-      (_, gets.0, refs_read m.refs forms.refs valid.ids.refs),
+      (_, gets.0, refs_read m.refs forms.refs forms.ordered),
       (
         m.schemas,
         (_, gets.1, objects.list_read numbered_schema.stands schema_json IsSchema schema_read m.schemas forms.schemas),
@@ -258,31 +218,31 @@ uuid_read bytes valid = (
       (parses_hyphenated lower bytes (inl refl) valid.count valid.bytes),
 )
 
-table_stands : (m : TableMetadata) → IsValid m → IsHeld m → table_metadata.stands (table_json m) m
+table_stands : (m : TableMetadata) → HasForms m → IsHeld m → table_metadata.stands (table_json m) m
 unfolding table_metadata ListingGets Has
-table_stands m valid held =
+table_stands m forms held =
     let gets = listing_gets m m.current_snapshot_id refl in (
       tt,
       an_object m,
       (
         _,
-        current_read m valid,
+        current_read m forms,
         (
           _,
-          numbers_read m valid,
+          numbers_read m forms,
           (
             _,
-            described_read m valid held,
+            described_read m forms held,
             (
               _,
-              listing_read m valid held,
+              listing_read m forms held,
               (
                 m.sort_orders,
                 (
                   _,
                   gets.4,
                   objects.list_read sort_order.stands sort_order_json IsSortOrder sort_order_read
-                      m.sort_orders valid.forms.orders,
+                      m.sort_orders forms.orders,
                 ),
                 (m.table_uuid, (_, gets.5, uuid_read m.table_uuid held.uuid), refl),
               ),
@@ -292,5 +252,13 @@ table_stands m valid held =
       ),
     )
 
-pub printed_is_read : (m : TableMetadata) → IsValid m → IsHeld m → table_metadata.read (table_json m) ≡ Ok m
-printed_is_read m valid held = table_metadata.exact.complete (table_json m) m (table_stands m valid held)
+pub printed_is_read : (m : TableMetadata) → HasForms m → IsHeld m → table_metadata.read (table_json m) ≡ Ok m
+printed_is_read m forms held = table_metadata.exact.complete (table_json m) m (table_stands m forms held)
+
+-- so is a text that is read as what is printed
+pub text_is_read : (m : TableMetadata) (d : Data) (text : List ℕ) → HasForms m → IsHeld m → d ≡ table_json m
+    → depth d ≤ max_depth → IsUtf8 text → (depth d ≤ max_depth → read text ≡ Some d)
+    → body table_metadata.read text ≡ Ok m
+text_is_read m d text forms held is nests utf8 back =
+    (bodies_exact table_metadata.exact).complete text m
+    (table_json m, utf8, back nests ∙ ap Some is, an_object m, table_stands m forms held)

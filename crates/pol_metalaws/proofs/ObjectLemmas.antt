@@ -1,21 +1,20 @@
 -- Printed lists and objects of entries are read member by member.
-use Rattle.std.proofs.Common.{◌≡◌, ◌≤◌, ℕ, Bool, true, false, cond, List, [], ◌∷◌, ◌++◌, map, filter, Option, Some, None, option_map, find, IfSome, All, bytes_eq, Ordering, Less, Equal, Greater, refl, sym, ap, subst, ◌∙◌, append_assoc, arith, inl}
+use Rattle.std.proofs.Common.{◌≡◌, ◌≤◌, ℕ, List, [], ◌∷◌, ◌++◌, map, filter, Option, Some, None, option_map, IfSome, All, Ordering, Less, Greater, refl, sym, ap, subst, ◌∙◌, append_assoc, arith, inl}
 use Rattle.std.specs.Cmp.Lexicographic.{slice_cmp}
 use Rattle.std.specs.List.{AllByRecursion, fold}
 use Rattle.std.specs.List.Sorted.{IsStrictlySortedBy}
-use Rattle.std.specs.Ordering.{is_eq, is_gt, is_lt, match_ordering, nat_cmp, ordering_reverse}
+use Rattle.std.specs.Ordering.{is_gt, is_lt, nat_cmp, ordering_reverse}
 use Rattle.std.proofs.lemmas.Cmp.{nat_list_cmp_total}
 use Rattle.std.proofs.lemmas.List.{append-nil}
 use Rattle.std.proofs.lemmas.List.Elements.{All-head, All-tail}
-use Rattle.std.proofs.lemmas.Map.Text.{is_eq-slice_cmp}
-use Rattle.serde_json.specs.Data.{Data, Members, no_members, member, object, put, string}
-use Rattle.serde_json.specs.Find.{get_member}
+use Rattle.serde_json.specs.Data.{Data, no_members, member, object, put, string}
 use Rattle.serde_json.specs.View.{items_of}
-use Rattle.pol_properties.specs.Properties.{KeysAscend, compared, has_key, of_pairs, value_of, with_value}
+use Rattle.pol_properties.specs.Properties.{KeysAscend, compared, of_pairs, with_value}
 use Rattle.pol_properties.specs.declared.property.Property.{Property}
 use Rattle.pol_meta.specs.Valid.{IsLong}
 use Rattle.pol_readers.specs.Grammar.{AreItems, AreMembers, IsList, IsText, IsWhole, MayHold}
 use Rattle.pol_metajson.specs.Table.{text_map}
+use Rattle.pol_metaread.proofs.PairLemmas.{listing, pair_members}
 use Rattle.pol_metaprint.specs.Json.{list_json, number_json, pairs_json}
 
 -- a number within its bounds
@@ -68,12 +67,8 @@ module _ {A B : Type 0} (c : A → A → Ordering) (step : B → A → B) (built
 
 -- entries under rising keys stand in their order
 module _ {A : Type 0} (key : A → List ℕ) (json : A → Data) where
-  abbrev pub listing : List A → Members
-  listing [] = no_members
-  listing (x ∷ xs) = member (key x) (json x) (listing xs)
-
   put_last : (done : List A) (x : A) → AllByRecursion (λ y. slice_cmp nat_cmp (key y) (key x) ≡ Less) done
-      → put (key x) (json x) (listing done) ≡ listing (done ++ x ∷ [])
+      → put (key x) (json x) (listing key json done) ≡ listing key json (done ++ x ∷ [])
   put_last [] x all = refl
   put_last (y ∷ done) x all =
       let above : slice_cmp nat_cmp (key x) (key y) ≡ Greater =
@@ -81,14 +76,14 @@ module _ {A : Type 0} (key : A → List ℕ) (json : A → Data) where
       rw above (ap (member (key y) (json y)) (put_last done x all.1))
 
   pub put_all : (xs : List A) → IsStrictlySortedBy (λ left right. slice_cmp nat_cmp (key left) (key right)) xs
-      → fold (λ members x. put (key x) (json x) members) no_members xs ≡ listing xs
+      → fold (λ members x. put (key x) (json x) members) no_members xs ≡ listing key json xs
   put_all xs sorted =
       folded (λ left right. slice_cmp nat_cmp (key left) (key right)) (λ members x. put (key x) (json x) members)
-      listing put_last [] xs sorted
+      (listing key json) put_last [] xs sorted
 
   pub entries_read : {B : Type 0} (value : A → B) (of : Data → B → Type 0) (P : A → Type 0)
       → ((x : A) → P x → of (json x) (value x))
-      → (xs : List A) → All P xs → AreMembers of (listing xs) (map (λ x. (key x, value x)) xs)
+      → (xs : List A) → All P xs → AreMembers of (listing key json xs) (map (λ x. (key x, value x)) xs)
   entries_read value of P each [] all = tt
   entries_read value of P each (x ∷ xs) all =
       (refl, each x (All-head P x xs all), entries_read value of P each xs (All-tail P x xs all))
@@ -114,10 +109,6 @@ of_rising_pairs pairs rise =
     folded (λ left right. slice_cmp nat_cmp left.key right.key) (λ made pair. with_value pair made) (λ done. done)
     set_last [] pairs rise
 
--- the members that pairs make
-abbrev pub pair_members : List Property → Members
-pair_members pairs = listing (λ (pair : Property). pair.key) (λ pair. string pair.value) pairs
-
 pub pairs_put : (pairs : List Property) → KeysAscend pairs → pairs_json pairs ≡ object (pair_members pairs)
 unfolding pairs_json
 pairs_put pairs rise = ap object (put_all (λ (pair : Property). pair.key) (λ pair. string pair.value) pairs rise)
@@ -140,31 +131,3 @@ pairs_read pairs rise = (
   (pair_members pairs, pairs_put pairs rise, texts_read pairs),
   sym (rw (same_pairs pairs) (of_rising_pairs pairs rise)),
 )
-
--- the text under a key
-reversed_eq : (o : Ordering) → is_eq (ordering_reverse o) ≡ is_eq o
-reversed_eq Less = refl
-reversed_eq Equal = refl
-reversed_eq Greater = refl
-
-at_equal : (o : Ordering) (here : Data) (later : Option Data)
-    → match_ordering o later (Some here) later ≡ cond (is_eq o) (Some here) later
-at_equal Less here later = refl
-at_equal Equal here later = refl
-at_equal Greater here later = refl
-
-text_of_first : (b : Bool) (pair : Property) (rest : Option Property)
-    → cond b (Some (string pair.value)) (option_map string (option_map (λ (other : Property). other.value) rest))
-    ≡ option_map string (option_map (λ (other : Property). other.value) (cond b (Some pair) rest))
-text_of_first true pair rest = refl
-text_of_first false pair rest = refl
-
-pub text_under : (key : List ℕ) (pairs : List Property)
-    → get_member key (pair_members pairs) ≡ option_map string (value_of key pairs)
-text_under key [] = refl
-text_under key (pair ∷ pairs) =
-    let flipped : is_eq (slice_cmp nat_cmp key pair.key) ≡ bytes_eq pair.key key =
-    ap is_eq (nat_list_cmp_total.antisymm key pair.key) ∙ reversed_eq (slice_cmp nat_cmp pair.key key) ∙
-    is_eq-slice_cmp pair.key key in
-    at_equal (slice_cmp nat_cmp key pair.key) (string pair.value) (get_member key (pair_members pairs))
-    ∙ rw (flipped, text_under key pairs) (text_of_first (bytes_eq pair.key key) pair (find (has_key key) pairs))

@@ -17,6 +17,7 @@ use Rattle.pol_meta.specs.declared.snapshot.Snapshot.{Snapshot}
 use Rattle.pol_readers.specs.Forms.{one_of, text}
 use Rattle.pol_readers.specs.Shape.{Shape}
 use Rattle.pol_metajson.specs.Ids.{id}
+use Rattle.pol_metaread.proofs.PairLemmas.{listing, text_under}
 use Rattle.pol_metaread.specs.Ids.{kept, long}
 use Rattle.pol_metaread.specs.Snapshot.{made, metadata_log_entry, operation, ref_kind, reference, refs, snapshot, snapshot_log_entry}
 use Rattle.pol_metakeys.specs.declared.keys.TheConstants as key
@@ -71,7 +72,7 @@ made_read s valid rise =
     let told = valid.operation in
     let found = operation_read told.0 told.2 in
     let there : get key.OPERATION.now (pairs_json s.summary) ≡ Some (string told.0) =
-    rw (objects.pairs_put s.summary rise, objects.text_under (codes "operation") s.summary, told.1) refl in
+    rw (objects.pairs_put s.summary rise, text_under (codes "operation") s.summary, told.1) refl in
     (_, (found.0, (string told.0, there, found.1), refl))
 
 -- the members of a snapshot, whichever of the numbers that may be absent are there
@@ -255,7 +256,7 @@ unfolding refs refs_json
 refs_read named valid rise = (
   map (λ (one : NamedRef). (one.name, one.reference)) named,
   (
-    objects.listing (λ (one : NamedRef). one.name) (λ one. reference_json one.reference) named,
+    listing (λ (one : NamedRef). one.name) (λ one. reference_json one.reference) named,
     ap object (objects.put_all (λ (one : NamedRef). one.name) (λ one. reference_json one.reference) named rise),
     objects.entries_read (λ (one : NamedRef). one.name) (λ one. reference_json one.reference) (λ one. one.reference)
         reference.stands IsNamedRef reference_read named valid,

@@ -1,7 +1,7 @@
 -- What is printed of a metadata is read as the same metadata.
 use Rattle.std.specs.Prelude.{◌≡◌, ◌<◌, ℕ, length, List, All, Ok}
 use Rattle.pol_properties.specs.Properties.{KeysAscend}
-use Rattle.pol_meta.specs.Valid.{IsValid}
+use Rattle.pol_meta.specs.Valid.{HasForms}
 use Rattle.pol_meta.specs.declared.metadata.TableMetadata.{TableMetadata}
 use Rattle.pol_readers.specs.Forms as form
 use Rattle.pol_readers.specs.Grammar.{Exact, IsBody}
@@ -19,9 +19,9 @@ pub record IsHeld (meta : TableMetadata) : Type 0 where
   pub summaries : All (λ snapshot. KeysAscend snapshot.summary) meta.snapshots
   pub uuid : IsUuid meta.table_uuid
 
--- a valid metadata is read of what is printed of it
+-- a metadata whose parts have their forms is read of what is printed of it
 abbrev pub PrintedIsRead : Type 0
-PrintedIsRead = (meta : TableMetadata) → IsValid meta → IsHeld meta → table_metadata.read (table_json meta) ≡ Ok meta
+PrintedIsRead = (meta : TableMetadata) → HasForms meta → IsHeld meta → table_metadata.read (table_json meta) ≡ Ok meta
 
 -- a metadata is read exactly where the bytes are an object of JSON that is of the grammar
 abbrev pub MetadataAreExact : Type 0

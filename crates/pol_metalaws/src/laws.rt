@@ -1,7 +1,7 @@
 //! Theorems over the definitions of the crates below. Their bodies are empty.
 ghost use Rattle.pol_metalaws.specs.Laws.{MetadataAreExact, PrintedIsRead};
 
-/// What is printed of a valid metadata is read as the same metadata.
+/// What is printed of a metadata whose parts have their forms is read as the same metadata.
 pub fn printed_is_read()
     ensures { PrintedIsRead }
 {}

@@ -3,5 +3,7 @@
 
 mod held;
 pub mod laws;
+mod text;
 
 pub use held::each_is_held;
+pub use text::table_text;

@@ -1,2 +1,3 @@
+pub mod DepthLemmas
 pub mod TreesLemmas
 pub mod WholeLemmas

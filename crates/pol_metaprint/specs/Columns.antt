@@ -21,12 +21,14 @@ abbrev pub put_text : List ℕ → Option (List ℕ) → Members → Members
 put_text key None members = members
 put_text key (Some text) members = put key (string text) members
 
--- a field of a struct; what is no field isn't printed
+-- a field of a struct; a part that is no field, and no struct holds one, is printed as null
 abbrev pub part_json : Part → ℕ → Data → Data
 part_json (Field name required doc) id json =
     object (put TYPE.now json (put REQUIRED.now (boolean required) (put NAME.now (string name)
     (put ID.now (number_json id) (put_text DOC.now doc no_members)))))
-part_json other id json = null
+part_json (Element required) id json = null
+part_json Key id json = null
+part_json (Value required) id json = null
 
 unfoldable pub field_json : Tree → Data
 field_json tree = part_json tree.column.part tree.column.id tree.json
@@ -54,18 +56,34 @@ pair_json key value =
 
 -- a list has one column in it, and a map two
 unfoldable pub list_of : List Tree → Data
+list_of [] = null
 list_of (element ∷ []) = element_json element
-list_of trees = null
+list_of (element ∷ next ∷ others) = null
 
 unfoldable pub map_of : List Tree → Data
+map_of [] = null
+map_of (key ∷ []) = null
 map_of (key ∷ value ∷ []) = pair_json key value
-map_of trees = null
+map_of (key ∷ value ∷ next ∷ others) = null
 
 abbrev pub kind_json : Kind → List Tree → Data
 kind_json kind.Struct trees = struct_json trees
 kind_json kind.List trees = list_of trees
 kind_json kind.Map trees = map_of trees
-kind_json other trees = string (kind_text other)
+kind_json kind.Boolean trees = string (kind_text kind.Boolean)
+kind_json kind.Int trees = string (kind_text kind.Int)
+kind_json kind.Long trees = string (kind_text kind.Long)
+kind_json kind.Float trees = string (kind_text kind.Float)
+kind_json kind.Double trees = string (kind_text kind.Double)
+kind_json kind.Date trees = string (kind_text kind.Date)
+kind_json kind.Time trees = string (kind_text kind.Time)
+kind_json kind.Timestamp trees = string (kind_text kind.Timestamp)
+kind_json kind.Timestamptz trees = string (kind_text kind.Timestamptz)
+kind_json kind.String trees = string (kind_text kind.String)
+kind_json kind.Uuid trees = string (kind_text kind.Uuid)
+kind_json kind.Binary trees = string (kind_text kind.Binary)
+kind_json (kind.Decimal precision scale) trees = string (kind_text (kind.Decimal precision scale))
+kind_json (kind.Fixed length) trees = string (kind_text (kind.Fixed length))
 
 -- those at the head that are deeper, and the others
 abbrev pub inner_of : ℕ → List Tree → List Tree

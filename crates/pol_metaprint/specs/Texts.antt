@@ -38,7 +38,7 @@ abbrev pub ref_kind_text : RefKind → List ℕ
 ref_kind_text Branch = BRANCH.now
 ref_kind_text Tag = TAG.now
 
--- types without columns; those with columns have no word of their own
+-- the words of types; one with columns in it has the word that says which it is
 abbrev pub kind_text : Kind → List ℕ
 kind_text kind.Boolean = codes "boolean"
 kind_text kind.Int = codes "int"

@@ -1,8 +1,10 @@
 //! Schemas and whole metadata.
-ghost use Rattle.std.specs.Prelude.{◌≡◌, false, IfOk};
-ghost use Rattle.serde_json.specs.Data.{object};
+ghost use Rattle.std.specs.Prelude.{◌≡◌, ◌≤◌, false, IfOk};
+ghost use Rattle.serde_json.specs.Data.{depth, object};
+ghost use Rattle.serde_json.specs.Read.{max_depth};
 ghost use Rattle.serde_json.specs.View.{members_view, view};
 ghost use Rattle.serde_json.specs.Written.{has_float};
+ghost use Rattle.pol_meta.specs.Valid.{HasForms};
 ghost use Rattle.pol_metaprint.specs.Json as json;
 ghost use Rattle.pol_metaprint.specs.Metadata as spec;
 ghost use Rattle.uuid.specs.Text.{hyphenated_text, lower};
@@ -18,11 +20,13 @@ use serde_json::Value;
 use std::alloc::Global;
 use uuid::Uuid;
 
-/// The JSON of a metadata, in which no number is a float.
-#[tactic(auto, using(crate::proofs::WholeLemmas::table_whole))]
+/// The JSON of a metadata, in which no number is a float. Where the metadata's parts have their forms, it nests no deeper
+/// than JSON that is read may.
+#[tactic(auto, using(crate::proofs::WholeLemmas::table_whole, crate::proofs::DepthLemmas::table_nests))]
 pub fn table_value(alloc: Global, meta: &TableMetadata) -> Result<Value, OutOfMemory>
     ensures json { IfOk result (λ value. view value ≡ spec.table_json meta.now) }
     ensures whole { IfOk result (λ value. has_float (view value) ≡ false) }
+    ensures nests { HasForms meta.now → IfOk result (λ value. depth (view value) ≤ max_depth) }
 {
     let members = all_members(alloc, meta)?;
     Ok(Value::from(members))

@@ -1,6 +1,7 @@
 //! Whole metadata.
-ghost use Rattle.std.specs.Prelude.{◌≡◌};
+ghost use Rattle.std.specs.Prelude.{◌≡◌, IfOk};
 ghost use Rattle.uuid.specs.Text.{parsed};
+ghost use Rattle.pol_meta.specs.Valid.{HasForms};
 ghost use Rattle.pol_readers.specs.Reading.{Gives};
 ghost use Rattle.pol_readers.specs.Forms as form;
 ghost use Rattle.pol_metaread.specs.Metadata as spec;
@@ -23,8 +24,10 @@ use uuid::Uuid;
 
 /// Reads the metadata of a table as it is printed (Iceberg table spec, Table Metadata Fields). Its fields are tested in
 /// byte order of their keys.
+#[tactic(auto, using(crate::proofs::FormLemmas::body_holds))]
 pub fn read_table(alloc: Global, text: &[u8]) -> Result<TableMetadata, ReadError>
-    ensures { Gives result (form.body spec.table_metadata.read text.now) }
+    ensures reading { Gives result (form.body spec.table_metadata.read text.now) }
+    ensures formed { IfOk result HasForms }
 {
     let stored: Stored<TableMetadata> = read_body(alloc, text)?;
     Ok(stored.into_value())

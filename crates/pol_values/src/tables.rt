@@ -8,7 +8,7 @@ ghost use Rattle.pol_values.specs.Tables as spec;
 use crate::unread::Unread;
 use pol_meta::{CreateRefused, TableMetadata, Why};
 use pol_metajson::{TableRequest, read_create_table};
-use pol_metaprint::table_value;
+use pol_metalaws::table_text;
 use pol_metaread::read_table;
 use pol_readers::ReadError;
 use std::alloc::{AllocError, Global};
@@ -94,8 +94,7 @@ fn location_of(alloc: Global, request: &TableRequest) -> Result<String, AllocErr
 fn metadata_text(alloc: Global, meta: &TableMetadata) -> Result<String, Unread>
     ensures { IfOk result (λ text. string_bytes text ≡ compact_text (table_json meta.now)) }
 {
-    let value = table_value(alloc, meta)?;
-    Ok(value.to_string(alloc)?)
+    Ok(table_text(alloc, meta)?)
 }
 
 /// The word of a refusal.

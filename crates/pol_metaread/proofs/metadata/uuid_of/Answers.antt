@@ -1,4 +1,4 @@
-use Rattle.std.proofs.Common.{◌≡◌, ℕ, Bool, false, true, List, Option, None, Some, refl}
+use Rattle.std.proofs.Common.{◌≡◌, ℕ, false, true, List, Option, None, Some, refl}
 use Rattle.uuid.specs.Text.{parsed}
 use Rattle.pol_metaread.proofs.metadata.uuid_of.Goals as goal
 

@@ -1,4 +1,3 @@
-use Rattle.std.proofs.Common.{◌≡◌}
 use Rattle.pol_metajson.proofs.SiblingsLemmas.{names_more}
 use Rattle.pol_metajson.proofs.siblings.Siblings.with_one.Goals as goal
 

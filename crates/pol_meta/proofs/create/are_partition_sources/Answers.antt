@@ -1,0 +1,8 @@
+use Rattle.std.proofs.Common.{◌∙◌}
+use Rattle.pol_meta.proofs.CreationLemmas.{partition_sources}
+use Rattle.pol_meta.proofs.create.are_partition_sources.Goals as goal
+
+pub returns : goal.returns
+returns c =
+    c.has_partition_sources.ensures
+    ∙ partition_sources c.in_ok-ids.ids.keys c.args.columns.now c.args.fields.now c.in_ok-ids.ensures
