@@ -1,0 +1,2 @@
+pub mod IdsLemmas
+pub mod PartitionLemmas

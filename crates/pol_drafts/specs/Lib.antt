@@ -1,0 +1,5 @@
+pub mod Drafts
+pub mod Ids
+pub mod Orders
+pub mod Partitions
+pub mod Schemas

@@ -1,0 +1,4 @@
+pub mod Locations
+pub mod Snapshots
+pub mod Texts
+pub mod Updates

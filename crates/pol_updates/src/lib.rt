@@ -1,0 +1,19 @@
+//! How a commit changes a table's metadata: the updates of the Iceberg REST OpenAPI, and lists of them.
+#![tactic(auto)]
+
+mod change;
+mod commit;
+mod file_names;
+mod refused;
+mod snapshot_updates;
+mod text_updates;
+mod update;
+
+pub use change::{TableChange, TableCommit};
+pub use commit::apply;
+pub use file_names::metadata_file;
+pub use pol_drafts::MemberId;
+pub use pol_locations::Steps;
+pub use pol_requirements::{Requirement, first_unmet};
+pub use refused::ApplyRefused;
+pub use update::{LeftOut, Update};
