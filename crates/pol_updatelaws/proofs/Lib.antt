@@ -1,0 +1,13 @@
+mod ChainLemmas
+mod CurrentLemmas
+mod ListLemmas
+mod MemberLemmas
+mod OrderLemmas
+mod RefLemmas
+mod SchemaLemmas
+mod SequenceLemmas
+mod SnapshotLemmas
+mod SpecLemmas
+mod SumLemmas
+mod ValidLemmas
+mod WeightLemmas

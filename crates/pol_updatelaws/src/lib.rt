@@ -1,0 +1,4 @@
+//! Laws of lists of updates.
+#![tactic(auto)]
+
+pub mod laws;
