@@ -176,23 +176,6 @@ pub map-each : {X Y : Type 0} (f g : X → Y) (xs : List X) → AllByRecursion (
 map-each f g [] all = refl
 map-each f g (x ∷ xs) all = λ i. all.0 i ∷ map-each f g xs all.1 i
 
--- lengths
-pub length-push : {X : Type 0} (x : X) (xs : List X) (bound : ℕ) → length xs < bound → length (xs ++ x ∷ []) ≤ bound
-length-push x xs bound under = omega (arith, length-append xs (x ∷ []))
-
-length-filter : {X : Type 0} (keep : X → Bool) (xs : List X) → length (filter keep xs) ≤ length xs
-length-filter keep [] = omega arith
-length-filter keep (x ∷ xs) =
-    let rest = length-filter keep xs in
-    elim (keep x) as (λ b. length (cond b (x ∷ filter keep xs) (filter keep xs)) ≤ length (x ∷ xs)) [ true ↦ omega arith | false ↦ omega arith ]
-
-pub length-kept : {X : Type 0} (keep : X → Bool) (xs : List X) (bound : ℕ) → length xs ≤ bound → length (filter keep xs) ≤ bound
-length-kept keep xs bound within = omega (arith, length-filter keep xs)
-
-pub length-map : {X Y : Type 0} (f : X → Y) (xs : List X) → length (map f xs) ≡ length xs
-length-map f [] = refl
-length-map f (x ∷ xs) = ap (λ n. suc n) (length-map f xs)
-
 -- facts of which one is put
 module _ {T : Type 0} (code : Coded T) where
   same-equiv : IsEquivalence (same code)

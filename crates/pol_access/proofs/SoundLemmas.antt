@@ -34,7 +34,7 @@ use Rattle.pol_access.specs.declared.rows.PrincipalRow.{PrincipalRow}
 use Rattle.pol_access.specs.declared.rows.PrincipalRoleRow.{PrincipalRoleRow}
 use Rattle.pol_access.specs.declared.securable.Securable.{Securable}
 use Rattle.pol_access.specs.declared.securable.Securable.TheVariants as securable
-use Rattle.pol_access.proofs.KeptLemmas.{any-fewer, any-push, distinct-kept, distinct-with, each-kept, each-with, find-altered, find-kept, find-push, found-holds, found-passes, goes-last, holds-kept, holds-with, images-kept, knows-kept, knows-others, knows-push, length-kept, length-map, length-push, not-true, map-each, names-altered, names-push, none-found}
+use Rattle.pol_access.proofs.KeptLemmas.{any-fewer, any-push, distinct-kept, distinct-with, each-kept, each-with, find-altered, find-kept, find-push, found-holds, found-passes, goes-last, holds-kept, holds-with, images-kept, knows-kept, knows-others, knows-push, not-true, map-each, names-altered, names-push, none-found}
 
 -- ids that were given out, where more are
 pub given-later : (low high id : ℕ) → low ≤ high → IsGiven low id → IsGiven high id
@@ -49,16 +49,16 @@ securable-later low high (securable.View id) more given = given-later low high i
 
 -- facts that are put, that a filter keeps, and that are as they should be in another way
 module _ {T : Type 0} (code : Coded T) where
-  facts-put : (IsOf : T → Type 0) (fact : T) (facts : List T) → AreFacts code IsOf facts → IsOf fact → length (facts_with code fact facts) ≤ 100000 → AreFacts code IsOf (facts_with code fact facts)
-  facts-put IsOf fact facts are here room =
-      record { differ = distinct-with code fact facts are.differ; each = each-with code IsOf fact facts are.each here; bound = room }
+  facts-put : (IsOf : T → Type 0) (fact : T) (facts : List T) → AreFacts code IsOf facts → IsOf fact → AreFacts code IsOf (facts_with code fact facts)
+  facts-put IsOf fact facts are here =
+      record { differ = distinct-with code fact facts are.differ; each = each-with code IsOf fact facts are.each here }
 
   facts-as : (IsOf Is : T → Type 0) (facts : List T) → ((fact : T) → IsOf fact → Is fact) → AreFacts code IsOf facts → AreFacts code Is facts
-  facts-as IsOf Is facts so are = record { differ = are.differ; each = each-weaken IsOf Is facts so are.each; bound = are.bound }
+  facts-as IsOf Is facts so are = record { differ = are.differ; each = each-weaken IsOf Is facts so are.each }
 
   facts-kept : (IsOf Is : T → Type 0) (keep : T → Bool) (facts : List T) → ((fact : T) → IsOf fact → keep fact ≡ true → Is fact) → AreFacts code IsOf facts → AreFacts code Is (filter keep facts)
   facts-kept IsOf Is keep facts so are =
-      record { differ = distinct-kept (same code) keep facts are.differ; each = each-kept IsOf Is keep facts are.each so; bound = length-kept keep facts 100000 are.bound }
+      record { differ = distinct-kept (same code) keep facts are.differ; each = each-kept IsOf Is keep facts are.each so }
 
   facts-fewer : (IsOf : T → Type 0) (keep : T → Bool) (facts : List T) → AreFacts code IsOf facts → AreFacts code IsOf (filter keep facts)
   facts-fewer IsOf keep facts are = facts-kept IsOf IsOf keep facts (λ fact is stays. is) are
@@ -86,9 +86,6 @@ more_ids low high access more sound = record {
   joins = sound.joins;
   grants = facts-as grant.the_row.coded (IsGrantOf low access.catalog_roles) (IsGrantOf high access.catalog_roles) access.grants (λ row is. record { role = is.role; securable = securable-later low high row.securable more is.securable; allowed = is.allowed }) sound.grants;
   root_chain = sound.root_chain;
-  principals_bound = sound.principals_bound;
-  principal_roles_bound = sound.principal_roles_bound;
-  catalog_roles_bound = sound.catalog_roles_bound;
 }
 
 -- a row with the next id goes last
@@ -111,9 +108,9 @@ apart_from key next_id id row is under = ne_eqb id (key row) (λ same. omega (ar
 
 -- a principal with the next id, a new name and a new client id may be pushed
 pub pushed_principal : (next_id : ℕ) (access : AccessRows) (row : PrincipalRow) → IsSoundAccess next_id access → 1 ≤ next_id → row.id ≡ next_id
-    → principal_named row.name access ≡ None → principal_of_client row.client_id access ≡ None → length access.principals < 10000
+    → principal_named row.name access ≡ None → principal_of_client row.client_id access ≡ None
     → IsSoundAccess (next_id + 1) (record access { principals = access.principals ++ row ∷ [] })
-pushed_principal next_id access row sound first is new_name new_client room =
+pushed_principal next_id access row sound first is new_name new_client =
     let later = more_ids next_id (next_id + 1) access (one_more next_id) sound in
     let rows = access.principals ++ row ∷ [] in
     record {
@@ -130,16 +127,13 @@ pushed_principal next_id access row sound first is new_name new_client room =
       joins = later.joins;
       grants = later.grants;
       root_chain = record { root = sound.root_chain.root; admin = sound.root_chain.admin; root_there = find-push (has_name (codes "root")) access.principals (row ∷ []) sound.root_chain.root sound.root_chain.root_there; admin_there = sound.root_chain.admin_there; member = sound.root_chain.member };
-      principals_bound = length-push row access.principals 10000 room;
-      principal_roles_bound = later.principal_roles_bound;
-      catalog_roles_bound = later.catalog_roles_bound;
     }
 
 -- a principal role with the next id and a new name may be pushed
 pub pushed_principal_role : (next_id : ℕ) (access : AccessRows) (row : PrincipalRoleRow) → IsSoundAccess next_id access → 1 ≤ next_id → row.id ≡ next_id
-    → principal_role_named row.name access ≡ None → length access.principal_roles < 10000
+    → principal_role_named row.name access ≡ None
     → IsSoundAccess (next_id + 1) (record access { principal_roles = access.principal_roles ++ row ∷ [] })
-pushed_principal_role next_id access row sound first is new_name room =
+pushed_principal_role next_id access row sound first is new_name =
     let later = more_ids next_id (next_id + 1) access (one_more next_id) sound in
     let rows = access.principal_roles ++ row ∷ [] in
     record {
@@ -156,9 +150,6 @@ pushed_principal_role next_id access row sound first is new_name room =
       joins = facts-as join.the_row.coded (IsJoinOf access.principal_roles access.catalog_roles) (IsJoinOf rows access.catalog_roles) access.joins (λ kept of. record { principal_role = any-push (has_id principal_role_id kept.principal_role) access.principal_roles row of.principal_role; catalog_role = of.catalog_role }) sound.joins;
       grants = later.grants;
       root_chain = record { root = sound.root_chain.root; admin = sound.root_chain.admin; root_there = sound.root_chain.root_there; admin_there = find-push (has_role_name (codes "service_admin")) access.principal_roles (row ∷ []) sound.root_chain.admin sound.root_chain.admin_there; member = sound.root_chain.member };
-      principals_bound = later.principals_bound;
-      principal_roles_bound = length-push row access.principal_roles 10000 room;
-      catalog_roles_bound = later.catalog_roles_bound;
     }
 
 same_role_name-equiv : IsEquivalence same_role_name
@@ -173,9 +164,9 @@ same_role_name-equiv = record {
 
 -- a catalogue role with the next id, a catalogue whose id was given out, and a name that is new there may be pushed
 pub pushed_catalog_role : (next_id : ℕ) (access : AccessRows) (row : CatalogRoleRow) → IsSoundAccess next_id access → 1 ≤ next_id → row.id ≡ next_id
-    → IsGiven next_id row.catalog → catalog_role_named row.catalog row.name access ≡ None → length access.catalog_roles < 10000
+    → IsGiven next_id row.catalog → catalog_role_named row.catalog row.name access ≡ None
     → IsSoundAccess (next_id + 1) (record access { catalog_roles = access.catalog_roles ++ row ∷ [] })
-pushed_catalog_role next_id access row sound first is given new_name room =
+pushed_catalog_role next_id access row sound first is given new_name =
     let later = more_ids next_id (next_id + 1) access (one_more next_id) sound in
     let rows = access.catalog_roles ++ row ∷ [] in
     record {
@@ -192,9 +183,6 @@ pushed_catalog_role next_id access row sound first is given new_name room =
       joins = facts-as join.the_row.coded (IsJoinOf access.principal_roles access.catalog_roles) (IsJoinOf access.principal_roles rows) access.joins (λ kept of. record { principal_role = of.principal_role; catalog_role = any-push (has_id catalog_role_id kept.catalog_role) access.catalog_roles row of.catalog_role }) sound.joins;
       grants = facts-as grant.the_row.coded (IsGrantOf (next_id + 1) access.catalog_roles) (IsGrantOf (next_id + 1) rows) access.grants (λ kept of. record { role = any-push (has_id catalog_role_id kept.catalog_role) access.catalog_roles row of.role; securable = of.securable; allowed = of.allowed }) later.grants;
       root_chain = later.root_chain;
-      principals_bound = later.principals_bound;
-      principal_roles_bound = later.principal_roles_bound;
-      catalog_roles_bound = length-push row access.catalog_roles 10000 room;
     }
 
 -- principals may be altered where they keep their ids, names and client ids
@@ -214,9 +202,6 @@ altered_principals next_id access alter ids names clients sound = record {
   joins = sound.joins;
   grants = sound.grants;
   root_chain = record { root = alter sound.root_chain.root; admin = sound.root_chain.admin; root_there = find-altered (has_name (codes "root")) alter (λ kept. ap (bytes_eq (codes "root")) (names kept)) access.principals sound.root_chain.root sound.root_chain.root_there; admin_there = sound.root_chain.admin_there; member = ap (λ id. holds member.the_row.coded (record { principal = id; role = sound.root_chain.admin.id }) access.members) (ids sound.root_chain.root) ∙ sound.root_chain.member };
-  principals_bound = subst (λ n. n ≤ 10000) (sym (length-map alter access.principals)) sound.principals_bound;
-  principal_roles_bound = sound.principal_roles_bound;
-  catalog_roles_bound = sound.catalog_roles_bound;
 }
 
 -- a row of the id, name and client id of one that is there differs from it in its digest alone
@@ -269,9 +254,6 @@ module _ (next_id : ℕ) (access : AccessRows) (sound : IsSoundAccess next_id ac
     joins = sound.joins;
     grants = sound.grants;
     root_chain = record { root = sound.root_chain.root; admin = sound.root_chain.admin; root_there = sound.root_chain.root_there; admin_there = sound.root_chain.admin_there; member = there };
-    principals_bound = sound.principals_bound;
-    principal_roles_bound = sound.principal_roles_bound;
-    catalog_roles_bound = sound.catalog_roles_bound;
   }
 
   with_joins : (joins : List JoinRow) → AreFacts join.the_row.coded (IsJoinOf access.principal_roles access.catalog_roles) joins → IsSoundAccess next_id (record access { joins = joins })
@@ -289,9 +271,6 @@ module _ (next_id : ℕ) (access : AccessRows) (sound : IsSoundAccess next_id ac
     joins = are;
     grants = sound.grants;
     root_chain = sound.root_chain;
-    principals_bound = sound.principals_bound;
-    principal_roles_bound = sound.principal_roles_bound;
-    catalog_roles_bound = sound.catalog_roles_bound;
   }
 
   with_grants : (grants : List GrantRow) → AreFacts grant.the_row.coded (IsGrantOf next_id access.catalog_roles) grants → IsSoundAccess next_id (record access { grants = grants })
@@ -309,9 +288,6 @@ module _ (next_id : ℕ) (access : AccessRows) (sound : IsSoundAccess next_id ac
     joins = sound.joins;
     grants = are;
     root_chain = sound.root_chain;
-    principals_bound = sound.principals_bound;
-    principal_roles_bound = sound.principal_roles_bound;
-    catalog_roles_bound = sound.catalog_roles_bound;
   }
 
   members_kept : (keep : MemberRow → Bool) → keep (record { principal = sound.root_chain.root.id; role = sound.root_chain.admin.id }) ≡ true → IsSoundAccess next_id (record access { members = filter keep access.members })
@@ -344,9 +320,6 @@ module _ (next_id : ℕ) (access : AccessRows) (sound : IsSoundAccess next_id ac
     joins = sound.joins;
     grants = sound.grants;
     root_chain = record { root = sound.root_chain.root; admin = sound.root_chain.admin; root_there = find-kept (has_name (codes "root")) keep access.principals sound.root_chain.root sound.root_chain.root_there stays; admin_there = sound.root_chain.admin_there; member = sound.root_chain.member };
-    principals_bound = length-kept keep access.principals 10000 sound.principals_bound;
-    principal_roles_bound = sound.principal_roles_bound;
-    catalog_roles_bound = sound.catalog_roles_bound;
   }
 
   principal_roles_kept : (keep : PrincipalRoleRow → Bool) → keep sound.root_chain.admin ≡ true → AreFacts member.the_row.coded (IsMemberOf access.principals (filter keep access.principal_roles)) access.members
@@ -365,9 +338,6 @@ module _ (next_id : ℕ) (access : AccessRows) (sound : IsSoundAccess next_id ac
     joins = joins;
     grants = sound.grants;
     root_chain = record { root = sound.root_chain.root; admin = sound.root_chain.admin; root_there = sound.root_chain.root_there; admin_there = find-kept (has_role_name (codes "service_admin")) keep access.principal_roles sound.root_chain.admin sound.root_chain.admin_there stays; member = sound.root_chain.member };
-    principals_bound = sound.principals_bound;
-    principal_roles_bound = length-kept keep access.principal_roles 10000 sound.principal_roles_bound;
-    catalog_roles_bound = sound.catalog_roles_bound;
   }
 
   catalog_roles_kept : (keep : CatalogRoleRow → Bool) → AreFacts join.the_row.coded (IsJoinOf access.principal_roles (filter keep access.catalog_roles)) access.joins
@@ -386,9 +356,6 @@ module _ (next_id : ℕ) (access : AccessRows) (sound : IsSoundAccess next_id ac
     joins = joins;
     grants = grants;
     root_chain = sound.root_chain;
-    principals_bound = sound.principals_bound;
-    principal_roles_bound = sound.principal_roles_bound;
-    catalog_roles_bound = length-kept keep access.catalog_roles 10000 sound.catalog_roles_bound;
   }
 
 -- root and `service_admin` are the rows of their ids and have their names
@@ -463,11 +430,11 @@ dropped_catalog_roles next_id id access sound = (
 
 -- a member may be put where its principal and its role are there
 pub put_member : (next_id : ℕ) (access : AccessRows) (row : MemberRow) → IsSoundAccess next_id access → knows principal_id row.principal access.principals ≡ true
-    → knows principal_role_id row.role access.principal_roles ≡ true → length (facts_with member.the_row.coded row access.members) ≤ 100000
+    → knows principal_role_id row.role access.principal_roles ≡ true
     → IsSoundAccess next_id (record access { members = facts_with member.the_row.coded row access.members })
-put_member next_id access row sound principal role room =
+put_member next_id access row sound principal role =
     with_members next_id access sound (facts_with member.the_row.coded row access.members)
-    (facts-put member.the_row.coded (IsMemberOf access.principals access.principal_roles) row access.members sound.members (record { principal = principal; role = role }) room)
+    (facts-put member.the_row.coded (IsMemberOf access.principals access.principal_roles) row access.members sound.members (record { principal = principal; role = role }))
     (holds-with member.the_row.coded (record { principal = sound.root_chain.root.id; role = sound.root_chain.admin.id }) row access.members sound.root_chain.member)
 
 -- a member may be dropped that isn't `root` in `service_admin`
@@ -484,11 +451,11 @@ dropped_member next_id access principal role sound found there other =
 
 -- a join may be put where its roles are there, and any may be dropped
 pub put_join : (next_id : ℕ) (access : AccessRows) (row : JoinRow) → IsSoundAccess next_id access → knows principal_role_id row.principal_role access.principal_roles ≡ true
-    → knows catalog_role_id row.catalog_role access.catalog_roles ≡ true → length (facts_with join.the_row.coded row access.joins) ≤ 100000
+    → knows catalog_role_id row.catalog_role access.catalog_roles ≡ true
     → IsSoundAccess next_id (record access { joins = facts_with join.the_row.coded row access.joins })
-put_join next_id access row sound principal_role catalog_role room =
+put_join next_id access row sound principal_role catalog_role =
     with_joins next_id access sound (facts_with join.the_row.coded row access.joins)
-    (facts-put join.the_row.coded (IsJoinOf access.principal_roles access.catalog_roles) row access.joins sound.joins (record { principal_role = principal_role; catalog_role = catalog_role }) room)
+    (facts-put join.the_row.coded (IsJoinOf access.principal_roles access.catalog_roles) row access.joins sound.joins (record { principal_role = principal_role; catalog_role = catalog_role }))
 
 pub dropped_join : (next_id : ℕ) (access : AccessRows) (row : JoinRow) → IsSoundAccess next_id access
     → IsSoundAccess next_id (record access { joins = facts_without join.the_row.coded row access.joins })
@@ -498,11 +465,10 @@ dropped_join next_id access row sound = joins_kept next_id access sound (λ kept
 -- a grant may be put where its role is there, its privilege is allowed and its securable's id was given out, and any may
 -- be dropped, also all that are on a securable
 pub put_grant : (next_id : ℕ) (access : AccessRows) (row : GrantRow) → IsSoundAccess next_id access → IsGrantOf next_id access.catalog_roles row
-    → length (facts_with grant.the_row.coded row access.grants) ≤ 100000
     → IsSoundAccess next_id (record access { grants = facts_with grant.the_row.coded row access.grants })
-put_grant next_id access row sound of room =
+put_grant next_id access row sound of =
     with_grants next_id access sound (facts_with grant.the_row.coded row access.grants)
-    (facts-put grant.the_row.coded (IsGrantOf next_id access.catalog_roles) row access.grants sound.grants of room)
+    (facts-put grant.the_row.coded (IsGrantOf next_id access.catalog_roles) row access.grants sound.grants of)
 
 pub dropped_grants : (next_id : ℕ) (access : AccessRows) → IsSoundAccess next_id access
     → ((row : GrantRow) → IsSoundAccess next_id (record access { grants = facts_without grant.the_row.coded row access.grants }))

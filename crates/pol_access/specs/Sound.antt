@@ -1,5 +1,5 @@
 -- Sound principals, roles, members, joins and grants.
-use Rattle.std.specs.Prelude.{◌≡◌, ◌≤◌, ℕ, true, false, List, length, codes, Some, map}
+use Rattle.std.specs.Prelude.{◌≡◌, ℕ, true, false, List, codes, Some, map}
 use Rattle.std.specs.Bool.{⊤}
 use Rattle.std.specs.Coded.{Coded}
 use Rattle.std.specs.List.{find, AllByRecursion, IsDistinct}
@@ -62,11 +62,10 @@ pub record IsGrantOf (next_id : ℕ) (catalog_roles : List CatalogRoleRow) (row 
   pub securable : IsSecurableGiven next_id row.securable
   pub allowed : grantable row.privilege (kind_of row.securable) ≡ true
 
--- facts that differ, each of which is as it should be, and of which there are at most 100,000
+-- facts that differ, each of which is as it should be
 pub record AreFacts {T : Type 0} (code : Coded T) (IsOf : T → Type 0) (facts : List T) : Type 0 where
   pub differ : IsDistinct (same code) facts
   pub each : AllByRecursion IsOf facts
-  pub bound : length facts ≤ 100000
 
 -- sound principals, roles, members, joins and grants
 pub record IsSoundAccess (next_id : ℕ) (access : AccessRows) : Type 0 where
@@ -83,6 +82,3 @@ pub record IsSoundAccess (next_id : ℕ) (access : AccessRows) : Type 0 where
   pub joins : AreFacts join.the_row.coded (IsJoinOf access.principal_roles access.catalog_roles) access.joins
   pub grants : AreFacts grant.the_row.coded (IsGrantOf next_id access.catalog_roles) access.grants
   pub root_chain : HasRootChain access.principals access.principal_roles access.members
-  pub principals_bound : length access.principals ≤ 10000
-  pub principal_roles_bound : length access.principal_roles ≤ 10000
-  pub catalog_roles_bound : length access.catalog_roles ≤ 10000

@@ -15,10 +15,10 @@ use Rattle.pol_tables.proofs.NumberedLemmas.{AreNumbered-filter, AreNumbered-map
 use Rattle.pol_tables.proofs.RisingLemmas.{IdsDiffer-rising, knows-below}
 use Rattle.pol_tables.proofs.TableLemmas.{is_some-row_of, rows_with-known, some_is}
 use Rattle.pol_content.specs.Content.{catalog_id, first_missing, is_catalog_named, is_missing, is_namespace_named, ContentRows, lies_below, namespace_id, none_below, same_levels, catalog_is_empty, catalog_named, is_empty, namespace_named}
-use Rattle.pol_content.specs.Sound.{HasParent, IsParentThere, IsSmallCatalog, IsSmallNamespace, IsSoundContent}
+use Rattle.pol_content.specs.Sound.{HasParent, IsParentThere, IsSoundContent}
 use Rattle.pol_content.specs.declared.rows.CatalogRow.{CatalogRow}
 use Rattle.pol_content.specs.declared.rows.NamespaceRow.{NamespaceRow}
-use Rattle.pol_access.proofs.KeptLemmas.{any-push, any-kept, any-fewer, knows-push, not-true, length-kept, length-map, length-push, map-each, goes-last, distinct-kept}
+use Rattle.pol_access.proofs.KeptLemmas.{any-push, any-kept, any-fewer, knows-push, not-true, map-each, goes-last, distinct-kept}
 
 module _ {X : Type 0} (test : X → Bool) where
   -- where none is found, no item passes
@@ -70,10 +70,6 @@ more_ids low high content within sound = record {
   namespace_names_differ = sound.namespace_names_differ;
   namespace_catalogs = sound.namespace_catalogs;
   namespace_parents = sound.namespace_parents;
-  catalogs_bound = sound.catalogs_bound;
-  namespaces_bound = sound.namespaces_bound;
-  catalogs_small = sound.catalogs_small;
-  namespaces_small = sound.namespaces_small;
 }
 
 one_more : (n : ℕ) → n ≤ n + 1
@@ -81,9 +77,9 @@ one_more n = omega arith
 
 -- a catalogue with the next id and a new name may be pushed
 pub pushed_catalog : (next_id : ℕ) (content : ContentRows) (row : CatalogRow) → IsSoundContent next_id content → 1 ≤ next_id → row.id ≡ next_id
-    → catalog_named row.name content ≡ None → length content.catalogs < 1000 → IsSmallCatalog row
+    → catalog_named row.name content ≡ None
     → IsSoundContent (next_id + 1) (record content { catalogs = content.catalogs ++ row ∷ [] })
-pushed_catalog next_id content row sound first is new room small = record {
+pushed_catalog next_id content row sound first is new = record {
   catalogs = AreNumbered-push catalog_id next_id row content.catalogs first is sound.catalogs;
   namespaces = AreNumbered-more namespace_id next_id (next_id + 1) (one_more next_id) content.namespaces sound.namespaces;
   ids_differ = each-join (λ kept. namespace_id kept < next_id) (λ kept. knows catalog_id kept.id content.catalogs ≡ false) (λ kept. knows catalog_id kept.id (content.catalogs ++ row ∷ []) ≡ false) content.namespaces (λ kept under unknown. knows-push catalog_id kept.id row content.catalogs ∙ (λ i. unknown i || apart kept under i)) (below-next namespace_id next_id content.namespaces sound.namespaces) sound.ids_differ;
@@ -91,10 +87,6 @@ pushed_catalog next_id content row sound first is new room small = record {
   namespace_names_differ = sound.namespace_names_differ;
   namespace_catalogs = each-weaken (λ kept. knows catalog_id kept.catalog content.catalogs ≡ true) (λ kept. knows catalog_id kept.catalog (content.catalogs ++ row ∷ []) ≡ true) content.namespaces (λ kept there. any-push (has_id catalog_id kept.catalog) content.catalogs row there) sound.namespace_catalogs;
   namespace_parents = sound.namespace_parents;
-  catalogs_bound = length-push row content.catalogs 1000 room;
-  namespaces_bound = sound.namespaces_bound;
-  catalogs_small = each-push IsSmallCatalog content.catalogs row sound.catalogs_small small;
-  namespaces_small = sound.namespaces_small;
 }
   where
     apart : (kept : NamespaceRow) → namespace_id kept < next_id → has_id catalog_id kept.id row ≡ false
@@ -107,9 +99,9 @@ parent-push row rows catalog (Some parent) there = any-push (is_namespace_named 
 -- a namespace with the next id, new levels, a catalogue and a parent may be pushed
 pub pushed_namespace : (next_id : ℕ) (content : ContentRows) (row : NamespaceRow) → IsSoundContent next_id content → 1 ≤ next_id → row.id ≡ next_id
     → knows catalog_id row.catalog content.catalogs ≡ true → HasParent content.namespaces row
-    → namespace_named row.catalog row.levels content ≡ None → length content.namespaces < 100000 → IsSmallNamespace row
+    → namespace_named row.catalog row.levels content ≡ None
     → IsSoundContent (next_id + 1) (record content { namespaces = content.namespaces ++ row ∷ [] })
-pushed_namespace next_id content row sound first is there parent new room small = record {
+pushed_namespace next_id content row sound first is there parent new = record {
   catalogs = AreNumbered-more catalog_id next_id (next_id + 1) (one_more next_id) content.catalogs sound.catalogs;
   namespaces = AreNumbered-push namespace_id next_id row content.namespaces first is sound.namespaces;
   ids_differ = each-push (λ kept. knows catalog_id kept.id content.catalogs ≡ false) content.namespaces row sound.ids_differ (ap (λ id. knows catalog_id id content.catalogs) is ∙ knows-below catalog_id next_id content.catalogs (below-next catalog_id next_id content.catalogs sound.catalogs));
@@ -117,10 +109,6 @@ pushed_namespace next_id content row sound first is there parent new room small 
   namespace_names_differ = IsDistinct-push same_namespace-equiv content.namespaces row sound.namespace_names_differ (none-found (is_namespace_named row.catalog row.levels) content.namespaces new);
   namespace_catalogs = each-push (λ kept. knows catalog_id kept.catalog content.catalogs ≡ true) content.namespaces row sound.namespace_catalogs there;
   namespace_parents = each-push (HasParent (content.namespaces ++ row ∷ [])) content.namespaces row (each-weaken (HasParent content.namespaces) (HasParent (content.namespaces ++ row ∷ [])) content.namespaces (λ kept. parent-push row content.namespaces kept.catalog (parent_of kept.levels)) sound.namespace_parents) (parent-push row content.namespaces row.catalog (parent_of row.levels) parent);
-  catalogs_bound = sound.catalogs_bound;
-  namespaces_bound = length-push row content.namespaces 100000 room;
-  catalogs_small = sound.catalogs_small;
-  namespaces_small = each-push IsSmallNamespace content.namespaces row sound.namespaces_small small;
 }
 
 parent-map : (alter : NamespaceRow → NamespaceRow) → ((row : NamespaceRow) → (alter row).catalog ≡ row.catalog) → ((row : NamespaceRow) → (alter row).levels ≡ row.levels) → (rows : List NamespaceRow) (catalog : ℕ) (parent : Option (List (List ℕ))) → IsParentThere rows catalog parent → IsParentThere (map alter rows) catalog parent
@@ -128,11 +116,10 @@ parent-map alter catalogs levels rows catalog None there = tt
 parent-map alter catalogs levels rows catalog (Some parent) there =
     any-alike (is_namespace_named catalog parent) alter (λ row i. nat_eq catalog (catalogs row i) && same_levels parent (levels row i)) rows ∙ there
 
--- namespaces may be altered where they keep their ids, catalogues and levels and stay small
+-- namespaces may be altered where they keep their ids, catalogues and levels
 pub altered_namespaces : (next_id : ℕ) (content : ContentRows) (alter : NamespaceRow → NamespaceRow) → ((row : NamespaceRow) → (alter row).id ≡ row.id) → ((row : NamespaceRow) → (alter row).catalog ≡ row.catalog) → ((row : NamespaceRow) → (alter row).levels ≡ row.levels)
-    → ((row : NamespaceRow) → IsSmallNamespace row → IsSmallNamespace (alter row)) → IsSoundContent next_id content
-    → IsSoundContent next_id (record content { namespaces = map alter content.namespaces })
-altered_namespaces next_id content alter ids catalogs levels smalls sound = record {
+    → IsSoundContent next_id content → IsSoundContent next_id (record content { namespaces = map alter content.namespaces })
+altered_namespaces next_id content alter ids catalogs levels sound = record {
   catalogs = sound.catalogs;
   namespaces = AreNumbered-map namespace_id next_id alter ids content.namespaces sound.namespaces;
   ids_differ = each-map (λ kept. knows catalog_id kept.id content.catalogs ≡ false) alter content.namespaces (each-weaken (λ kept. knows catalog_id kept.id content.catalogs ≡ false) (λ kept. knows catalog_id (alter kept).id content.catalogs ≡ false) content.namespaces (λ kept unknown. ap (λ id. knows catalog_id id content.catalogs) (ids kept) ∙ unknown) sound.ids_differ);
@@ -140,10 +127,6 @@ altered_namespaces next_id content alter ids catalogs levels smalls sound = reco
   namespace_names_differ = distinct-map same_namespace alter (λ left right i. nat_eq (catalogs left i) (catalogs right i) && same_levels (levels left i) (levels right i)) content.namespaces sound.namespace_names_differ;
   namespace_catalogs = each-map (λ kept. knows catalog_id kept.catalog content.catalogs ≡ true) alter content.namespaces (each-weaken (λ kept. knows catalog_id kept.catalog content.catalogs ≡ true) (λ kept. knows catalog_id (alter kept).catalog content.catalogs ≡ true) content.namespaces (λ kept there. ap (λ id. knows catalog_id id content.catalogs) (catalogs kept) ∙ there) sound.namespace_catalogs);
   namespace_parents = each-map (HasParent (map alter content.namespaces)) alter content.namespaces (each-weaken (HasParent content.namespaces) (λ kept. HasParent (map alter content.namespaces) (alter kept)) content.namespaces parent sound.namespace_parents);
-  catalogs_bound = sound.catalogs_bound;
-  namespaces_bound = subst (λ n. n ≤ 100000) (sym (length-map alter content.namespaces)) sound.namespaces_bound;
-  catalogs_small = sound.catalogs_small;
-  namespaces_small = each-map IsSmallNamespace alter content.namespaces (each-weaken IsSmallNamespace (λ row. IsSmallNamespace (alter row)) content.namespaces smalls sound.namespaces_small);
 }
   where
     parent : (kept : NamespaceRow) → HasParent content.namespaces kept → HasParent (map alter content.namespaces) (alter kept)
@@ -164,10 +147,6 @@ module _ (row : NamespaceRow) where
   abbrev alter_one : NamespaceRow → NamespaceRow
   alter_one kept = with_properties (has_id namespace_id row.id kept) kept
 
-  small_one : IsSmallNamespace row → (has : Bool) (kept : NamespaceRow) → IsSmallNamespace kept → IsSmallNamespace (with_properties has kept)
-  small_one small true kept was = small
-  small_one small false kept was = was
-
   is_altered : (old : NamespaceRow) (rows : List NamespaceRow) → row_of namespace_id row.id rows ≡ Some old → row.catalog ≡ old.catalog → row.levels ≡ old.levels
       → (kept : NamespaceRow) → row_of namespace_id kept.id rows ≡ Some kept → (has : Bool) → has_id namespace_id row.id kept ≡ has → cond has row kept ≡ with_properties has kept
   is_altered old rows found catalogs levels kept own false apart = refl
@@ -181,16 +160,16 @@ module _ (row : NamespaceRow) where
         properties = row.properties;
       }
 
--- one namespace may be replaced by a row of its id, catalogue and levels that is small
+-- one namespace may be replaced by a row of its id, catalogue and levels
 pub replaced_namespace : (next_id : ℕ) (content : ContentRows) (old row : NamespaceRow) → IsSoundContent next_id content → row_of namespace_id row.id content.namespaces ≡ Some old
-    → row.catalog ≡ old.catalog → row.levels ≡ old.levels → IsSmallNamespace row
+    → row.catalog ≡ old.catalog → row.levels ≡ old.levels
     → IsSoundContent next_id (record content { namespaces = rows_with namespace_id row content.namespaces })
-replaced_namespace next_id content old row sound found catalogs levels small =
+replaced_namespace next_id content old row sound found catalogs levels =
     let rows = content.namespaces in
     let known : knows namespace_id row.id rows ≡ true = sym (is_some-row_of namespace_id row.id rows) ∙ ap is_some found in
     let owns = each-own namespace_id rows (IdsDiffer-rising namespace_id rows sound.namespaces.rise) in
     let alike = map-each (λ kept. cond (has_id namespace_id row.id kept) row kept) (alter_one row) rows (each-weaken (λ kept. row_of namespace_id kept.id rows ≡ Some kept) (λ kept. cond (has_id namespace_id row.id kept) row kept ≡ alter_one row kept) rows (λ kept own. is_altered row old rows found catalogs levels kept own (has_id namespace_id row.id kept) refl) owns) in
-    subst (λ after. IsSoundContent next_id (record { catalogs = content.catalogs; namespaces = after })) (sym (rows_with-known namespace_id row rows known ∙ alike)) (altered_namespaces next_id content (alter_one row) (λ kept. refl) (λ kept. refl) (λ kept. refl) (λ kept. small_one row small (has_id namespace_id row.id kept) kept) sound)
+    subst (λ after. IsSoundContent next_id (record { catalogs = content.catalogs; namespaces = after })) (sym (rows_with-known namespace_id row rows known ∙ alike)) (altered_namespaces next_id content (alter_one row) (λ kept. refl) (λ kept. refl) (λ kept. refl) sound)
 
 -- a row with the next id goes last
 pub new_rows_last : (next_id : ℕ) (content : ContentRows) → IsSoundContent next_id content
@@ -271,10 +250,6 @@ dropped_catalog next_id id content sound empty = record {
   namespace_names_differ = sound.namespace_names_differ;
   namespace_catalogs = each-join (λ kept. nat_eq kept.catalog id ≡ false) (λ kept. knows catalog_id kept.catalog content.catalogs ≡ true) (λ kept. knows catalog_id kept.catalog (filter (λ row. not (has_id catalog_id id row)) content.catalogs) ≡ true) content.namespaces (λ kept apart there. any-kept (has_id catalog_id kept.catalog) (λ row. not (has_id catalog_id id row)) content.catalogs (each-all (λ row. has_id catalog_id kept.catalog row ≡ true → not (has_id catalog_id id row) ≡ true) content.catalogs (stays kept.catalog apart)) there) (each-fails (λ row. nat_eq row.catalog id) content.namespaces (not-true (list_any (λ row. nat_eq row.catalog id) content.namespaces) empty)) sound.namespace_catalogs;
   namespace_parents = sound.namespace_parents;
-  catalogs_bound = length-kept (λ row. not (has_id catalog_id id row)) content.catalogs 1000 sound.catalogs_bound;
-  namespaces_bound = sound.namespaces_bound;
-  catalogs_small = each-filter IsSmallCatalog (λ row. not (has_id catalog_id id row)) content.catalogs sound.catalogs_small;
-  namespaces_small = sound.namespaces_small;
 }
   where
     stays : (catalog : ℕ) → nat_eq catalog id ≡ false → (row : CatalogRow) → has_id catalog_id catalog row ≡ true → not (has_id catalog_id id row) ≡ true
@@ -337,8 +312,4 @@ dropped_namespace next_id id content sound empty =
       namespace_names_differ = distinct-kept same_namespace (λ row. not (has_id namespace_id id row)) content.namespaces sound.namespace_names_differ;
       namespace_catalogs = each-filter (λ kept. knows catalog_id kept.catalog content.catalogs ≡ true) (λ row. not (has_id namespace_id id row)) content.namespaces sound.namespace_catalogs;
       namespace_parents = each-filter (HasParent (filter (λ row. not (has_id namespace_id id row)) content.namespaces)) (λ row. not (has_id namespace_id id row)) content.namespaces (each-join (λ kept. (row : NamespaceRow) → row_of namespace_id id content.namespaces ≡ Some row → lies_below row kept ≡ false) (HasParent content.namespaces) (HasParent (filter (λ row. not (has_id namespace_id id row)) content.namespaces)) content.namespaces (λ kept none there. parents_stay id content.namespaces differ empty kept none (parent_of kept.levels) refl there) (none_lies_below id content.namespaces differ (row_of namespace_id id content.namespaces) empty) sound.namespace_parents);
-      catalogs_bound = sound.catalogs_bound;
-      namespaces_bound = length-kept (λ row. not (has_id namespace_id id row)) content.namespaces 100000 sound.namespaces_bound;
-      catalogs_small = sound.catalogs_small;
-      namespaces_small = each-filter IsSmallNamespace (λ row. not (has_id namespace_id id row)) content.namespaces sound.namespaces_small;
     }

@@ -1,21 +1,12 @@
 -- Sound catalogues and namespaces.
-use Rattle.std.specs.Prelude.{◌≡◌, ◌≤◌, ℕ, true, false, List, length, Option, Some, None}
+use Rattle.std.specs.Prelude.{◌≡◌, ℕ, true, false, List, Option, Some, None}
 use Rattle.std.specs.Bool.{⊤}
 use Rattle.std.specs.List.{list_any, AllByRecursion}
 use Rattle.pol_names.specs.Namespace.{parent_of}
 use Rattle.pol_tables.specs.Numbered.{AreNumbered}
 use Rattle.pol_tables.specs.Table.{knows}
 use Rattle.pol_content.specs.Content.{ContentRows, CatalogNamesDiffer, NamespaceNamesDiffer, catalog_id, is_namespace_named, namespace_id}
-use Rattle.pol_content.specs.declared.rows.CatalogRow.{CatalogRow}
 use Rattle.pol_content.specs.declared.rows.NamespaceRow.{NamespaceRow}
-
--- a catalogue has at most 100 allowed locations and 1,000 properties, and a namespace at most 1,000 properties
-pub record IsSmallCatalog (row : CatalogRow) : Type 0 where
-  pub allowed : length row.allowed ≤ 100
-  pub properties : length row.properties ≤ 1000
-
-abbrev pub IsSmallNamespace : NamespaceRow → Type 0
-IsSmallNamespace row = length row.properties ≤ 1000
 
 -- the parent of a namespace, where it has one, is there
 abbrev pub IsParentThere : List NamespaceRow → ℕ → Option (List (List ℕ)) → Type 0
@@ -26,7 +17,7 @@ abbrev pub HasParent : List NamespaceRow → NamespaceRow → Type 0
 HasParent rows row = IsParentThere rows row.catalog (parent_of row.levels)
 
 -- sound rows: their ids rise, were given out and are all different; names differ, of catalogues in the realm and of
--- namespaces in their catalogue; the catalogue and the parent of each namespace are there; and no bound is passed
+-- namespaces in their catalogue; and the catalogue and the parent of each namespace are there
 pub record IsSoundContent (next_id : ℕ) (content : ContentRows) : Type 0 where
   pub catalogs : AreNumbered catalog_id next_id content.catalogs
   pub namespaces : AreNumbered namespace_id next_id content.namespaces
@@ -35,7 +26,3 @@ pub record IsSoundContent (next_id : ℕ) (content : ContentRows) : Type 0 where
   pub namespace_names_differ : NamespaceNamesDiffer content.namespaces
   pub namespace_catalogs : AllByRecursion (λ row. knows catalog_id row.catalog content.catalogs ≡ true) content.namespaces
   pub namespace_parents : AllByRecursion (HasParent content.namespaces) content.namespaces
-  pub catalogs_bound : length content.catalogs ≤ 1000
-  pub namespaces_bound : length content.namespaces ≤ 100000
-  pub catalogs_small : AllByRecursion IsSmallCatalog content.catalogs
-  pub namespaces_small : AllByRecursion IsSmallNamespace content.namespaces

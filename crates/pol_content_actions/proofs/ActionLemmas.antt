@@ -1,5 +1,5 @@
--- The actions on catalogues and namespaces: where their changes lead, and that they keep a state sound.
-use Rattle.std.proofs.Common.{◌≡◌, ℕ, ◌+◌, ◌<◌, ◌≤◌, ◌^◌, Bool, true, false, not, ◌&&◌, ◌||◌, ◌==◌, codes, List, [], ◌∷◌, ◌++◌, filter, map, length, Option, None, Some, is_some, refl, sym, ap, subst, ◌∙◌, inl, inr, arith, true≢false}
+-- The actions on catalogues and namespaces: where their changes lead, and that they keep a state orderly.
+use Rattle.std.proofs.Common.{◌≡◌, ℕ, ◌+◌, ◌<◌, ◌≤◌, ◌^◌, Bool, true, false, not, ◌&&◌, ◌||◌, ◌==◌, codes, List, [], ◌∷◌, ◌++◌, filter, map, Option, None, Some, option_and_then, is_some, refl, sym, ap, subst, ◌∙◌, inl, inr, arith, true≢false}
 use Rattle.std.specs.List.{fold}
 use Rattle.std.specs.Option.{option_map}
 use Rattle.std.specs.Str.{bytes_eq}
@@ -42,24 +42,22 @@ use Rattle.pol_names.specs.Namespace.{parent_of}
 use Rattle.pol_properties.specs.Properties.{pairs_updated}
 use Rattle.pol_properties.specs.declared.property.Property.{Property}
 use Rattle.pol_commands.specs.declared.command.Command.{Command}
-use Rattle.pol_commands.specs.declared.reply.Quantity.TheVariants as quantity
 use Rattle.pol_commands.specs.declared.reply.Refusal.TheVariants.{NoNamespace}
 use Rattle.pol_state.specs.Applied.{changed}
 use Rattle.pol_state.specs.Rows.{Rows}
-use Rattle.pol_state.specs.Sound.{IsCatalogRoleOf, IsGiven, IsSound, IsSoundAccess}
+use Rattle.pol_state.specs.Sound.{IsCatalogRoleOf, IsGiven, IsOrderly, IsSound, IsSoundAccess}
 use Rattle.pol_state.proofs.AppliedLemmas.{grants-dropped, joins-dropped, roles-dropped, three-dropped, with_joins, with_roles}
 use Rattle.pol_state.proofs.ChangesLemmas.{filter-twice}
 use Rattle.pol_rules.specs.Acting.{done, stamped}
-use Rattle.pol_rules.specs.Rules.{above, catalog_holds, catalog_taken, given, namespace_holds, namespace_taken, no_namespace, no_parent, over_limit, time_of, EachPasses}
-use Rattle.pol_rules.proofs.LimitsLemmas.{above-within, length-facts_with}
-use Rattle.pol_rules.proofs.RulesLemmas.{EachPasses-none, refused-not, nothing}
+use Rattle.pol_state.specs.Bounds.{EachPasses}
+use Rattle.pol_rules.specs.Rules.{catalog_holds, catalog_taken, given, namespace_holds, namespace_taken, no_namespace, no_parent, time_of}
+use Rattle.pol_rules.proofs.RulesLemmas.{refused-not, nothing}
 use Rattle.pol_rules.proofs.FoundLemmas.{found-holds, catalog-own}
-use Rattle.pol_rules.proofs.SoundLemmas.{next_id-some, sound-done, tables-sound, IsWithin}
+use Rattle.pol_rules.proofs.SoundLemmas.{next_id-some, orderly-done, tables-orderly, IsWithin}
 use Rattle.pol_rules.proofs.LeadsLemmas.{Leads, leads-by}
 use Rattle.pol_content_actions.specs.Catalogs.{create_catalog, drop_catalog, new_catalog, with_catalog, without_catalog}
-use Rattle.pol_content_actions.specs.Namespaces.{create_namespace, drop_namespace, in_catalog, namespace_at, update_properties, with_altered, with_namespace, with_properties, without_namespace}
-use Rattle.pol_content_actions.proofs.ChangesLemmas.{changes-altered, changes-unaltered, changes-with_catalog, changes-with_namespace, changes-without_catalog, changes-without_namespace}
-use Rattle.pol_content_actions.proofs.LimitsLemmas.{admin-last, altered_limits, catalog_limits, namespace_limits, unknown-later}
+use Rattle.pol_content_actions.specs.Namespaces.{create_namespace, drop_namespace, namespace_row_at, update_properties, with_altered, with_namespace, with_properties, without_namespace}
+use Rattle.pol_content_actions.proofs.ChangesLemmas.{admin-last, unknown-later, changes-altered, changes-unaltered, changes-with_catalog, changes-with_namespace, changes-without_catalog, changes-without_namespace}
 
 -- both grants of a `catalog_admin` are of privileges that may be granted on a catalogue
 may_have_access : grantable CatalogManageAccess kind.Catalog ≡ true
@@ -113,20 +111,20 @@ module _ (s : Rows) where
 module _ (s : Rows) (command : Command) where
   module _ (sound : IsSound s) where
     namespaces-differ : IdsDiffer namespace_id s.content.namespaces
-    namespaces-differ = IdsDiffer-rising namespace_id s.content.namespaces sound.content.namespaces.rise
+    namespaces-differ = IdsDiffer-rising namespace_id s.content.namespaces sound.orderly.content.namespaces.rise
 
     -- and the principal role of a name
     service-own : (row : PrincipalRoleRow) → principal_role_named (codes "service_admin") s.access ≡ Some row → row_of principal_role_id row.id s.access.principal_roles ≡ Some row
     service-own row found =
-        found-holds (λ one. row_of principal_role_id (principal_role_id one) s.access.principal_roles ≡ Some one) (has_role_name (codes "service_admin")) s.access.principal_roles row (each-own principal_role_id s.access.principal_roles (IdsDiffer-rising principal_role_id s.access.principal_roles sound.access.principal_roles.rise)) found
+        found-holds (λ one. row_of principal_role_id (principal_role_id one) s.access.principal_roles ≡ Some one) (has_role_name (codes "service_admin")) s.access.principal_roles row (each-own principal_role_id s.access.principal_roles (IdsDiffer-rising principal_role_id s.access.principal_roles sound.orderly.access.principal_roles.rise)) found
 
-    own-at : (levels : List (List ℕ)) (row : NamespaceRow) (found : Option CatalogRow) → in_catalog s levels found ≡ Some row → row_of namespace_id row.id s.content.namespaces ≡ Some row
+    own-at : (levels : List (List ℕ)) (row : NamespaceRow) (found : Option CatalogRow) → option_and_then (λ (catalog : CatalogRow). namespace_named catalog.id levels s.content) found ≡ Some row → row_of namespace_id row.id s.content.namespaces ≡ Some row
     own-at levels row None found = let contrary : None ≡ Some row = found in cc
     own-at levels row (Some catalog) found =
         found-holds (λ one. row_of namespace_id (namespace_id one) s.content.namespaces ≡ Some one) (is_namespace_named catalog.id levels) s.content.namespaces row (each-own namespace_id s.content.namespaces namespaces-differ) found
 
-    namespace-own : (name : List ℕ) (levels : List (List ℕ)) (row : NamespaceRow) → namespace_at s name levels ≡ Some row → row_of namespace_id row.id s.content.namespaces ≡ Some row
-    unfolding namespace_at
+    namespace-own : (name : List ℕ) (levels : List (List ℕ)) (row : NamespaceRow) → namespace_row_at s name levels ≡ Some row → row_of namespace_id row.id s.content.namespaces ≡ Some row
+    unfolding namespace_row_at
     namespace-own name levels row found = own-at levels row (catalog_named name s.content) found
 
     -- where each action leads
@@ -142,7 +140,7 @@ module _ (s : Rows) (command : Command) where
         let roles = map DropCatalogRole (map catalog_role_id (filter (λ role. role.catalog == row.id) s.access.catalog_roles)) in
         let joins = map DropJoin (joins_in_order (filter (join_names s.access.catalog_roles (referent.RoleOfCatalog row.id)) s.access.joins)) in
         let grants = map DropGrant (grants_in_order (filter (grant_names s.access.catalog_roles (referent.RoleOfCatalog row.id)) s.access.grants)) in
-        let first = ap (λ gone. fold changed t (map DropCatalogRole (map catalog_role_id gone))) (sym (filter-twice (λ role. role.catalog == row.id) s.access.catalog_roles)) ∙ roles-dropped t keep sound.access.catalog_roles.rise in
+        let first = ap (λ gone. fold changed t (map DropCatalogRole (map catalog_role_id gone))) (sym (filter-twice (λ role. role.catalog == row.id) s.access.catalog_roles)) ∙ roles-dropped t keep sound.orderly.access.catalog_roles.rise in
         leads-by s command (without_catalog s row) _ (changes-without_catalog s sound (time_of s command) (s.charged + command.charge) row (catalog-own s command sound name row found)) (
         ap (λ (after : Rows). record after { time = time_of s command; charged = after.charged + command.charge }) (
         three-dropped t roles joins grants
@@ -157,7 +155,7 @@ module _ (s : Rows) (command : Command) where
         let row : NamespaceRow = record { id = s.next_id; catalog = catalog.id; levels = levels; properties = properties } in
         leads-by s command (with_namespace s levels properties catalog) (Time (time_of s command) ∷ NextId (s.next_id + 1) ∷ PutNamespace row ∷ []) (changes-with_namespace s sound (time_of s command) (s.charged + command.charge) row refl) refl
 
-    pub leads-without_namespace : (name : List ℕ) (levels : List (List ℕ)) (row : NamespaceRow) → namespace_at s name levels ≡ Some row → Leads s command (without_namespace s row)
+    pub leads-without_namespace : (name : List ℕ) (levels : List (List ℕ)) (row : NamespaceRow) → namespace_row_at s name levels ≡ Some row → Leads s command (without_namespace s row)
     leads-without_namespace name levels row found =
         let t : Rows = record s { time = time_of s command; content = record s.content { namespaces = rows_without namespace_id row.id s.content.namespaces } } in
         leads-by s command (without_namespace s row) _ (changes-without_namespace s sound (time_of s command) (s.charged + command.charge) row (namespace-own name levels row found))
@@ -177,7 +175,7 @@ module _ (s : Rows) (command : Command) where
           leads-by s command (with_altered s row) (Time (time_of s command) ∷ PutNamespace row ∷ []) (changes-altered s sound (time_of s command) (s.charged + command.charge) row old there other) refl
     ]
 
-    pub leads-with_properties : (name : List ℕ) (levels removals : List (List ℕ)) (updates : List Property) (row : NamespaceRow) → namespace_at s name levels ≡ Some row → Leads s command (with_properties s removals updates row)
+    pub leads-with_properties : (name : List ℕ) (levels removals : List (List ℕ)) (updates : List Property) (row : NamespaceRow) → namespace_row_at s name levels ≡ Some row → Leads s command (with_properties s removals updates row)
     leads-with_properties name levels removals updates row found =
         leads-altered (record row { properties = pairs_updated removals updates row.properties }) row (namespace-own name levels row found)
 
@@ -185,101 +183,82 @@ module _ (s : Rows) (command : Command) where
       -- a catalogue that is put, with its `catalog_admin`
       admin-named : (catalog : ℕ) → catalog ≡ s.next_id → catalog_role_named catalog (codes "catalog_admin") s.access ≡ None
       admin-named catalog id =
-          find-none (has_catalog_role_name catalog (codes "catalog_admin")) s.access.catalog_roles (each-weaken (IsCatalogRoleOf s.next_id s.access.principals s.access.principal_roles) (λ row. has_catalog_role_name catalog (codes "catalog_admin") row ≡ false) s.access.catalog_roles (λ row known. ap (λ b. b && bytes_eq (codes "catalog_admin") row.name) (ne_eqb row.catalog catalog (λ is. let below = known.catalog.1 in omega (arith, below, is, id)))) sound.access.catalog_roles_known)
+          find-none (has_catalog_role_name catalog (codes "catalog_admin")) s.access.catalog_roles (each-weaken (IsCatalogRoleOf s.next_id s.access.principals s.access.principal_roles) (λ row. has_catalog_role_name catalog (codes "catalog_admin") row ≡ false) s.access.catalog_roles (λ row known. ap (λ b. b && bytes_eq (codes "catalog_admin") row.name) (ne_eqb row.catalog catalog (λ is. let below = known.catalog.1 in omega (arith, below, is, id)))) sound.orderly.access.catalog_roles_known)
 
-      access-with_admin : (row : CatalogRow) (service : PrincipalRoleRow) → row.id ≡ s.next_id → principal_role_named (codes "service_admin") s.access ≡ Some service → length s.access.catalog_roles + 1 ≤ 10000 → length s.access.joins + 1 ≤ 100000 → length s.access.grants + 2 ≤ 100000
+      access-with_admin : (row : CatalogRow) (service : PrincipalRoleRow) → row.id ≡ s.next_id → principal_role_named (codes "service_admin") s.access ≡ Some service
           → IsSoundAccess (s.next_id + 2) (with_admin row.id service.id s.access)
-      access-with_admin row service id there roles joins grants =
+      access-with_admin row service id there =
           let catalog = row.id in
           let next = s.next_id + 1 in
-          let more = access_more_ids s.next_id next s.access (omega arith) sound.access in
+          let more = access_more_ids s.next_id next s.access (omega arith) sound.orderly.access in
           let given : IsGiven next catalog = (omega (arith, id, next_id-some s sound), omega (arith, id)) in
           let given_later : IsGiven (s.next_id + 2) catalog = (omega (arith, id, next_id-some s sound), omega (arith, id)) in
           let new = admin-last s sound catalog service.id id in
           let two_more : next + 1 ≡ s.next_id + 2 = omega arith in
-          let pushed = subst (λ high. IsSoundAccess high (record s.access { catalog_roles = s.access.catalog_roles ++ admin_of catalog ∷ [] })) two_more (pushed_catalog_role next s.access (admin_of catalog) more (omega arith) (let same : catalog + 1 ≡ next = omega (arith, id) in same) given (admin-named catalog id) (omega (arith, roles))) in
+          let pushed = subst (λ high. IsSoundAccess high (record s.access { catalog_roles = s.access.catalog_roles ++ admin_of catalog ∷ [] })) two_more (pushed_catalog_role next s.access (admin_of catalog) more (omega arith) (let same : catalog + 1 ≡ next = omega (arith, id) in same) given (admin-named catalog id)) in
           let first : AccessRows = record s.access { catalog_roles = s.access.catalog_roles ++ admin_of catalog ∷ [] } in
           let role_there = knows-last catalog_role_id (admin_of catalog) s.access.catalog_roles in
           let service_there = sym (is_some-row_of principal_role_id service.id s.access.principal_roles) ∙ ap is_some (service-own service there) in
-          let joined = put_join (s.next_id + 2) first (admin_join service.id catalog) pushed service_there role_there (length-facts_with join.the_row.coded (admin_join service.id catalog) s.access.joins 100000 joins) in
+          let joined = put_join (s.next_id + 2) first (admin_join service.id catalog) pushed service_there role_there in
           let second : AccessRows = record first { joins = facts_with join.the_row.coded (admin_join service.id catalog) s.access.joins } in
           let one = admin_grant CatalogManageAccess catalog in
           let two = admin_grant CatalogManageContent catalog in
-          let managed = put_grant (s.next_id + 2) second one joined (record { role = role_there; securable = given_later; allowed = may_have_access }) (length-facts_with grant.the_row.coded one s.access.grants 100000 (omega (arith, grants))) in
-          let once = length-facts_with grant.the_row.coded one s.access.grants 99999 (omega (arith, grants)) in
+          let managed = put_grant (s.next_id + 2) second one joined (record { role = role_there; securable = given_later; allowed = may_have_access }) in
           let third : AccessRows = record second { grants = facts_with grant.the_row.coded one s.access.grants } in
-          let filled = put_grant (s.next_id + 2) third two managed (record { role = role_there; securable = given_later; allowed = may_have_content }) (length-facts_with grant.the_row.coded two (facts_with grant.the_row.coded one s.access.grants) 100000 (omega (arith, once))) in
+          let filled = put_grant (s.next_id + 2) third two managed (record { role = role_there; securable = given_later; allowed = may_have_content }) in
           subst (λ catalog_roles. IsSoundAccess (s.next_id + 2) (record (with_admin catalog service.id s.access) { catalog_roles = catalog_roles })) (sym (rows_with-new catalog_role_id (admin_of catalog) s.access.catalog_roles new.0.role)) filled
 
-      sound-with_catalog : (row : CatalogRow) (service : PrincipalRoleRow) → row.id ≡ s.next_id → principal_role_named (codes "service_admin") s.access ≡ Some service → catalog_named row.name s.content ≡ None → over_limit (with_catalog s row service) ≡ None → IsSound (stamped s command (with_catalog s row service))
-      sound-with_catalog row service id there free few =
-          let bounds = EachPasses-none (above quantity.Catalogs 1000 (length s.content.catalogs + 1) ∷ above quantity.CatalogRoles 10000 (length s.access.catalog_roles + 1) ∷ above quantity.Joins 100000 (length s.access.joins + 1) ∷ above quantity.Grants 100000 (length s.access.grants + 2) ∷ above quantity.AllowedLocations 100 (length row.allowed) ∷ above quantity.Properties 1000 (length row.properties) ∷ above quantity.NextId (2 ^ 62) (s.next_id + 2) ∷ []) (sym (catalog_limits s sound row service id) ∙ few) in
-          let count = above-within quantity.Catalogs 1000 (length s.content.catalogs + 1) bounds.0 in
-          let roles = above-within quantity.CatalogRoles 10000 (length s.access.catalog_roles + 1) bounds.1.0 in
-          let joins = above-within quantity.Joins 100000 (length s.access.joins + 1) bounds.1.1.0 in
-          let grants = above-within quantity.Grants 100000 (length s.access.grants + 2) bounds.1.1.1.0 in
-          let allowed = above-within quantity.AllowedLocations 100 (length row.allowed) bounds.1.1.1.1.0 in
-          let properties = above-within quantity.Properties 1000 (length row.properties) bounds.1.1.1.1.1.0 in
-          let next = above-within quantity.NextId (2 ^ 62) (s.next_id + 2) bounds.1.1.1.1.1.1.0 in
-          let room : length s.content.catalogs < 1000 = omega (arith, count) in
-          let pushed = pushed_catalog s.next_id s.content row sound.content (next_id-some s sound) id free room (record { allowed = allowed; properties = properties }) in
-          let last = (new_rows_last s.next_id s.content sound.content).0 row id in
+      orderly-with_catalog : (row : CatalogRow) (service : PrincipalRoleRow) → row.id ≡ s.next_id → principal_role_named (codes "service_admin") s.access ≡ Some service → catalog_named row.name s.content ≡ None → IsOrderly (stamped s command (with_catalog s row service))
+      orderly-with_catalog row service id there free =
+          let pushed = pushed_catalog s.next_id s.content row sound.orderly.content (next_id-some s sound) id free in
+          let last = (new_rows_last s.next_id s.content sound.orderly.content).0 row id in
           let put = subst (λ rows. IsSoundContent (s.next_id + 1) (record s.content { catalogs = rows })) (sym last) pushed in
           let after : ContentRows = record s.content { catalogs = rows_with catalog_id row s.content.catalogs } in
-          let tied = created_catalog s.access s.content sound.ties row service there (new_ids s.next_id row.id s.content sound.content (omega (arith, id))) (new_ids s.next_id (row.id + 1) s.content sound.content (omega (arith, id))) (unknown-later s sound row.id (omega (arith, id))) (unknown-later s sound (row.id + 1) (omega (arith, id))) in
-          tables-sound s command (with_admin row.id service.id s.access) after (s.next_id + 2) sound within (omega arith) next (access-with_admin row service id there roles joins grants) (more_ids (s.next_id + 1) (s.next_id + 2) after (omega arith) put) tied
+          let tied = created_catalog s.access s.content sound.orderly.ties row service there (new_ids s.next_id row.id s.content sound.orderly.content (omega (arith, id))) (new_ids s.next_id (row.id + 1) s.content sound.orderly.content (omega (arith, id))) (unknown-later s sound row.id (omega (arith, id))) (unknown-later s sound (row.id + 1) (omega (arith, id))) in
+          tables-orderly s command (with_admin row.id service.id s.access) after (s.next_id + 2) sound within (omega arith) (access-with_admin row service id there) (more_ids (s.next_id + 1) (s.next_id + 2) after (omega arith) put) tied
 
-      pub sound-create_catalog : (name base : List ℕ) (allowed : List (List ℕ)) (properties : List Property) (external : Bool)
-          → EachPasses (create_catalog s command name base allowed properties external).rules → IsSound (stamped s command (create_catalog s command name base allowed properties external).after)
-      sound-create_catalog name base allowed properties external passes =
+      pub orderly-create_catalog : (name base : List ℕ) (allowed : List (List ℕ)) (properties : List Property) (external : Bool)
+          → EachPasses (create_catalog s command name base allowed properties external).rules → IsOrderly (stamped s command (create_catalog s command name base allowed properties external).after)
+      orderly-create_catalog name base allowed properties external passes =
           let row = new_catalog s name base allowed properties in
-          sound-done s command sound within (principal_role_named (codes "service_admin") s.access) (with_catalog s row) (λ service there.
-          sound-with_catalog row service refl there (catalog-free s name passes.1.1.0) (sym (ap (λ one. over_limit (done s one (with_catalog s row))) there) ∙ passes.1.1.1.1.1.1.0))
+          orderly-done s command sound within (principal_role_named (codes "service_admin") s.access) (with_catalog s row) (λ service there.
+          orderly-with_catalog row service refl there (catalog-free s name passes.1.1.0))
 
       -- a catalogue that is dropped
-      pub sound-drop_catalog : (name : List ℕ) → EachPasses (drop_catalog s command name).rules → IsSound (stamped s command (drop_catalog s command name).after)
-      sound-drop_catalog name passes = sound-done s command sound within (catalog_named name s.content) (without_catalog s) (λ row is.
+      pub orderly-drop_catalog : (name : List ℕ) → EachPasses (drop_catalog s command name).rules → IsOrderly (stamped s command (drop_catalog s command name).after)
+      orderly-drop_catalog name passes = orderly-done s command sound within (catalog_named name s.content) (without_catalog s) (λ row is.
           let empty = catalog-empty s row (sym (ap (λ one. given one (catalog_holds s)) is) ∙ passes.1.1.1.0) in
-          tables-sound s command (without_catalog s row).access (without_catalog s row).content s.next_id sound within (omega arith) sound.next_id_bound (dropped_catalog_roles s.next_id row.id s.access sound.access).1 (dropped_catalog s.next_id row.id s.content sound.content empty)
-          (ties.dropped_catalog s.access s.content sound.ties row.id (IdsDiffer-rising catalog_role_id s.access.catalog_roles sound.access.catalog_roles.rise)))
+          tables-orderly s command (without_catalog s row).access (without_catalog s row).content s.next_id sound within (omega arith) (dropped_catalog_roles s.next_id row.id s.access sound.orderly.access).1 (dropped_catalog s.next_id row.id s.content sound.orderly.content empty)
+          (ties.dropped_catalog s.access s.content sound.orderly.ties row.id (IdsDiffer-rising catalog_role_id s.access.catalog_roles sound.orderly.access.catalog_roles.rise)))
 
       -- a namespace that is put
-      pub sound-create_namespace : (name : List ℕ) (levels : List (List ℕ)) (properties : List Property) → EachPasses (create_namespace s command name levels properties).rules → IsSound (stamped s command (create_namespace s command name levels properties).after)
-      sound-create_namespace name levels properties passes = sound-done s command sound within (catalog_named name s.content) (with_namespace s levels properties) (λ catalog is.
+      pub orderly-create_namespace : (name : List ℕ) (levels : List (List ℕ)) (properties : List Property) → EachPasses (create_namespace s command name levels properties).rules → IsOrderly (stamped s command (create_namespace s command name levels properties).after)
+      orderly-create_namespace name levels properties passes = orderly-done s command sound within (catalog_named name s.content) (with_namespace s levels properties) (λ catalog is.
           let row : NamespaceRow = record { id = s.next_id; catalog = catalog.id; levels = levels; properties = properties } in
           let parent = sym (ap (λ one. given one (λ (catalog : CatalogRow). no_parent s catalog.id (parent_of levels))) is) ∙ passes.1.1.1.0 in
           let taken = sym (ap (λ one. given one (namespace_taken s levels)) is) ∙ passes.1.1.1.1.0 in
-          let few = sym (ap (λ one. over_limit (done s one (with_namespace s levels properties))) is) ∙ passes.1.1.1.1.1.0 in
-          let bounds = EachPasses-none (above quantity.Namespaces 100000 (length s.content.namespaces + 1) ∷ above quantity.Properties 1000 (length properties) ∷ above quantity.NextId (2 ^ 62) (s.next_id + 1) ∷ []) (sym (namespace_limits s sound levels properties catalog) ∙ few) in
-          let count = above-within quantity.Namespaces 100000 (length s.content.namespaces + 1) bounds.0 in
-          let small = above-within quantity.Properties 1000 (length properties) bounds.1.0 in
-          let next = above-within quantity.NextId (2 ^ 62) (s.next_id + 1) bounds.1.1.0 in
-          let room : length s.content.namespaces < 100000 = omega (arith, count) in
           let there = sym (is_some-row_of catalog_id catalog.id s.content.catalogs) ∙ ap is_some (catalog-own s command sound name catalog is) in
-          let pushed = pushed_namespace s.next_id s.content row sound.content (next_id-some s sound) refl there (whole_path s.content row (parents-whole s catalog.id levels parent)) (levels-free s levels catalog taken) room small in
-          let last = (new_rows_last s.next_id s.content sound.content).1 row refl in
-          tables-sound s command s.access (with_namespace s levels properties catalog).content (s.next_id + 1) sound within (omega arith) next (access_more_ids s.next_id (s.next_id + 1) s.access (omega arith) sound.access)
+          let pushed = pushed_namespace s.next_id s.content row sound.orderly.content (next_id-some s sound) refl there (whole_path s.content row (parents-whole s catalog.id levels parent)) (levels-free s levels catalog taken) in
+          let last = (new_rows_last s.next_id s.content sound.orderly.content).1 row refl in
+          tables-orderly s command s.access (with_namespace s levels properties catalog).content (s.next_id + 1) sound within (omega arith) (access_more_ids s.next_id (s.next_id + 1) s.access (omega arith) sound.orderly.access)
           (subst (λ rows. IsSoundContent (s.next_id + 1) (record s.content { namespaces = rows })) (sym last) pushed)
-          (put_namespace s.access s.content sound.ties row (λ old known. unknown-row catalog old known (knows-below namespace_id s.next_id s.content.namespaces (below-next namespace_id s.next_id s.content.namespaces sound.content.namespaces))) (unknown-later s sound s.next_id (omega arith))))
+          (put_namespace s.access s.content sound.orderly.ties row (λ old known. unknown-row catalog old known (knows-below namespace_id s.next_id s.content.namespaces (below-next namespace_id s.next_id s.content.namespaces sound.orderly.content.namespaces))) (unknown-later s sound s.next_id (omega arith))))
         where
           unknown-row : (catalog : CatalogRow) (old : NamespaceRow) → row_of namespace_id s.next_id s.content.namespaces ≡ Some old → knows namespace_id s.next_id s.content.namespaces ≡ false → catalog.id ≡ old.catalog
           unknown-row catalog old there unknown = absurd (true≢false (sym (sym (is_some-row_of namespace_id s.next_id s.content.namespaces) ∙ ap is_some there) ∙ unknown))
 
       -- a namespace that is dropped
-      pub sound-drop_namespace : (name : List ℕ) (levels : List (List ℕ)) → EachPasses (drop_namespace s command name levels).rules → IsSound (stamped s command (drop_namespace s command name levels).after)
-      sound-drop_namespace name levels passes = sound-done s command sound within (namespace_at s name levels) (without_namespace s) (λ row is.
+      pub orderly-drop_namespace : (name : List ℕ) (levels : List (List ℕ)) → EachPasses (drop_namespace s command name levels).rules → IsOrderly (stamped s command (drop_namespace s command name levels).after)
+      orderly-drop_namespace name levels passes = orderly-done s command sound within (namespace_row_at s name levels) (without_namespace s) (λ row is.
           let empty = namespace-empty s row (sym (ap (λ one. given one (namespace_holds s)) is) ∙ passes.1.1.1.1.0) in
-          tables-sound s command (without_namespace s row).access (without_namespace s row).content s.next_id sound within (omega arith) sound.next_id_bound ((dropped_grants s.next_id s.access sound.access).1 (securable.Namespace row.id)) (dropped_namespace s.next_id row.id s.content sound.content empty)
-          (ties.dropped_namespace s.access s.content sound.ties row.id))
+          tables-orderly s command (without_namespace s row).access (without_namespace s row).content s.next_id sound within (omega arith) ((dropped_grants s.next_id s.access sound.orderly.access).1 (securable.Namespace row.id)) (dropped_namespace s.next_id row.id s.content sound.orderly.content empty)
+          (ties.dropped_namespace s.access s.content sound.orderly.ties row.id))
 
       -- a namespace whose properties are removed and set
-      pub sound-update_properties : (name : List ℕ) (levels removals : List (List ℕ)) (updates : List Property) → EachPasses (update_properties s command name levels removals updates).rules → IsSound (stamped s command (update_properties s command name levels removals updates).after)
-      sound-update_properties name levels removals updates passes = sound-done s command sound within (namespace_at s name levels) (with_properties s removals updates) (λ old is.
+      pub orderly-update_properties : (name : List ℕ) (levels removals : List (List ℕ)) (updates : List Property) → EachPasses (update_properties s command name levels removals updates).rules → IsOrderly (stamped s command (update_properties s command name levels removals updates).after)
+      orderly-update_properties name levels removals updates passes = orderly-done s command sound within (namespace_row_at s name levels) (with_properties s removals updates) (λ old is.
           let row : NamespaceRow = record old { properties = pairs_updated removals updates old.properties } in
-          let few = sym (ap (λ one. over_limit (done s one (with_properties s removals updates))) is) ∙ passes.1.1.1.1.1.0 in
           let own = namespace-own name levels old is in
-          let bounds = EachPasses-none (above quantity.Properties 1000 (length row.properties) ∷ []) (sym (altered_limits s sound row old own) ∙ few) in
-          let small = above-within quantity.Properties 1000 (length row.properties) bounds.0 in
-          let apart = found-holds (λ kept. is_access_id kept.id s.access ≡ false) (has_id namespace_id old.id) s.content.namespaces old sound.ties.ids_apart.namespaces own in
-          tables-sound s command s.access (with_altered s row).content s.next_id sound within (omega arith) sound.next_id_bound sound.access (replaced_namespace s.next_id s.content old row sound.content own refl refl small)
-          (put_namespace s.access s.content sound.ties row (λ kept there. ap (λ (one : NamespaceRow). one.catalog) (some_is old kept (sym own ∙ there))) apart))
+          let apart = found-holds (λ kept. is_access_id kept.id s.access ≡ false) (has_id namespace_id old.id) s.content.namespaces old sound.orderly.ties.ids_apart.namespaces own in
+          tables-orderly s command s.access (with_altered s row).content s.next_id sound within (omega arith) sound.orderly.access (replaced_namespace s.next_id s.content old row sound.orderly.content own refl refl)
+          (put_namespace s.access s.content sound.orderly.ties row (λ kept there. ap (λ (one : NamespaceRow). one.catalog) (some_is old kept (sym own ∙ there))) apart))

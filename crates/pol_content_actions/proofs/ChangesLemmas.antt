@@ -1,9 +1,9 @@
 -- The changes of the actions on catalogues, namespaces and sessions.
-use Rattle.std.proofs.Common.{◌≡◌, ℕ, ◌+◌, false, not, [], ◌∷◌, ◌++◌, filter, map, Some, refl, sym, subst, ap, ◌∙◌, arith, append-nil, append_assoc, ◌==◌}
+use Rattle.std.proofs.Common.{◌≡◌, ℕ, ◌+◌, ◌≤◌, false, not, [], ◌∷◌, ◌++◌, filter, map, Some, refl, sym, subst, ap, ◌∙◌, arith, append-nil, append_assoc, ◌==◌}
 use Rattle.std.specs.Cmp.{nat_cmp_is}
 use Rattle.std.specs.Ordering.{nat_cmp}
 use Rattle.std.specs.declared.cmp.Ordering.TheVariants.{Equal}
-use Rattle.pol_access.specs.Access.{AccessRows, catalog_role_id}
+use Rattle.pol_access.specs.Access.{AccessRows, catalog_role_id, principal_id, principal_role_id}
 use Rattle.pol_access.specs.Order.{grant_cmp, grants_in_order, join_cmp, joins_in_order}
 use Rattle.pol_access.specs.Referent.{grant_names, join_names}
 use Rattle.pol_access.specs.contracts.rows.CatalogRoleRow as catalog_role
@@ -22,15 +22,16 @@ use Rattle.pol_tables.specs.Table.{knows, row_of, IdsDiffer}
 use Rattle.pol_tables.proofs.ChangesLemmas.{holds-unknown, new_rows-append, table_changes-filter, table_changes-put_altered, table_changes-put_new, table_changes-put_same, table_changes-take}
 use Rattle.pol_tables.proofs.FactChangesLemmas.{fact_changes-append, fact_changes-put_new}
 use Rattle.pol_tables.proofs.NumberedLemmas.{below-next}
-use Rattle.pol_tables.proofs.RisingLemmas.{IdsDiffer-rising, knows-below}
+use Rattle.pol_tables.proofs.RisingLemmas.{IdsDiffer-rising, knows-below, KeysBelow-more}
 use Rattle.pol_tables.proofs.TableLemmas.{rows_with-new}
 use Rattle.pol_content.specs.Content.{catalog_id, namespace_id}
-use Rattle.pol_content.specs.Ties.{admin_grant, admin_join, admin_of, with_admin, with_admin_last, IsAdminNew}
+use Rattle.pol_content.specs.Ties.{admin_grant, admin_join, admin_of, is_access_id, with_admin, with_admin_last, IsAdminNew}
 use Rattle.pol_content.specs.contracts.rows.CatalogRow as catalog
 use Rattle.pol_content.specs.contracts.rows.NamespaceRow as namespace
 use Rattle.pol_content.specs.declared.change.Change.TheVariants.{Time, NextId, NextSerial, PutCatalog, DropCatalog, PutCatalogRole, DropCatalogRole, PutNamespace, DropNamespace, PutJoin, DropJoin, PutGrant, DropGrant, PutSession}
 use Rattle.pol_content.specs.declared.rows.CatalogRow.{CatalogRow}
 use Rattle.pol_content.specs.declared.rows.NamespaceRow.{NamespaceRow}
+use Rattle.pol_content.proofs.TiedContentLemmas.{admin_rows_last}
 use Rattle.pol_tokens.specs.Tokens.{serial_of}
 use Rattle.pol_tokens.specs.contracts.session.SessionRow.{the_row}
 use Rattle.pol_tokens.specs.declared.session.SessionRow.{SessionRow}
@@ -43,6 +44,16 @@ use Rattle.pol_content_actions.specs.Catalogs.{with_catalog, without_catalog}
 use Rattle.pol_content_actions.specs.Namespaces.{with_altered, without_namespace}
 use Rattle.pol_content_actions.specs.Sessions.{with_session}
 
+-- an id that was not given out is no principal's and no role's
+pub unknown-later : (s : Rows) → IsSound s → (id : ℕ) → s.next_id ≤ id → is_access_id id s.access ≡ false
+unknown-later s sound id later =
+    rw (knows-below principal_id id s.access.principals (KeysBelow-more principal_id s.next_id id s.access.principals later (below-next principal_id s.next_id s.access.principals sound.orderly.access.principals)), knows-below principal_role_id id s.access.principal_roles (KeysBelow-more principal_role_id s.next_id id s.access.principal_roles later (below-next principal_role_id s.next_id s.access.principal_roles sound.orderly.access.principal_roles)), knows-below catalog_role_id id s.access.catalog_roles (KeysBelow-more catalog_role_id s.next_id id s.access.catalog_roles later (below-next catalog_role_id s.next_id s.access.catalog_roles sound.orderly.access.catalog_roles))) refl
+
+-- the rows of a new catalogue's `catalog_admin` are new, and go last
+pub admin-last : (s : Rows) → IsSound s → (catalog service : ℕ) → catalog ≡ s.next_id → IsAdminNew catalog service s.access × (with_admin catalog service s.access ≡ with_admin_last catalog service s.access)
+admin-last s sound catalog service id =
+    admin_rows_last s.access s.content sound.orderly.ties catalog service (unknown-later s sound (catalog + 1) (omega (arith, id))) sound.orderly.access.joins.each
+
 -- a number compares as equal to itself
 cmp-same : (n : ℕ) → nat_cmp n n ≡ Equal
 cmp-same n = sym (nat_cmp_is n n Equal refl)
@@ -54,18 +65,18 @@ admins_in_order catalog = rw (cmp-same (catalog + 1)) refl
 
 module _ (s : Rows) (sound : IsSound s) (time charged : ℕ) where
   catalogs-differ : IdsDiffer catalog_id s.content.catalogs
-  catalogs-differ = IdsDiffer-rising catalog_id s.content.catalogs sound.content.catalogs.rise
+  catalogs-differ = IdsDiffer-rising catalog_id s.content.catalogs sound.orderly.content.catalogs.rise
 
   namespaces-differ : IdsDiffer namespace_id s.content.namespaces
-  namespaces-differ = IdsDiffer-rising namespace_id s.content.namespaces sound.content.namespaces.rise
+  namespaces-differ = IdsDiffer-rising namespace_id s.content.namespaces sound.orderly.content.namespaces.rise
 
   roles-differ : IdsDiffer catalog_role_id s.access.catalog_roles
-  roles-differ = IdsDiffer-rising catalog_role_id s.access.catalog_roles sound.access.catalog_roles.rise
+  roles-differ = IdsDiffer-rising catalog_role_id s.access.catalog_roles sound.orderly.access.catalog_roles.rise
 
   -- a catalogue that is put, with its `catalog_admin`
   catalog-new : (row : CatalogRow) → row.id ≡ s.next_id → knows catalog_id row.id s.content.catalogs ≡ false
   catalog-new row id =
-      knows-below catalog_id row.id s.content.catalogs (subst (λ n. KeysBelow catalog_id n s.content.catalogs) (sym id) (below-next catalog_id s.next_id s.content.catalogs sound.content.catalogs))
+      knows-below catalog_id row.id s.content.catalogs (subst (λ n. KeysBelow catalog_id n s.content.catalogs) (sym id) (below-next catalog_id s.next_id s.content.catalogs sound.orderly.content.catalogs))
 
   admin-grants : (row : CatalogRow) (service : PrincipalRoleRow) (new : IsAdminNew row.id service.id s.access)
       → fact_changes grant.the_row.coded grant_cmp PutGrant DropGrant s.access.grants (with_admin_last row.id service.id s.access).grants
@@ -108,7 +119,7 @@ module _ (s : Rows) (sound : IsSound s) (time charged : ℕ) where
   -- a namespace that is put
   pub changes-with_namespace : (row : NamespaceRow) → row.id ≡ s.next_id → changes_between s (timed (record s { content = record s.content { namespaces = (with_altered s row).content.namespaces }; next_id = s.next_id + 1 }) time charged) ≡ Time time ∷ NextId (s.next_id + 1) ∷ PutNamespace row ∷ []
   changes-with_namespace row id =
-      let new = knows-below namespace_id row.id s.content.namespaces (subst (λ n. KeysBelow namespace_id n s.content.namespaces) (sym id) (below-next namespace_id s.next_id s.content.namespaces sound.content.namespaces)) in
+      let new = knows-below namespace_id row.id s.content.namespaces (subst (λ n. KeysBelow namespace_id n s.content.namespaces) (sym id) (below-next namespace_id s.next_id s.content.namespaces sound.orderly.content.namespaces)) in
       made-with_ids s (timed (record s { content = record s.content { namespaces = (with_altered s row).content.namespaces }; next_id = s.next_id + 1 }) time charged) 1 (record none { namespaces = PutNamespace row ∷ [] }) (omega arith) refl refl
       (λ i. record (still s i) { namespaces = table_changes-put_new namespace.the_row.coded namespace_id PutNamespace DropNamespace row s.content.namespaces new i })
 

@@ -1,7 +1,7 @@
 pub mod ActionLemmas
 pub mod ChangesLemmas
-pub mod LimitsLemmas
 pub mod OwesLemmas
+pub mod ProloguesLemmas
 pub mod RowsLemmas
 pub mod ScopesLemmas
 pub mod SessionsLemmas

@@ -1,34 +1,23 @@
 -- Opening a session: what refuses it, what it changes, and where the changes lead.
-use Rattle.std.proofs.Common.{◌≡◌, ℕ, ◌+◌, List, [], ◌∷◌, Option, None, Some, Result, Ok, Err, refl, sym, ap, subst, ◌∙◌}
-use Rattle.std.specs.Result.{IsErrAnd}
+use Rattle.std.proofs.Common.{◌≡◌, ℕ, ◌+◌, List, [], ◌∷◌, Option, None, Some, refl, sym, ap, subst, ◌∙◌}
 use Rattle.pol_access.specs.declared.rows.PrincipalRow.{PrincipalRow}
 use Rattle.pol_tables.specs.Rising.{KeysBelow}
 use Rattle.pol_content.specs.declared.change.Change.TheVariants.{Time, NextSerial, PutSession}
 use Rattle.pol_tokens.specs.Tokens.{serial_of}
 use Rattle.pol_names.specs.declared.scope.Scope.{Scope}
 use Rattle.pol_commands.specs.declared.command.Command.{Command}
-use Rattle.pol_commands.specs.declared.reply.Answer.{Answer}
 use Rattle.pol_commands.specs.declared.reply.Refusal.{Refusal}
 use Rattle.pol_state.specs.Changes.{changes_between}
 use Rattle.pol_state.specs.Rows.{Rows}
 use Rattle.pol_state.specs.Sound.{IsSound}
 use Rattle.pol_state.proofs.ChangesLemmas.{serials-below}
 use Rattle.pol_rules.specs.Acting.{stamped}
-use Rattle.pol_rules.specs.Judged.{Acts}
-use Rattle.pol_rules.specs.declared.rules.Acted.{Acted}
-use Rattle.pol_rules.specs.declared.rules.Stop.{Stop}
-use Rattle.pol_rules.specs.declared.rules.Stop.TheVariants.{Refused}
-use Rattle.pol_rules.specs.Rules.{client_of, first_refusal, given, invalid_client, invalid_scope, over_limit, with_serial, time_of}
+use Rattle.pol_state.specs.Bounds.{first_refusal}
+use Rattle.pol_rules.specs.Rules.{client_of, given, invalid_client, invalid_scope, time_of}
 use Rattle.pol_rules.proofs.LeadsLemmas.{leads-by, Leads}
-use Rattle.pol_rules.proofs.RulesLemmas.{refusal-past, refusal-stops}
+use Rattle.pol_state.proofs.BoundsLemmas.{refusal-past}
 use Rattle.pol_content_actions.specs.Sessions.{open_session, opened, scope_of, session_opened, with_session}
 use Rattle.pol_content_actions.proofs.ChangesLemmas.{applied-opened, changes-opened}
-
--- an action that is stopped by the first rule to fail answers so
-pub acts-refused : (s : Rows) (command : Command) (rules : List (Option Refusal)) (after : Rows) (answer : Answer) (why : Refusal) (result : Result Acted Stop) → IsErrAnd result (λ told. told ≡ Refused why) → first_refusal rules ≡ Some why → Acts s command rules after answer result
-acts-refused s command rules after answer why (Ok acted) told first = absurd told
-acts-refused s command rules after answer why (Err one) told first =
-    subst (λ stopped. Acts s command rules after answer (Err stopped)) (sym told) first
 
 module _ (s : Rows) (command : Command) (scopes : List (List ℕ)) where
   opened-serial : (principal : PrincipalRow) → (opened s command scopes principal).serial ≡ s.next_serial
@@ -63,15 +52,6 @@ module _ (s : Rows) (command : Command) (scopes : List (List ℕ)) where
   leads-opened principal sound =
       leads-by s command (with_session s (opened s command scopes principal)) _ (changes-session principal sound) (applied-opened s (opened s command scopes principal) (opened-below principal sound) (time_of s command) command.charge)
 
-  -- bounds are judged on the next serial alone
-  limit_alike : (principal : PrincipalRow) → over_limit (with_session s (opened s command scopes principal)) ≡ over_limit (with_serial (s.next_serial + 1) s)
-  unfolding over_limit
-  limit_alike principal = refl
-
-  pub limit-opened : (client_id secret : List ℕ) (principal : PrincipalRow) → client_of s client_id secret ≡ Some principal → over_limit (session_opened s command scopes (client_of s client_id secret)) ≡ over_limit (with_serial (s.next_serial + 1) s)
-  limit-opened client_id secret principal found =
-      ap (λ client. over_limit (session_opened s command scopes client)) found ∙ limit_alike principal
-
   module _ (client_id secret : List ℕ) where
     abbrev rules : List (Option Refusal)
     rules = (open_session s command client_id secret scopes).rules
@@ -80,16 +60,8 @@ module _ (s : Rows) (command : Command) (scopes : List (List ℕ)) where
       scope_rule : (rule : Option Refusal) → invalid_scope s principal.id scopes ≡ rule → given (client_of s client_id secret) (λ principal. invalid_scope s principal.id scopes) ≡ rule
       scope_rule rule is = ap (λ client. given client (λ principal. invalid_scope s principal.id scopes)) found ∙ is
 
-      pub scope-refused : (why : Refusal) → invalid_scope s principal.id scopes ≡ Some why → first_refusal rules ≡ Some why
-      scope-refused why fails = refusal-past _ _ _ known (refusal-stops _ why _ (scope_rule (Some why) fails))
-
-      pub limit-refused : (why : Refusal) → invalid_scope s principal.id scopes ≡ None → over_limit (with_serial (s.next_serial + 1) s) ≡ Some why → first_refusal rules ≡ Some why
-      limit-refused why passes fails =
-          refusal-past _ _ _ known (refusal-past _ _ _ (scope_rule None passes) (refusal-stops _ why _ (limit-opened client_id secret principal found ∙ fails)))
-
-      pub none-refused : invalid_scope s principal.id scopes ≡ None → over_limit (with_serial (s.next_serial + 1) s) ≡ None → first_refusal rules ≡ None
-      none-refused passes within =
-          refusal-past _ _ _ known (refusal-past _ _ _ (scope_rule None passes) (refusal-past _ [] None (limit-opened client_id secret principal found ∙ within) refl))
+      pub none-refused : invalid_scope s principal.id scopes ≡ None → first_refusal rules ≡ None
+      none-refused passes = refusal-past _ _ _ known (refusal-past _ [] None (scope_rule None passes) refl)
 
       -- the changes of the action
       pub changes-acting : IsSound s → changes_between s (stamped s command (open_session s command client_id secret scopes).after) ≡ Time (time_of s command) ∷ NextSerial (s.next_serial + 1) ∷ PutSession (opened s command scopes principal) ∷ []

@@ -1,4 +1,4 @@
--- The state after a session is opened is sound.
+-- The state after a session is opened is orderly.
 use Rattle.std.proofs.Common.{◌≡◌, ℕ, ◌+◌, ◌≤◌, ◌^◌, Bool, true, false, cond, List, [], ◌∷◌, Option, None, Some, refl, sym, ap, subst, ◌∙◌, arith, length, ◌==◌, ◌||◌}
 use Rattle.std.specs.List.{cons_option, find, filter_map, list_any, AllByRecursion}
 use Rattle.std.specs.Str.{bytes_eq}
@@ -15,7 +15,7 @@ use Rattle.pol_tokens.specs.declared.session.SessionRow.{SessionRow}
 use Rattle.pol_names.specs.declared.scope.Scope.TheVariants as scope
 use Rattle.pol_commands.specs.declared.command.Command.{Command}
 use Rattle.pol_state.specs.Rows.{Rows}
-use Rattle.pol_state.specs.Sound.{IsGiven, IsSessionOf, IsSound, NamesGiven}
+use Rattle.pol_state.specs.Sound.{IsGiven, IsOrderly, IsSessionOf, IsSound, NamesGiven}
 use Rattle.pol_state.proofs.ChangesLemmas.{serials-below}
 use Rattle.pol_rules.specs.Acting.{stamped}
 use Rattle.pol_rules.specs.Rules.{all_roles, client_of, held_role, kept_if, role_of_scope, role_scope}
@@ -45,7 +45,7 @@ each-given {Y = Y} P give so (x ∷ xs) = by (give x) (so x) (each-given P give 
 pub client-given : (s : Rows) (client_id secret : List ℕ) (principal : PrincipalRow) → IsSound s → client_of s client_id secret ≡ Some principal → IsGiven s.next_id principal.id
 unfolding client_of
 client-given s client_id secret principal sound found =
-    found-holds (λ row. IsGiven s.next_id (principal_id row)) _ s.access.principals principal sound.access.principals.given (kept-found _ _ principal found)
+    found-holds (λ row. IsGiven s.next_id (principal_id row)) _ s.access.principals principal sound.orderly.access.principals.given (kept-found _ _ principal found)
 
 -- each role that a scope names was given its id
 held-given : (s : Rows) (principal : ℕ) → IsSound s → (scope : List ℕ) (role : ℕ) → held_role s.access principal scope ≡ Some role → IsGiven s.next_id role
@@ -55,7 +55,7 @@ held-given s principal sound scope role held = by _ refl held
     by : (kept : Option PrincipalRoleRow) → kept_if (λ row. is_member principal row.id s.access) (find (λ row. bytes_eq scope (role_scope row.name)) s.access.principal_roles) ≡ kept → option_map (λ row. row.id) kept ≡ Some role → IsGiven s.next_id role
     by None is mapped = let contrary : None ≡ Some role = mapped in cc
     by (Some row) is mapped =
-        subst (IsGiven s.next_id) (some_is row.id role mapped) (found-holds (λ row. IsGiven s.next_id (principal_role_id row)) _ s.access.principal_roles row sound.access.principal_roles.given (kept-found _ _ row is))
+        subst (IsGiven s.next_id) (some_is row.id role mapped) (found-holds (λ row. IsGiven s.next_id (principal_role_id row)) _ s.access.principal_roles row sound.orderly.access.principal_roles.given (kept-found _ _ row is))
 
 pub scope-given : (s : Rows) (principal : ℕ) (scopes : List (List ℕ)) → IsSound s → NamesGiven s.next_id (scope_of s principal scopes)
 unfolding scope_of
@@ -70,18 +70,16 @@ later_serial : (next_id serial later : ℕ) (row : SessionRow) → serial ≤ la
 later_serial next_id serial later row within known = record { below = omega (arith, known.below); principal = known.principal; scope = known.scope }
 
 -- and so are the rows with one more session
-pub opened-sound : (s : Rows) (command : Command) (row : SessionRow) → IsSound s → IsWithin s command → row.serial ≡ s.next_serial → IsGiven s.next_id row.principal → NamesGiven s.next_id row.scope → s.next_serial + 1 ≤ 2 ^ 62
-    → IsSound (stamped s command (with_session s row))
-opened-sound s command row sound within serial principal scope bound = record {
-  access = sound.access;
-  content = sound.content;
-  ties = sound.ties;
+pub opened-orderly : (s : Rows) (command : Command) (row : SessionRow) → IsSound s → IsWithin s command → row.serial ≡ s.next_serial → IsGiven s.next_id row.principal → NamesGiven s.next_id row.scope
+    → IsOrderly (stamped s command (with_session s row))
+opened-orderly s command row sound within serial principal scope = record {
+  access = sound.orderly.access;
+  content = sound.orderly.content;
+  ties = sound.orderly.ties;
   tokens = record {
-    sessions_rise = KeysRise-push serial_of row s.tokens.sessions sound.tokens.sessions_rise (subst (λ high. KeysBelow serial_of high s.tokens.sessions) (sym serial) (serials-below s sound));
-    sessions = each-push (IsSessionOf s.next_id (s.next_serial + 1)) s.tokens.sessions row (each-weaken (IsSessionOf s.next_id s.next_serial) (IsSessionOf s.next_id (s.next_serial + 1)) s.tokens.sessions (λ kept. later_serial s.next_id s.next_serial (s.next_serial + 1) kept (omega arith)) sound.tokens.sessions) (record { below = omega (arith, serial); principal = principal; scope = scope });
+    sessions_rise = KeysRise-push serial_of row s.tokens.sessions sound.orderly.tokens.sessions_rise (subst (λ high. KeysBelow serial_of high s.tokens.sessions) (sym serial) (serials-below s sound));
+    sessions = each-push (IsSessionOf s.next_id (s.next_serial + 1)) s.tokens.sessions row (each-weaken (IsSessionOf s.next_id s.next_serial) (IsSessionOf s.next_id (s.next_serial + 1)) s.tokens.sessions (λ kept. later_serial s.next_id s.next_serial (s.next_serial + 1) kept (omega arith)) sound.orderly.tokens.sessions) (record { below = omega (arith, serial); principal = principal; scope = scope });
   };
   time_bound = within.time;
-  next_id_bound = sound.next_id_bound;
-  next_serial_bound = bound;
   charged_bound = within.charged;
 }

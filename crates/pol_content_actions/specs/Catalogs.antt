@@ -11,10 +11,11 @@ use Rattle.pol_content.specs.declared.rows.CatalogRow.{CatalogRow}
 use Rattle.pol_locations.specs.Location.{segments_of}
 use Rattle.pol_properties.specs.declared.property.Property.{Property}
 use Rattle.pol_tables.specs.Table.{rows_with, rows_without}
-use Rattle.pol_rules.specs.Acting.{Acting, done, reading, told}
+use Rattle.pol_rules.specs.AccessRules.{in_realm}
+use Rattle.pol_rules.specs.Acting.{Acting, answer_on, done, reading}
 use Rattle.pol_rules.specs.Needs.{forbidden, on_catalog, service}
 use Rattle.pol_state.specs.Rows.{Rows}
-use Rattle.pol_rules.specs.Rules.{bad_text, bad_texts, catalog_holds, catalog_taken, inside, no_catalogue, over_limit, unauthenticated, unsupported_type}
+use Rattle.pol_rules.specs.Rules.{bad_text, bad_texts, catalog_holds, catalog_taken, inside, no_catalogue, unauthenticated, unsupported_type}
 use Rattle.pol_commands.specs.declared.command.Command.{Command}
 use Rattle.pol_commands.specs.declared.reply.Answer.TheVariants.{ConfigTold, CatalogsListed, CatalogCreated, CatalogLoaded, CatalogDropped}
 
@@ -24,7 +25,7 @@ get_config s command name = reading s (unauthenticated s command ∷ no_catalogu
 
 -- listing all catalogues
 abbrev pub list_catalogs : Rows → Command → Acting
-list_catalogs s command = reading s (unauthenticated s command ∷ forbidden s command service ∷ []) (CatalogsListed (by_name s.content.catalogs))
+list_catalogs s command = reading s (in_realm s command []) (CatalogsListed (by_name s.content.catalogs))
 
 -- the catalogue that is created, under the next id
 abbrev pub new_catalog : Rows → List ℕ → List ℕ → List (List ℕ) → List Property → CatalogRow
@@ -49,17 +50,16 @@ with_catalog s row service = record s {
 abbrev pub create_catalog : Rows → Command → List ℕ → List ℕ → List (List ℕ) → List Property → Bool → Acting
 create_catalog s command name base allowed properties external =
     let row = new_catalog s name base allowed properties in
-    let after : Rows = done s (principal_role_named (codes "service_admin") s.access) (with_catalog s row) in
     record {
-      rules = unauthenticated s command ∷ forbidden s command service ∷ catalog_taken s name ∷ bad_text base ∷ bad_texts allowed ∷ unsupported_type external ∷ over_limit after ∷ [];
-      after = after;
+      rules = in_realm s command (catalog_taken s name ∷ bad_text base ∷ bad_texts allowed ∷ unsupported_type external ∷ []);
+      after = done s (principal_role_named (codes "service_admin") s.access) (with_catalog s row);
       answer = CatalogCreated row;
     }
 
 -- showing a catalogue
 abbrev pub get_catalog : Rows → Command → List ℕ → Acting
 get_catalog s command name =
-    reading s (unauthenticated s command ∷ no_catalogue s name ∷ inside s name (λ catalog. forbidden s command (on_catalog CatalogReadProperties catalog)) ∷ []) (told (catalog_named name s.content) CatalogLoaded)
+    reading s (unauthenticated s command ∷ no_catalogue s name ∷ inside s name (λ catalog. forbidden s command (on_catalog CatalogReadProperties catalog)) ∷ []) (answer_on (catalog_named name s.content) CatalogLoaded)
 
 -- the rows without a catalogue, its roles, and what names these
 abbrev pub without_catalog : Rows → CatalogRow → Rows

@@ -1,5 +1,5 @@
 -- The actions on namespaces.
-use Rattle.std.specs.Prelude.{ℕ, ◌+◌, List, [], ◌∷◌, map, Option, Some, None}
+use Rattle.std.specs.Prelude.{ℕ, ◌+◌, List, [], ◌∷◌, map, Option, option_and_then}
 use Rattle.pol_access.specs.Access.{grants_on_dropped}
 use Rattle.pol_access.specs.declared.privilege.Privilege.{Privilege}
 use Rattle.pol_access.specs.declared.privilege.Privilege.TheVariants.{NamespaceCreate, NamespaceDrop, NamespaceList, NamespaceReadProperties, NamespaceWriteProperties}
@@ -11,21 +11,18 @@ use Rattle.pol_names.specs.Namespace.{parent_of}
 use Rattle.pol_properties.specs.Properties.{keys, missing_keys, pairs_updated, removed_keys}
 use Rattle.pol_properties.specs.declared.property.Property.{Property}
 use Rattle.pol_tables.specs.Table.{rows_with, rows_without}
-use Rattle.pol_rules.specs.Acting.{Acting, done, reading, told}
+use Rattle.pol_rules.specs.Acting.{Acting, answer_on, done, reading}
 use Rattle.pol_rules.specs.Needs.{forbidden, on_parent, on_path}
 use Rattle.pol_state.specs.Rows.{Rows}
-use Rattle.pol_rules.specs.Rules.{given, inside, key_twice, namespace_holds, namespace_taken, no_catalogue, no_namespace, no_parent, over_limit, unauthenticated}
+use Rattle.pol_rules.specs.Rules.{given, inside, key_twice, namespace_holds, namespace_taken, no_catalogue, no_namespace, no_parent, unauthenticated}
 use Rattle.pol_commands.specs.declared.command.Command.{Command}
 use Rattle.pol_commands.specs.declared.reply.Answer.TheVariants.{NamespacesListed, NamespaceCreated, NamespaceLoaded, NamespaceThere, NamespaceDropped, PropertiesUpdated}
 use Rattle.pol_commands.specs.declared.reply.Refusal.{Refusal}
 
 -- the namespace of these levels in the catalogue of a name
-abbrev pub in_catalog : Rows → List (List ℕ) → Option CatalogRow → Option NamespaceRow
-in_catalog s levels None = None
-in_catalog s levels (Some catalog) = namespace_named catalog.id levels s.content
-
-unfoldable pub namespace_at : Rows → List ℕ → List (List ℕ) → Option NamespaceRow
-namespace_at s name levels = in_catalog s levels (catalog_named name s.content)
+unfoldable pub namespace_row_at : Rows → List ℕ → List (List ℕ) → Option NamespaceRow
+namespace_row_at s name levels =
+    option_and_then (λ (catalog : CatalogRow). namespace_named catalog.id levels s.content) (catalog_named name s.content)
 
 -- the rules of an action on a namespace that must be there and on which a privilege is needed, before its own
 abbrev pub on_namespace : Rows → Command → Privilege → List ℕ → List (List ℕ) → List (Option Refusal) → List (Option Refusal)
@@ -38,7 +35,7 @@ listed s parent catalog = map (λ (row : NamespaceRow). row.levels) (children ca
 
 abbrev pub list_namespaces : Rows → Command → List ℕ → Option (List (List ℕ)) → Acting
 list_namespaces s command name parent =
-    reading s (unauthenticated s command ∷ no_catalogue s name ∷ inside s name (λ catalog. forbidden s command (on_parent s NamespaceList parent catalog)) ∷ inside s name (λ catalog. no_parent s catalog.id parent) ∷ []) (told (catalog_named name s.content) (λ catalog. NamespacesListed (listed s parent catalog)))
+    reading s (unauthenticated s command ∷ no_catalogue s name ∷ inside s name (λ catalog. forbidden s command (on_parent s NamespaceList parent catalog)) ∷ inside s name (λ catalog. no_parent s catalog.id parent) ∷ []) (answer_on (catalog_named name s.content) (λ catalog. NamespacesListed (listed s parent catalog)))
 
 -- the rows with one more namespace, under the next id
 abbrev pub with_namespace : Rows → List (List ℕ) → List Property → CatalogRow → Rows
@@ -48,18 +45,16 @@ with_namespace s levels properties catalog =
 
 -- creating a namespace
 abbrev pub create_namespace : Rows → Command → List ℕ → List (List ℕ) → List Property → Acting
-create_namespace s command name levels properties =
-    let after : Rows = done s (catalog_named name s.content) (with_namespace s levels properties) in
-    record {
-      rules = unauthenticated s command ∷ no_catalogue s name ∷ inside s name (λ catalog. forbidden s command (on_parent s NamespaceCreate (parent_of levels) catalog)) ∷ inside s name (λ catalog. no_parent s catalog.id (parent_of levels)) ∷ inside s name (namespace_taken s levels) ∷ over_limit after ∷ [];
-      after = after;
-      answer = NamespaceCreated levels properties;
-    }
+create_namespace s command name levels properties = record {
+  rules = unauthenticated s command ∷ no_catalogue s name ∷ inside s name (λ catalog. forbidden s command (on_parent s NamespaceCreate (parent_of levels) catalog)) ∷ inside s name (λ catalog. no_parent s catalog.id (parent_of levels)) ∷ inside s name (namespace_taken s levels) ∷ [];
+  after = done s (catalog_named name s.content) (with_namespace s levels properties);
+  answer = NamespaceCreated levels properties;
+}
 
 -- showing a namespace
 abbrev pub load_namespace : Rows → Command → List ℕ → List (List ℕ) → Acting
 load_namespace s command name levels =
-    reading s (on_namespace s command NamespaceReadProperties name levels []) (told (namespace_at s name levels) (λ row. NamespaceLoaded row.levels row.properties))
+    reading s (on_namespace s command NamespaceReadProperties name levels []) (answer_on (namespace_row_at s name levels) (λ row. NamespaceLoaded row.levels row.properties))
 
 -- telling whether a namespace is there
 abbrev pub head_namespace : Rows → Command → List ℕ → List (List ℕ) → Acting
@@ -72,8 +67,8 @@ without_namespace s row = record s { access = grants_on_dropped (securable.Names
 -- dropping a namespace
 abbrev pub drop_namespace : Rows → Command → List ℕ → List (List ℕ) → Acting
 drop_namespace s command name levels = record {
-  rules = on_namespace s command NamespaceDrop name levels (given (namespace_at s name levels) (namespace_holds s) ∷ []);
-  after = done s (namespace_at s name levels) (without_namespace s);
+  rules = on_namespace s command NamespaceDrop name levels (given (namespace_row_at s name levels) (namespace_holds s) ∷ []);
+  after = done s (namespace_row_at s name levels) (without_namespace s);
   answer = NamespaceDropped;
 }
 
@@ -87,10 +82,8 @@ with_properties s removals updates row = with_altered s (record row { properties
 
 -- removing and setting properties of a namespace
 abbrev pub update_properties : Rows → Command → List ℕ → List (List ℕ) → List (List ℕ) → List Property → Acting
-update_properties s command name levels removals updates =
-    let after : Rows = done s (namespace_at s name levels) (with_properties s removals updates) in
-    record {
-      rules = on_namespace s command NamespaceWriteProperties name levels (key_twice removals updates ∷ over_limit after ∷ []);
-      after = after;
-      answer = told (namespace_at s name levels) (λ row. PropertiesUpdated (missing_keys removals row.properties) (removed_keys removals row.properties) (keys updates));
-    }
+update_properties s command name levels removals updates = record {
+  rules = on_namespace s command NamespaceWriteProperties name levels (key_twice removals updates ∷ []);
+  after = done s (namespace_row_at s name levels) (with_properties s removals updates);
+  answer = answer_on (namespace_row_at s name levels) (λ row. PropertiesUpdated (missing_keys removals row.properties) (removed_keys removals row.properties) (keys updates));
+}

@@ -8,7 +8,7 @@ use Rattle.pol_names.specs.declared.scope.Scope.TheVariants as scope
 use Rattle.pol_tokens.specs.declared.session.SessionRow.{SessionRow}
 use Rattle.pol_state.specs.Rows.{Rows}
 use Rattle.pol_rules.specs.Acting.{Acting}
-use Rattle.pol_rules.specs.Rules.{client_of, invalid_client, invalid_scope, over_limit, given, held_role, all_roles, time_of}
+use Rattle.pol_rules.specs.Rules.{client_of, invalid_client, invalid_scope, given, held_role, all_roles, time_of}
 use Rattle.pol_commands.specs.declared.command.Command.{Command}
 use Rattle.pol_commands.specs.declared.reply.Answer.TheVariants.{SessionOpened}
 
@@ -44,9 +44,8 @@ session_opened s command scopes (Some principal) = with_session s (opened s comm
 abbrev pub open_session : Rows → Command → List ℕ → List ℕ → List (List ℕ) → Acting
 open_session s command client_id secret scopes =
     let client = client_of s client_id secret in
-    let after : Rows = session_opened s command scopes client in
     record {
-      rules = invalid_client s client_id secret ∷ given client (λ principal. invalid_scope s principal.id scopes) ∷ over_limit after ∷ [];
-      after = after;
+      rules = invalid_client s client_id secret ∷ given client (λ principal. invalid_scope s principal.id scopes) ∷ [];
+      after = session_opened s command scopes client;
       answer = SessionOpened s.next_serial command.words.a command.words.b;
     }

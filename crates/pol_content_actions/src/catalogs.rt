@@ -1,20 +1,17 @@
-ghost use Rattle.std.specs.Prelude.{◌≡◌, ◌<◌, ◌+◌, ◌^◌, map, Some, IfOk};
+ghost use Rattle.std.specs.Prelude.{◌≡◌, ◌≤◌, ◌^◌, map, Some, IfOk};
 ghost use Rattle.pol_content.specs.Content.{catalog_id};
 ghost use Rattle.pol_content.specs.Order.{by_name};
 ghost use Rattle.pol_content.specs.Ties.{admin_grant, admin_of};
 ghost use Rattle.pol_tables.specs.Table.{row_of};
 ghost use Rattle.pol_content_actions.specs.Catalogs.{create_catalog, drop_catalog, get_catalog, get_config, list_catalogs, with_catalog, without_catalog};
-ghost use Rattle.pol_state.specs.Changes.{changes_between};
-ghost use Rattle.pol_rules.specs.Judged.{Acts};
-ghost use Rattle.pol_rules.specs.Acting.{stamped};
+ghost use Rattle.pol_rules.specs.Judged.{Acts, changes_to};
 ghost use Rattle.pol_state.specs.Sound.{IsSound};
 ghost use Rattle.pol_commands.specs.declared.reply.Answer.TheVariants.{CatalogCreated, CatalogDropped};
 
-use crate::bounds::catalog_within;
 use pol_access::{
     CatalogRoleRow, GrantRow, JoinRow, PrincipalRoleRow, Privilege, Referent, Securable,
 };
-use pol_commands::{Answer, Command};
+use pol_commands::Answer;
 use pol_content::{CatalogRow, Change};
 use pol_names::Plain;
 use pol_properties::Properties;
@@ -25,47 +22,41 @@ use pol_rules::catalog_rules::{
 };
 use pol_rules::drops::{push_grants, push_joins, push_roles};
 use pol_rules::needs::{allowed_on_catalog, allowed_service};
-use pol_rules::rules::{Acted, Stop, time_of, unchanged};
-use pol_state::State;
+use pol_rules::prologues::in_realm;
+use pol_rules::rules::{Acted, Asked, Undone, time_of, unchanged};
 use pol_state::texts::plain;
 use pol_types::{Listed, OutOfMemory, Text};
 use std::alloc::Global;
 
 /// Tells how a client is to speak to a catalogue.
 #[tactic(auto, using(pol_rules::proofs::LeadsLemmas::no_changes))]
-pub fn get_config(
-    alloc: Global,
-    state: &State,
-    command: &Command,
-    name: &Plain,
-) -> Result<Acted, Stop>
-    requires { IsSound state.now.rows }
-    ensures { let acting = get_config state.now.rows command.now name.now in Acts state.now.rows command.now acting.rules acting.after acting.answer result }
+pub fn get_config(asked: &Asked<'_>, name: &Plain) -> Result<Acted, Undone>
+    requires { IsSound asked.now.state.now.rows }
+    ensures { Acts asked.now (λ s command. get_config s command name.now) result }
 {
-    signed_in(state, command)?;
-    catalog_there(alloc, state, name)?;
+    signed_in(asked)?;
+    catalog_there(asked, name)?;
     let catalog = name.clone()?;
-    Ok(unchanged(alloc, Answer::ConfigTold { catalog }))
+    Ok(unchanged(asked.alloc, Answer::ConfigTold { catalog }))
 }
 
 /// Lists all catalogues.
-#[tactic(auto, using(pol_rules::proofs::LeadsLemmas::no_changes))]
-pub fn list_catalogs(alloc: Global, state: &State, command: &Command) -> Result<Acted, Stop>
-    requires { IsSound state.now.rows }
-    ensures { let acting = list_catalogs state.now.rows command.now in Acts state.now.rows command.now acting.rules acting.after acting.answer result }
+#[tactic(auto, using(pol_rules::proofs::ProloguesLemmas::in_realm_stops, pol_rules::proofs::LeadsLemmas::no_changes))]
+pub fn list_catalogs(asked: &Asked<'_>) -> Result<Acted, Undone>
+    requires { IsSound asked.now.state.now.rows }
+    ensures { Acts asked.now list_catalogs result }
 {
-    signed_in(state, command)?;
-    allowed_service(alloc, state, command)?;
-    let rows = all_catalogs(alloc, state)?;
-    Ok(unchanged(alloc, Answer::CatalogsListed(rows)))
+    in_realm(asked)?;
+    let rows = all_catalogs(asked)?;
+    Ok(unchanged(asked.alloc, Answer::CatalogsListed(rows)))
 }
 
 /// All catalogues, in byte order of their names.
-fn all_catalogs(alloc: Global, state: &State) -> Result<Listed<CatalogRow>, OutOfMemory>
-    ensures { IfOk result (λ rows. rows ≡ by_name state.now.rows.content.catalogs) }
+fn all_catalogs(asked: &Asked<'_>) -> Result<Listed<CatalogRow>, OutOfMemory>
+    ensures { IfOk result (λ rows. rows ≡ by_name asked.now.state.now.rows.content.catalogs) }
 {
-    let rows = state.content().catalogs_by_name(alloc)?;
-    copies(alloc, rows.as_slice())
+    let rows = asked.state.content().catalogs_by_name(asked.alloc)?;
+    copies(asked.alloc, rows.as_slice())
 }
 
 fn copies(alloc: Global, rows: &[&CatalogRow]) -> Result<Listed<CatalogRow>, OutOfMemory>
@@ -79,58 +70,53 @@ fn copies(alloc: Global, rows: &[&CatalogRow]) -> Result<Listed<CatalogRow>, Out
 }
 
 /// Creates a catalogue.
+#[tactic(auto, using(pol_rules::proofs::ProloguesLemmas::in_realm_stops, pol_state::proofs::BoundsLemmas::next_id_bound))]
 pub fn create_catalog(
-    alloc: Global,
-    state: &State,
-    command: &Command,
+    asked: &Asked<'_>,
     name: &Plain,
     base: &Text,
     allowed: &Listed<Text>,
     properties: &Properties,
     external: bool,
-) -> Result<Acted, Stop>
-    requires { IsSound state.now.rows }
-    ensures { let acting = create_catalog state.now.rows command.now name.now base.now allowed.now properties.now external in Acts state.now.rows command.now acting.rules acting.after acting.answer result }
+) -> Result<Acted, Undone>
+    requires { IsSound asked.now.state.now.rows }
+    ensures { Acts asked.now (λ s command. create_catalog s command name.now base.now allowed.now properties.now external) result }
 {
-    signed_in(state, command)?;
-    allowed_service(alloc, state, command)?;
-    catalog_free(alloc, state, name)?;
-    let base = located(alloc, base)?;
-    let allowed = all_located(alloc, allowed.as_slice())?;
+    in_realm(asked)?;
+    catalog_free(asked, name)?;
+    let base = located(asked.alloc, base)?;
+    let allowed = all_located(asked.alloc, allowed.as_slice())?;
     kept_here(external)?;
     let row = CatalogRow {
-        id: state.next_id(),
+        id: asked.state.next_id(),
         name: name.clone()?,
         base,
         allowed,
         properties: properties.clone()?,
     };
-    let service = service_admin(state);
-    catalog_within(state, &row, service)?;
-    Ok(created(alloc, state, command, row, service)?)
+    let service = service_admin(asked.state);
+    Ok(created(asked, row, service)?)
 }
 
 /// The catalogue is put with its `catalog_admin`, and two ids are taken.
 fn created(
-    alloc: Global,
-    state: &State,
-    command: &Command,
+    asked: &Asked<'_>,
     row: CatalogRow,
     service: &PrincipalRoleRow,
 ) -> Result<Acted, OutOfMemory>
-    requires sound { IsSound state.now.rows }
-    requires id { row.id ≡ state.now.rows.next_id }
-    requires within { row.id + 1 < 2 ^ 62 }
+    requires sound { IsSound asked.now.state.now.rows }
+    requires id { row.id ≡ asked.now.state.now.rows.next_id }
+    requires within { row.id ≤ 2 ^ 62 }
     ensures answer { IfOk result (λ acted. acted.answer ≡ CatalogCreated row) }
-    ensures changes { IfOk result (λ acted. acted.changes ≡ changes_between state.now.rows (stamped state.now.rows command.now (with_catalog state.now.rows row service.now))) }
+    ensures changes { IfOk result (λ acted. acted.changes ≡ changes_to asked.now (λ s. with_catalog s row service.now)) }
 {
     let shown = row.clone()?;
-    let admin = catalog_admin(alloc, row.id)?;
+    let admin = catalog_admin(asked.alloc, row.id)?;
     let (catalog, role) = (row.id, admin.id);
     Ok(Acted {
         answer: Answer::CatalogCreated(shown),
-        changes: Listed::from(vec![in alloc;
-            Change::Time(time_of(state, command)),
+        changes: Listed::from(vec![in asked.alloc;
+            Change::Time(time_of(asked)),
             Change::NextId(catalog + 2),
             Change::PutCatalog(row),
             Change::PutCatalogRole(admin),
@@ -147,7 +133,7 @@ fn created(
 /// The role `catalog_admin` of a catalogue, named by its id. Its own id is the one after the catalogue's.
 #[tactic(auto, unfolding(pol_names::specs::Plain::plain_refusal))]
 fn catalog_admin(alloc: Global, catalog: u64) -> Result<CatalogRoleRow, OutOfMemory>
-    requires { catalog + 1 < 2 ^ 62 }
+    requires { catalog ≤ 2 ^ 62 }
     ensures { IfOk result (λ row. row ≡ admin_of catalog) }
 {
     Ok(CatalogRoleRow {
@@ -159,7 +145,7 @@ fn catalog_admin(alloc: Global, catalog: u64) -> Result<CatalogRoleRow, OutOfMem
 
 /// The grant of a privilege on a catalogue, named by its id, to its `catalog_admin`.
 fn admin_grant(privilege: Privilege, catalog: u64) -> GrantRow
-    requires { catalog + 1 < 2 ^ 62 }
+    requires { catalog ≤ 2 ^ 62 }
     ensures { result ≡ admin_grant privilege catalog }
 {
     GrantRow {
@@ -171,59 +157,44 @@ fn admin_grant(privilege: Privilege, catalog: u64) -> GrantRow
 
 /// Shows a catalogue.
 #[tactic(auto, using(pol_rules::proofs::LeadsLemmas::no_changes))]
-pub fn get_catalog(
-    alloc: Global,
-    state: &State,
-    command: &Command,
-    name: &Plain,
-) -> Result<Acted, Stop>
-    requires { IsSound state.now.rows }
-    ensures { let acting = get_catalog state.now.rows command.now name.now in Acts state.now.rows command.now acting.rules acting.after acting.answer result }
+pub fn get_catalog(asked: &Asked<'_>, name: &Plain) -> Result<Acted, Undone>
+    requires { IsSound asked.now.state.now.rows }
+    ensures { Acts asked.now (λ s command. get_catalog s command name.now) result }
 {
-    signed_in(state, command)?;
-    let catalog = catalog_there(alloc, state, name)?;
+    signed_in(asked)?;
+    let catalog = catalog_there(asked, name)?;
     let privilege = Privilege::CatalogReadProperties;
-    allowed_on_catalog(alloc, state, command, privilege, catalog)?;
+    allowed_on_catalog(asked, privilege, catalog)?;
     let row = catalog.clone()?;
-    Ok(unchanged(alloc, Answer::CatalogLoaded(row)))
+    Ok(unchanged(asked.alloc, Answer::CatalogLoaded(row)))
 }
 
 /// Drops a catalogue.
-pub fn drop_catalog(
-    alloc: Global,
-    state: &State,
-    command: &Command,
-    name: &Plain,
-) -> Result<Acted, Stop>
-    requires { IsSound state.now.rows }
-    ensures { let acting = drop_catalog state.now.rows command.now name.now in Acts state.now.rows command.now acting.rules acting.after acting.answer result }
+pub fn drop_catalog(asked: &Asked<'_>, name: &Plain) -> Result<Acted, Undone>
+    requires { IsSound asked.now.state.now.rows }
+    ensures { Acts asked.now (λ s command. drop_catalog s command name.now) result }
 {
-    signed_in(state, command)?;
-    let row = catalog_there(alloc, state, name)?;
-    allowed_service(alloc, state, command)?;
-    catalog_empty(alloc, state, row)?;
-    Ok(dropped(alloc, state, command, row)?)
+    signed_in(asked)?;
+    let row = catalog_there(asked, name)?;
+    allowed_service(asked)?;
+    catalog_empty(asked, row)?;
+    Ok(dropped(asked, row)?)
 }
 
 /// The catalogue is taken away, with its roles and what names these.
-fn dropped(
-    alloc: Global,
-    state: &State,
-    command: &Command,
-    row: &CatalogRow,
-) -> Result<Acted, OutOfMemory>
-    requires sound { IsSound state.now.rows }
-    requires there { row_of catalog_id row.now.id state.now.rows.content.catalogs ≡ Some row.now }
+fn dropped(asked: &Asked<'_>, row: &CatalogRow) -> Result<Acted, OutOfMemory>
+    requires sound { IsSound asked.now.state.now.rows }
+    requires there { row_of catalog_id row.now.id asked.now.state.now.rows.content.catalogs ≡ Some row.now }
     ensures answer { IfOk result (λ acted. acted.answer ≡ CatalogDropped) }
-    ensures changes { IfOk result (λ acted. acted.changes ≡ changes_between state.now.rows (stamped state.now.rows command.now (without_catalog state.now.rows row.now))) }
+    ensures changes { IfOk result (λ acted. acted.changes ≡ changes_to asked.now (λ s. without_catalog s row.now)) }
 {
-    let mut changes = vec![in alloc;
-        Change::Time(time_of(state, command)),
+    let mut changes = vec![in asked.alloc;
+        Change::Time(time_of(asked)),
         Change::DropCatalog(row.id),
     ]?;
-    push_roles(alloc, state, row.id, &mut changes)?;
-    push_joins(alloc, state, Referent::RoleOfCatalog(row.id), &mut changes)?;
-    push_grants(alloc, state, Referent::RoleOfCatalog(row.id), &mut changes)?;
+    push_roles(asked, row.id, &mut changes)?;
+    push_joins(asked, Referent::RoleOfCatalog(row.id), &mut changes)?;
+    push_grants(asked, Referent::RoleOfCatalog(row.id), &mut changes)?;
     Ok(Acted {
         answer: Answer::CatalogDropped,
         changes: Listed::from(changes),

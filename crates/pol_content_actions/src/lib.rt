@@ -1,7 +1,6 @@
 //! The actions on sessions, catalogues and namespaces.
 #![tactic(auto)]
 
-mod bounds;
 pub mod catalogs;
 pub mod namespaces;
 mod scopes;

@@ -1,17 +1,14 @@
-ghost use Rattle.std.specs.Prelude.{◌≡◌, ◌<◌, ◌^◌, map, Some, IfOk, option_copied};
+ghost use Rattle.std.specs.Prelude.{◌≡◌, ◌≤◌, ◌^◌, map, Some, IfOk, option_copied};
 ghost use Rattle.pol_content.specs.Content.{namespace_id};
 ghost use Rattle.pol_properties.specs.Properties.{keys, missing_keys, pairs_updated, removed_keys};
 ghost use Rattle.pol_tables.specs.Table.{row_of};
-ghost use Rattle.pol_state.specs.Changes.{changes_between};
-ghost use Rattle.pol_rules.specs.Judged.{Acts};
-ghost use Rattle.pol_rules.specs.Acting.{stamped};
-ghost use Rattle.pol_content_actions.specs.Namespaces.{create_namespace, drop_namespace, head_namespace, list_namespaces, listed, load_namespace, update_properties, with_altered, with_namespace, without_namespace};
+ghost use Rattle.pol_rules.specs.Judged.{Acts, Enters, changes_to};
+ghost use Rattle.pol_content_actions.specs.Namespaces.{create_namespace, drop_namespace, head_namespace, list_namespaces, listed, load_namespace, namespace_row_at, on_namespace, update_properties, with_altered, with_namespace, without_namespace};
 ghost use Rattle.pol_state.specs.Sound.{IsSound};
 ghost use Rattle.pol_commands.specs.declared.reply.Answer.TheVariants.{NamespaceCreated, NamespaceDropped, PropertiesUpdated};
 
-use crate::bounds::{altered_within, namespace_within};
 use pol_access::{Privilege, Referent, Securable};
-use pol_commands::{Answer, Command};
+use pol_commands::Answer;
 use pol_content::{CatalogRow, Change, NamespaceRow};
 use pol_names::{Namespace, Plain};
 use pol_properties::Properties;
@@ -22,44 +19,41 @@ use pol_rules::namespace_rules::{
     keys_apart, levels_free, namespace_empty, namespace_there, parent_there,
 };
 use pol_rules::needs::{allowed_on_parent, allowed_on_path};
-use pol_rules::rules::{Acted, Stop, time_of, unchanged};
-use pol_state::State;
+use pol_rules::rules::{Acted, Asked, Undone, time_of, unchanged};
 use pol_types::{Listed, OutOfMemory, Text};
 use std::alloc::Global;
 
 /// Lists the namespaces directly below a parent, or those of one level.
 #[tactic(auto, using(pol_rules::proofs::LeadsLemmas::no_changes))]
 pub fn list_namespaces(
-    alloc: Global,
-    state: &State,
-    command: &Command,
+    asked: &Asked<'_>,
     name: &Plain,
     parent: &Option<Namespace>,
-) -> Result<Acted, Stop>
-    requires { IsSound state.now.rows }
-    ensures { let acting = list_namespaces state.now.rows command.now name.now parent.now in Acts state.now.rows command.now acting.rules acting.after acting.answer result }
+) -> Result<Acted, Undone>
+    requires { IsSound asked.now.state.now.rows }
+    ensures { Acts asked.now (λ s command. list_namespaces s command name.now parent.now) result }
 {
-    signed_in(state, command)?;
-    let catalog = catalog_there(alloc, state, name)?;
+    signed_in(asked)?;
+    let catalog = catalog_there(asked, name)?;
     let privilege = Privilege::NamespaceList;
-    allowed_on_parent(alloc, state, command, privilege, parent.as_ref(), catalog)?;
-    parent_there(alloc, state, catalog.id, parent.as_ref())?;
-    let namespaces = children(alloc, state, catalog, parent.as_ref())?;
-    Ok(unchanged(alloc, Answer::NamespacesListed(namespaces)))
+    allowed_on_parent(asked, privilege, parent.as_ref(), catalog)?;
+    parent_there(asked, catalog.id, parent.as_ref())?;
+    let namespaces = children(asked, catalog, parent.as_ref())?;
+    Ok(unchanged(asked.alloc, Answer::NamespacesListed(namespaces)))
 }
 
 /// The levels of the namespaces that are listed, in their order.
 #[tactic(auto, using(crate::proofs::RowsLemmas::levels_shown))]
 fn children(
-    alloc: Global,
-    state: &State,
+    asked: &Asked<'_>,
     catalog: &CatalogRow,
     parent: Option<&Namespace>,
 ) -> Result<Listed<Namespace>, OutOfMemory>
-    ensures { IfOk result (λ namespaces. namespaces ≡ listed state.now.rows (option_copied parent.entry) catalog.now) }
+    ensures { IfOk result (λ namespaces. namespaces ≡ listed asked.now.state.now.rows (option_copied parent.entry) catalog.now) }
 {
-    let rows = state.content().children(alloc, catalog.id, parent)?;
-    levels_of(alloc, rows.as_slice())
+    let content = asked.state.content();
+    let rows = content.children(asked.alloc, catalog.id, parent)?;
+    levels_of(asked.alloc, rows.as_slice())
 }
 
 fn levels_of(alloc: Global, rows: &[&NamespaceRow]) -> Result<Listed<Namespace>, OutOfMemory>
@@ -73,43 +67,39 @@ fn levels_of(alloc: Global, rows: &[&NamespaceRow]) -> Result<Listed<Namespace>,
 }
 
 /// Creates a namespace.
+#[tactic(auto, using(pol_state::proofs::BoundsLemmas::next_id_bound))]
 pub fn create_namespace(
-    alloc: Global,
-    state: &State,
-    command: &Command,
+    asked: &Asked<'_>,
     name: &Plain,
     levels: &Namespace,
     properties: &Properties,
-) -> Result<Acted, Stop>
-    requires { IsSound state.now.rows }
-    ensures { let acting = create_namespace state.now.rows command.now name.now levels.now properties.now in Acts state.now.rows command.now acting.rules acting.after acting.answer result }
+) -> Result<Acted, Undone>
+    requires { IsSound asked.now.state.now.rows }
+    ensures { Acts asked.now (λ s command. create_namespace s command name.now levels.now properties.now) result }
 {
-    signed_in(state, command)?;
-    let catalog = catalog_there(alloc, state, name)?;
-    let parent = levels.parent(alloc)?;
+    signed_in(asked)?;
+    let catalog = catalog_there(asked, name)?;
+    let parent = levels.parent(asked.alloc)?;
     let privilege = Privilege::NamespaceCreate;
-    allowed_on_parent(alloc, state, command, privilege, parent.as_ref(), catalog)?;
-    parent_there(alloc, state, catalog.id, parent.as_ref())?;
-    levels_free(alloc, state, catalog, levels)?;
-    namespace_within(state, catalog, levels, properties)?;
-    Ok(created(alloc, state, command, catalog, levels, properties)?)
+    allowed_on_parent(asked, privilege, parent.as_ref(), catalog)?;
+    parent_there(asked, catalog.id, parent.as_ref())?;
+    levels_free(asked, catalog, levels)?;
+    Ok(created(asked, catalog, levels, properties)?)
 }
 
 /// The namespace is put, and an id is taken.
 fn created(
-    alloc: Global,
-    state: &State,
-    command: &Command,
+    asked: &Asked<'_>,
     catalog: &CatalogRow,
     levels: &Namespace,
     properties: &Properties,
 ) -> Result<Acted, OutOfMemory>
-    requires sound { IsSound state.now.rows }
-    requires within { state.now.rows.next_id < 2 ^ 62 }
+    requires sound { IsSound asked.now.state.now.rows }
+    requires within { asked.now.state.now.rows.next_id ≤ 2 ^ 62 }
     ensures answer { IfOk result (λ acted. acted.answer ≡ NamespaceCreated levels.now properties.now) }
-    ensures changes { IfOk result (λ acted. acted.changes ≡ changes_between state.now.rows (stamped state.now.rows command.now (with_namespace state.now.rows levels.now properties.now catalog.now))) }
+    ensures changes { IfOk result (λ acted. acted.changes ≡ changes_to asked.now (λ s. with_namespace s levels.now properties.now catalog.now)) }
 {
-    let id = state.next_id();
+    let id = asked.state.next_id();
     let row = NamespaceRow {
         id,
         catalog: catalog.id,
@@ -121,97 +111,80 @@ fn created(
             namespace: levels.clone()?,
             properties: properties.clone()?,
         },
-        changes: Listed::from(vec![in alloc;
-            Change::Time(time_of(state, command)),
+        changes: Listed::from(vec![in asked.alloc;
+            Change::Time(time_of(asked)),
             Change::NextId(id + 1),
             Change::PutNamespace(row),
         ]?),
     })
 }
 
-/// Shows a namespace.
-#[tactic(auto, using(pol_rules::proofs::LeadsLemmas::no_changes), unfolding(crate::specs::Namespaces::namespace_at))]
-pub fn load_namespace(
-    alloc: Global,
-    state: &State,
-    command: &Command,
+/// The namespace of these levels in the catalogue of the name, on which the caller may use the privilege.
+#[tactic(auto, unfolding(crate::specs::Namespaces::namespace_row_at))]
+fn on_namespace<'a>(
+    asked: &Asked<'a>,
+    privilege: Privilege,
     name: &Plain,
     levels: &Namespace,
-) -> Result<Acted, Stop>
-    requires { IsSound state.now.rows }
-    ensures { let acting = load_namespace state.now.rows command.now name.now levels.now in Acts state.now.rows command.now acting.rules acting.after acting.answer result }
+) -> Result<&'a NamespaceRow, Undone>
+    requires { IsSound asked.now.state.now.rows }
+    ensures { let s = asked.now.state.now.rows in Enters (on_namespace s asked.now.command.now privilege name.now levels.now) (λ row. (namespace_row_at s name.now levels.now ≡ Some row.now) × (row_of namespace_id row.now.id s.content.namespaces ≡ Some row.now)) result }
 {
-    signed_in(state, command)?;
-    let catalog = catalog_there(alloc, state, name)?;
-    let privilege = Privilege::NamespaceReadProperties;
-    allowed_on_path(alloc, state, command, privilege, levels, catalog)?;
-    let row = namespace_there(alloc, state, catalog.id, levels)?;
+    signed_in(asked)?;
+    let catalog = catalog_there(asked, name)?;
+    allowed_on_path(asked, privilege, levels, catalog)?;
+    let row = namespace_there(asked, catalog.id, levels)?;
+    Ok(row)
+}
+
+/// Shows a namespace.
+#[tactic(auto, using(crate::proofs::ProloguesLemmas::on_namespace_stops, pol_rules::proofs::LeadsLemmas::no_changes))]
+pub fn load_namespace(asked: &Asked<'_>, name: &Plain, levels: &Namespace) -> Result<Acted, Undone>
+    requires { IsSound asked.now.state.now.rows }
+    ensures { Acts asked.now (λ s command. load_namespace s command name.now levels.now) result }
+{
+    let row = on_namespace(asked, Privilege::NamespaceReadProperties, name, levels)?;
     let answer = Answer::NamespaceLoaded {
         namespace: row.levels.clone()?,
         properties: row.properties.clone()?,
     };
-    Ok(unchanged(alloc, answer))
+    Ok(unchanged(asked.alloc, answer))
 }
 
 /// Tells whether a namespace is there.
-#[tactic(auto, using(pol_rules::proofs::LeadsLemmas::no_changes))]
-pub fn head_namespace(
-    alloc: Global,
-    state: &State,
-    command: &Command,
-    name: &Plain,
-    levels: &Namespace,
-) -> Result<Acted, Stop>
-    requires { IsSound state.now.rows }
-    ensures { let acting = head_namespace state.now.rows command.now name.now levels.now in Acts state.now.rows command.now acting.rules acting.after acting.answer result }
+#[tactic(auto, using(crate::proofs::ProloguesLemmas::on_namespace_stops, pol_rules::proofs::LeadsLemmas::no_changes))]
+pub fn head_namespace(asked: &Asked<'_>, name: &Plain, levels: &Namespace) -> Result<Acted, Undone>
+    requires { IsSound asked.now.state.now.rows }
+    ensures { Acts asked.now (λ s command. head_namespace s command name.now levels.now) result }
 {
-    signed_in(state, command)?;
-    let catalog = catalog_there(alloc, state, name)?;
-    let privilege = Privilege::NamespaceReadProperties;
-    allowed_on_path(alloc, state, command, privilege, levels, catalog)?;
-    namespace_there(alloc, state, catalog.id, levels)?;
-    Ok(unchanged(alloc, Answer::NamespaceThere))
+    on_namespace(asked, Privilege::NamespaceReadProperties, name, levels)?;
+    Ok(unchanged(asked.alloc, Answer::NamespaceThere))
 }
 
 /// Drops a namespace.
-#[tactic(auto, unfolding(crate::specs::Namespaces::namespace_at))]
-pub fn drop_namespace(
-    alloc: Global,
-    state: &State,
-    command: &Command,
-    name: &Plain,
-    levels: &Namespace,
-) -> Result<Acted, Stop>
-    requires { IsSound state.now.rows }
-    ensures { let acting = drop_namespace state.now.rows command.now name.now levels.now in Acts state.now.rows command.now acting.rules acting.after acting.answer result }
+#[tactic(auto, using(crate::proofs::ProloguesLemmas::on_namespace_stops))]
+pub fn drop_namespace(asked: &Asked<'_>, name: &Plain, levels: &Namespace) -> Result<Acted, Undone>
+    requires { IsSound asked.now.state.now.rows }
+    ensures { Acts asked.now (λ s command. drop_namespace s command name.now levels.now) result }
 {
-    signed_in(state, command)?;
-    let catalog = catalog_there(alloc, state, name)?;
-    let privilege = Privilege::NamespaceDrop;
-    allowed_on_path(alloc, state, command, privilege, levels, catalog)?;
-    let row = namespace_there(alloc, state, catalog.id, levels)?;
-    namespace_empty(alloc, state, row)?;
-    Ok(dropped(alloc, state, command, row)?)
+    let row = on_namespace(asked, Privilege::NamespaceDrop, name, levels)?;
+    namespace_empty(asked, row)?;
+    Ok(dropped(asked, row)?)
 }
 
 /// The namespace is taken away, with the grants on it.
-fn dropped(
-    alloc: Global,
-    state: &State,
-    command: &Command,
-    row: &NamespaceRow,
-) -> Result<Acted, OutOfMemory>
-    requires sound { IsSound state.now.rows }
-    requires there { row_of namespace_id row.now.id state.now.rows.content.namespaces ≡ Some row.now }
+fn dropped(asked: &Asked<'_>, row: &NamespaceRow) -> Result<Acted, OutOfMemory>
+    requires sound { IsSound asked.now.state.now.rows }
+    requires there { row_of namespace_id row.now.id asked.now.state.now.rows.content.namespaces ≡ Some row.now }
     ensures answer { IfOk result (λ acted. acted.answer ≡ NamespaceDropped) }
-    ensures changes { IfOk result (λ acted. acted.changes ≡ changes_between state.now.rows (stamped state.now.rows command.now (without_namespace state.now.rows row.now))) }
+    ensures changes { IfOk result (λ acted. acted.changes ≡ changes_to asked.now (λ s. without_namespace s row.now)) }
 {
-    let mut changes = vec![in alloc;
-        Change::Time(time_of(state, command)),
+    let mut changes = vec![in asked.alloc;
+        Change::Time(time_of(asked)),
         Change::DropNamespace(row.id),
     ]?;
     let namespace = Referent::Securable(Securable::Namespace(row.id));
-    push_grants(alloc, state, namespace, &mut changes)?;
+    push_grants(asked, namespace, &mut changes)?;
     Ok(Acted {
         answer: Answer::NamespaceDropped,
         changes: Listed::from(changes),
@@ -219,29 +192,22 @@ fn dropped(
 }
 
 /// Removes and sets properties of a namespace.
-#[tactic(auto, unfolding(crate::specs::Namespaces::namespace_at))]
+#[tactic(auto, using(crate::proofs::ProloguesLemmas::on_namespace_stops))]
 pub fn update_properties(
-    alloc: Global,
-    state: &State,
-    command: &Command,
+    asked: &Asked<'_>,
     name: &Plain,
     levels: &Namespace,
     removals: &Listed<Text>,
     updates: &Properties,
-) -> Result<Acted, Stop>
-    requires { IsSound state.now.rows }
-    ensures { let acting = update_properties state.now.rows command.now name.now levels.now removals.now updates.now in Acts state.now.rows command.now acting.rules acting.after acting.answer result }
+) -> Result<Acted, Undone>
+    requires { IsSound asked.now.state.now.rows }
+    ensures { Acts asked.now (λ s command. update_properties s command name.now levels.now removals.now updates.now) result }
 {
-    signed_in(state, command)?;
-    let catalog = catalog_there(alloc, state, name)?;
-    let privilege = Privilege::NamespaceWriteProperties;
-    allowed_on_path(alloc, state, command, privilege, levels, catalog)?;
-    let row = namespace_there(alloc, state, catalog.id, levels)?;
+    let row = on_namespace(asked, Privilege::NamespaceWriteProperties, name, levels)?;
     keys_apart(removals, updates)?;
-    let altered = with_updates(alloc, row, removals, updates)?;
-    altered_within(state, row, &altered)?;
-    let answer = keys_told(alloc, row, removals, updates)?;
-    let changes = altered_changes(alloc, state, command, row, altered)?;
+    let altered = with_updates(asked.alloc, row, removals, updates)?;
+    let answer = keys_told(asked.alloc, row, removals, updates)?;
+    let changes = altered_changes(asked, row, altered)?;
     Ok(Acted { answer, changes })
 }
 
@@ -281,22 +247,20 @@ fn keys_told(
 
 /// The changes by which a namespace that is there is altered: none where it stays as it is.
 fn altered_changes(
-    alloc: Global,
-    state: &State,
-    command: &Command,
+    asked: &Asked<'_>,
     row: &NamespaceRow,
     altered: NamespaceRow,
 ) -> Result<Listed<Change>, OutOfMemory>
-    requires sound { IsSound state.now.rows }
-    requires there { row_of namespace_id row.now.id state.now.rows.content.namespaces ≡ Some row.now }
+    requires sound { IsSound asked.now.state.now.rows }
+    requires there { row_of namespace_id row.now.id asked.now.state.now.rows.content.namespaces ≡ Some row.now }
     requires id { altered.id ≡ row.now.id }
-    ensures { IfOk result (λ changes. changes ≡ changes_between state.now.rows (stamped state.now.rows command.now (with_altered state.now.rows altered))) }
+    ensures { IfOk result (λ changes. changes ≡ changes_to asked.now (λ s. with_altered s altered)) }
 {
     if altered == *row {
-        return Ok(Listed::from(Vec::new(alloc)));
+        return Ok(Listed::from(Vec::new(asked.alloc)));
     }
-    Ok(Listed::from(vec![in alloc;
-        Change::Time(time_of(state, command)),
+    Ok(Listed::from(vec![in asked.alloc;
+        Change::Time(time_of(asked)),
         Change::PutNamespace(altered),
     ]?))
 }

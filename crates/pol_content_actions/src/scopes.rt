@@ -10,7 +10,7 @@ ghost use Rattle.pol_state.specs.Sound.{IsSound};
 
 use pol_access::{Access, PrincipalRoleRow, RoleIds, Scope};
 use pol_commands::Refusal;
-use pol_state::State;
+use pol_rules::rules::Asked;
 use pol_types::{Listed, OutOfMemory, Text};
 use std::alloc::Global;
 
@@ -22,14 +22,14 @@ const ROLE_PREFIX: &str = "PRINCIPAL_ROLE:";
 
 /// Each of these words is all roles or a role of the principal.
 pub(crate) fn scopes_there(
-    state: &State,
+    asked: &Asked<'_>,
     principal: u64,
     scopes: &Listed<Text>,
 ) -> Result<(), Refusal>
-    requires { IsSound state.now.rows }
-    ensures { Sees (invalid_scope state.now.rows principal scopes.now) (λ _. ⊤) result }
+    requires { IsSound asked.now.state.now.rows }
+    ensures { Sees (invalid_scope asked.now.state.now.rows principal scopes.now) (λ _. ⊤) result }
 {
-    if !are_scopes(state.access(), principal, scopes) {
+    if !are_scopes(asked.state.access(), principal, scopes) {
         return Err(Refusal::InvalidScope);
     }
     Ok(())
@@ -56,18 +56,17 @@ fn is_scope(access: &Access, principal: u64, scope: &str) -> bool
 /// The scope that these words make, each of which is all roles or a role of the principal.
 #[tactic(auto, unfolding(crate::specs::Sessions::scope_of))]
 pub(crate) fn scope_of(
-    alloc: Global,
-    state: &State,
+    asked: &Asked<'_>,
     principal: u64,
     scopes: &Listed<Text>,
 ) -> Result<Scope, OutOfMemory>
-    requires { IsSound state.now.rows }
-    ensures { IfOk result (λ scope. scope ≡ scope_of state.now.rows principal scopes.now) }
+    requires { IsSound asked.now.state.now.rows }
+    ensures { IfOk result (λ scope. scope ≡ scope_of asked.now.state.now.rows principal scopes.now) }
 {
     if mean_all_roles(scopes) {
         return Ok(Scope::All);
     }
-    let roles = held_roles(alloc, state.access(), principal, scopes)?;
+    let roles = held_roles(asked.alloc, asked.state.access(), principal, scopes)?;
     Ok(Scope::Roles(roles))
 }
 

@@ -24,7 +24,7 @@ use Rattle.pol_state.specs.Sound.{IsSound}
 use Rattle.pol_state.proofs.ChangesLemmas.{made-in_place, made-with_ids, none, still}
 use Rattle.pol_rules.specs.Acting.{stamped}
 use Rattle.pol_rules.specs.Rules.{time_of}
-use Rattle.pol_rules.proofs.LimitsLemmas.{next-new}
+use Rattle.pol_rules.proofs.SoundLemmas.{next-new}
 use Rattle.pol_grant_actions.specs.CatalogRoles.{with_catalog_role, without_catalog_role}
 use Rattle.pol_grant_actions.specs.Grants.{with_grant, without_grant}
 use Rattle.pol_grant_actions.specs.Joins.{with_join, without_join}
@@ -50,22 +50,22 @@ module _ (s : Rows) (command : Command) where
 
   module _ (sound : IsSound s) where
     catalog_roles-differ : IdsDiffer catalog_role_id s.access.catalog_roles
-    catalog_roles-differ = IdsDiffer-rising catalog_role_id s.access.catalog_roles sound.access.catalog_roles.rise
+    catalog_roles-differ = IdsDiffer-rising catalog_role_id s.access.catalog_roles sound.orderly.access.catalog_roles.rise
 
     -- a join that is there is taken away
     pub ended_join_changes : (row : JoinRow) → holds join.the_row.coded row s.access.joins ≡ true → changes_between s (stamped s command (without_join s row)) ≡ Time (time_of s command) ∷ DropJoin row ∷ []
     ended_join_changes row there =
-        made-in_place s (stamped s command (without_join s row)) (record none { joins = DropJoin row ∷ [] }) refl refl (λ i. record (still s i) { joins = fact_changes-take join.the_row.coded join_cmp PutJoin DropJoin row s.access.joins sound.access.joins.differ there i })
+        made-in_place s (stamped s command (without_join s row)) (record none { joins = DropJoin row ∷ [] }) refl refl (λ i. record (still s i) { joins = fact_changes-take join.the_row.coded join_cmp PutJoin DropJoin row s.access.joins sound.orderly.access.joins.differ there i })
 
     -- a grant that is there is taken away
     pub ended_grant_changes : (row : GrantRow) → holds grant.the_row.coded row s.access.grants ≡ true → changes_between s (stamped s command (without_grant s row)) ≡ Time (time_of s command) ∷ DropGrant row ∷ []
     ended_grant_changes row there =
-        made-in_place s (stamped s command (without_grant s row)) (record none { grants = DropGrant row ∷ [] }) refl refl (λ i. record (still s i) { grants = fact_changes-take grant.the_row.coded grant_cmp PutGrant DropGrant row s.access.grants sound.access.grants.differ there i })
+        made-in_place s (stamped s command (without_grant s row)) (record none { grants = DropGrant row ∷ [] }) refl refl (λ i. record (still s i) { grants = fact_changes-take grant.the_row.coded grant_cmp PutGrant DropGrant row s.access.grants sound.orderly.access.grants.differ there i })
 
     -- a catalogue role that takes the next id
     pub catalog_role_changes : (row : CatalogRoleRow) → row.id ≡ s.next_id → changes_between s (stamped s command (with_catalog_role s row)) ≡ Time (time_of s command) ∷ NextId (s.next_id + 1) ∷ PutCatalogRole row ∷ []
     catalog_role_changes row id =
-        let new = next-new catalog_role_id s.next_id row.id s.access.catalog_roles sound.access.catalog_roles id in
+        let new = next-new catalog_role_id s.next_id row.id s.access.catalog_roles sound.orderly.access.catalog_roles id in
         made-with_ids s (stamped s command (with_catalog_role s row)) 1 (record none { catalog_roles = PutCatalogRole row ∷ [] }) (omega arith) refl refl (λ i. record (still s i) { catalog_roles = table_changes-put_new catalog_role.the_row.coded catalog_role_id PutCatalogRole DropCatalogRole row s.access.catalog_roles new i })
 
     -- a catalogue role that is taken away, with its joins and grants

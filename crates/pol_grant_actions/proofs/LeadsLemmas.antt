@@ -20,7 +20,7 @@ use Rattle.pol_state.specs.Rows.{Rows}
 use Rattle.pol_state.specs.Sound.{IsSound}
 use Rattle.pol_state.proofs.AppliedLemmas.{grants-dropped, joins-dropped, with_joins, facts_without-unknown}
 use Rattle.pol_rules.specs.Rules.{time_of}
-use Rattle.pol_rules.proofs.LimitsLemmas.{facts_with-known}
+use Rattle.pol_tables.proofs.FactsLemmas.{facts_with-known}
 use Rattle.pol_rules.proofs.LeadsLemmas.{leads-by, leads-same, Leads}
 use Rattle.pol_grant_actions.specs.CatalogRoles.{with_catalog_role, without_catalog_role}
 use Rattle.pol_grant_actions.specs.Grants.{with_grant, without_grant}

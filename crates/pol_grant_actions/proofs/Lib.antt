@@ -1,6 +1,5 @@
 pub mod ChangesLemmas
 pub mod LeadsLemmas
-pub mod LimitsLemmas
 pub mod NamesLemmas
 pub mod OwesLemmas
 pub mod SoundLemmas

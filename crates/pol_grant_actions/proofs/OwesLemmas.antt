@@ -9,12 +9,12 @@ use Rattle.pol_rules.specs.Acting.{Acting}
 use Rattle.pol_rules.specs.Live.{live_part}
 use Rattle.pol_rules.proofs.FairLemmas.{none-fair, ◌⊳◌, fair-catalog_role_taken, fair-given, fair-in_catalog, fair-inside, fair-no_catalog_role, fair-no_grant, fair-no_join, fair-no_principal_role, fair-no_securable, fair-reserved, fair-reserved_grant, fair-reserved_join}
 use Rattle.pol_rules.proofs.FoundLemmas.{at-own, role-at}
-use Rattle.pol_rules.proofs.OwesLemmas.{fair-limit, owes-apart, owes-done, owes-reading, Owes}
+use Rattle.pol_rules.proofs.OwesLemmas.{owes-apart, owes-done, owes-reading, Owes}
 use Rattle.pol_grant_actions.specs.CatalogRoles.{create_catalog_role, drop_catalog_role, get_catalog_role, list_catalog_roles, with_role_in, without_catalog_role}
 use Rattle.pol_grant_actions.specs.Grants.{add_grant, list_grants, revoke, with_grant, without_grant}
 use Rattle.pol_grant_actions.specs.Joins.{add_join, end_join, list_joins, with_join, without_join}
 use Rattle.pol_grant_actions.proofs.LeadsLemmas.{leads-with_catalog_role, leads-with_grant, leads-with_join, leads-without_catalog_role, leads-without_grant, leads-without_join}
-use Rattle.pol_grant_actions.proofs.SoundLemmas.{sound-add_grant, sound-add_join, sound-create_catalog_role, sound-drop_catalog_role, sound-end_join, sound-revoke}
+use Rattle.pol_grant_actions.proofs.SoundLemmas.{orderly-add_grant, orderly-add_join, orderly-create_catalog_role, orderly-drop_catalog_role, orderly-end_join, orderly-revoke}
 
 module _ (s : Rows) (command : Command) where
   abbrev live : Rows
@@ -29,14 +29,12 @@ module _ (s : Rows) (command : Command) where
   owes-list_catalog_roles catalog = owes-reading s command (fair-in_catalog command catalog none-fair)
 
   pub owes-create_catalog_role : (catalog name : List ℕ) → OwesAlike (λ t. create_catalog_role t command catalog name)
-  owes-create_catalog_role catalog name =
-      let rows = owes-done s command (catalog_named catalog s.content) (with_role_in s name) (with_role_in live name) (λ owner found. owes-apart s command (with_role_in s name owner) refl (λ sound. leads-with_catalog_role s command sound (record { id = s.next_id; catalog = owner.id; name = name }) refl)) in
-      record {
-        rows = rows;
-        sound = λ sound within passes. sound-create_catalog_role s command sound within catalog name passes;
-        fair = fair-in_catalog command catalog (fair-inside catalog (fair-catalog_role_taken name) ⊳ fair-limit s command rows ⊳ none-fair);
-        answer = refl;
-      }
+  owes-create_catalog_role catalog name = record {
+    rows = owes-done s command (catalog_named catalog s.content) (with_role_in s name) (with_role_in live name) (λ owner found. owes-apart s command (with_role_in s name owner) refl (λ sound. leads-with_catalog_role s command sound (record { id = s.next_id; catalog = owner.id; name = name }) refl));
+    orderly = λ sound within passes. orderly-create_catalog_role s command sound within catalog name passes;
+    fair = fair-in_catalog command catalog (fair-inside catalog (fair-catalog_role_taken name) ⊳ none-fair);
+    answer = refl;
+  }
 
   pub owes-get_catalog_role : (catalog name : List ℕ) → OwesAlike (λ t. get_catalog_role t command catalog name)
   owes-get_catalog_role catalog name =
@@ -45,7 +43,7 @@ module _ (s : Rows) (command : Command) where
   pub owes-drop_catalog_role : (catalog name : List ℕ) → OwesAlike (λ t. drop_catalog_role t command catalog name)
   owes-drop_catalog_role catalog name = record {
     rows = owes-done s command (catalog_role_at s catalog name) _ _ (λ row found. owes-apart s command (without_catalog_role s row) refl (λ sound. leads-without_catalog_role s command sound row (at-own s sound catalog name row (role-at s catalog name row found))));
-    sound = λ sound within passes. sound-drop_catalog_role s command sound within catalog name passes;
+    orderly = λ sound within passes. orderly-drop_catalog_role s command sound within catalog name passes;
     fair = fair-in_catalog command catalog (fair-inside catalog (fair-no_catalog_role name) ⊳ fair-reserved (codes "catalog_admin") name ⊳ none-fair);
     answer = refl;
   }
@@ -56,20 +54,18 @@ module _ (s : Rows) (command : Command) where
 
   pub owes-add_join : (catalog role catalog_role : List ℕ) → OwesAlike (λ t. add_join t command catalog role catalog_role)
   unfolding join_of
-  owes-add_join catalog role catalog_role =
-      let rows = owes-done s command (join_of s catalog role catalog_role) (with_join s) (with_join live) (λ row found. owes-apart s command (with_join s row) refl (λ sound. leads-with_join s command row)) in
-      record {
-        rows = rows;
-        sound = λ sound within passes. sound-add_join s command sound within catalog role catalog_role passes;
-        fair = fair-in_catalog command catalog (fair-no_principal_role role ⊳ fair-inside catalog (fair-no_catalog_role catalog_role) ⊳ fair-limit s command rows ⊳ none-fair);
-        answer = refl;
-      }
+  owes-add_join catalog role catalog_role = record {
+    rows = owes-done s command (join_of s catalog role catalog_role) (with_join s) (with_join live) (λ row found. owes-apart s command (with_join s row) refl (λ sound. leads-with_join s command row));
+    orderly = λ sound within passes. orderly-add_join s command sound within catalog role catalog_role passes;
+    fair = fair-in_catalog command catalog (fair-no_principal_role role ⊳ fair-inside catalog (fair-no_catalog_role catalog_role) ⊳ none-fair);
+    answer = refl;
+  }
 
   pub owes-end_join : (catalog role catalog_role : List ℕ) → OwesAlike (λ t. end_join t command catalog role catalog_role)
   unfolding join_of
   owes-end_join catalog role catalog_role = record {
     rows = owes-done s command (join_of s catalog role catalog_role) _ _ (λ row found. owes-apart s command (without_join s row) refl (λ sound. leads-without_join s command sound row));
-    sound = λ sound within passes. sound-end_join s command sound within catalog role catalog_role passes;
+    orderly = λ sound within passes. orderly-end_join s command sound within catalog role catalog_role passes;
     fair = fair-in_catalog command catalog (fair-no_principal_role role ⊳ fair-inside catalog (fair-no_catalog_role catalog_role) ⊳ fair-given (join_of s catalog role catalog_role) (fair-no_join catalog_role) ⊳ fair-reserved_join role catalog_role ⊳ none-fair);
     answer = refl;
   }
@@ -81,20 +77,18 @@ module _ (s : Rows) (command : Command) where
 
   pub owes-add_grant : (catalog role : List ℕ) (grant : Grant) → OwesAlike (λ t. add_grant t command catalog role grant)
   unfolding grant_of
-  owes-add_grant catalog role grant =
-      let rows = owes-done s command (grant_of s catalog role grant) (with_grant s) (with_grant live) (λ row found. owes-apart s command (with_grant s row) refl (λ sound. leads-with_grant s command row)) in
-      record {
-        rows = rows;
-        sound = λ sound within passes. sound-add_grant s command sound within catalog role grant passes;
-        fair = fair-in_catalog command catalog (fair-inside catalog (fair-no_securable grant.on) ⊳ fair-inside catalog (fair-no_catalog_role role) ⊳ fair-limit s command rows ⊳ none-fair);
-        answer = refl;
-      }
+  owes-add_grant catalog role grant = record {
+    rows = owes-done s command (grant_of s catalog role grant) (with_grant s) (with_grant live) (λ row found. owes-apart s command (with_grant s row) refl (λ sound. leads-with_grant s command row));
+    orderly = λ sound within passes. orderly-add_grant s command sound within catalog role grant passes;
+    fair = fair-in_catalog command catalog (fair-inside catalog (fair-no_securable grant.on) ⊳ fair-inside catalog (fair-no_catalog_role role) ⊳ none-fair);
+    answer = refl;
+  }
 
   pub owes-revoke : (catalog role : List ℕ) (grant : Grant) → OwesAlike (λ t. revoke t command catalog role grant)
   unfolding grant_of
   owes-revoke catalog role grant = record {
     rows = owes-done s command (grant_of s catalog role grant) _ _ (λ row found. owes-apart s command (without_grant s row) refl (λ sound. leads-without_grant s command sound row));
-    sound = λ sound within passes. sound-revoke s command sound within catalog role grant passes;
+    orderly = λ sound within passes. orderly-revoke s command sound within catalog role grant passes;
     fair = fair-in_catalog command catalog (fair-inside catalog (fair-no_securable grant.on) ⊳ fair-inside catalog (fair-no_catalog_role role) ⊳ fair-given (grant_of s catalog role grant) fair-no_grant ⊳ fair-reserved_grant role grant ⊳ none-fair);
     answer = refl;
   }

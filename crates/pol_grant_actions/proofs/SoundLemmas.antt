@@ -1,6 +1,6 @@
 -- The actions on catalogue roles, joins and grants keep a state sound.
 use denote.Enum.Bare.{true_same}
-use Rattle.std.proofs.Common.{◌≡◌, ℕ, ◌+◌, ◌<◌, ◌≤◌, ◌^◌, Bool, true, false, ◌&&◌, ◌||◌, codes, List, [], ◌∷◌, length, Option, None, Some, is_some, refl, sym, ap, subst, ◌∙◌, arith, nat_eq}
+use Rattle.std.proofs.Common.{◌≡◌, ℕ, ◌+◌, Bool, true, ◌&&◌, ◌||◌, codes, List, Option, None, Some, is_some, refl, sym, ap, subst, ◌∙◌, arith, nat_eq}
 use Rattle.std.specs.Option.{option_map}
 use Rattle.std.specs.Str.{bytes_eq}
 use Rattle.std.proofs.lemmas.Bool.{and_parts, eqb-true}
@@ -38,21 +38,19 @@ use Rattle.pol_commands.specs.declared.command.Command.{Command}
 use Rattle.pol_commands.specs.declared.grants.Grant.{Grant}
 use Rattle.pol_commands.specs.declared.grants.GrantedOn.{GrantedOn}
 use Rattle.pol_commands.specs.declared.grants.GrantedOn.TheVariants as on
-use Rattle.pol_commands.specs.declared.reply.Quantity.TheVariants as quantity
 use Rattle.pol_state.specs.Rows.{Rows}
-use Rattle.pol_state.specs.Sound.{AreTied, IsGiven, IsGrantOf, IsSecurableGiven, IsSound, IsSoundAccess}
+use Rattle.pol_state.specs.Sound.{AreTied, IsGiven, IsGrantOf, IsOrderly, IsSecurableGiven, IsSound, IsSoundAccess}
 use Rattle.pol_rules.specs.AccessRules.{catalog_role_at, catalog_role_taken, grant_of, is_catalog, is_first, join_of, reserved_grant, reserved_join, securable_in}
 use Rattle.pol_rules.specs.Acting.{done, stamped}
-use Rattle.pol_rules.specs.Rules.{above, given, over_limit, EachPasses}
+use Rattle.pol_state.specs.Bounds.{EachPasses}
+use Rattle.pol_rules.specs.Rules.{given}
 use Rattle.pol_rules.proofs.FoundLemmas.{at-named, at-own, grant-found, join-found, known, role-at, role-is, role-own, text-same, catalog-own, found-holds}
-use Rattle.pol_rules.proofs.LimitsLemmas.{facts_with-known, next-new, above-within, length-facts_with}
-use Rattle.pol_rules.proofs.SoundLemmas.{access-sound, new-access-sound, sound-done, next_id-some, IsWithin}
+use Rattle.pol_rules.proofs.SoundLemmas.{access-orderly, new-access-orderly, orderly-done, next-new, next_id-some, IsWithin}
 use Rattle.pol_rules.proofs.AccessRulesLemmas.{both-not, not-kept}
-use Rattle.pol_rules.proofs.RulesLemmas.{nothing, refused-not, EachPasses-none}
+use Rattle.pol_rules.proofs.RulesLemmas.{nothing, refused-not}
 use Rattle.pol_grant_actions.specs.CatalogRoles.{create_catalog_role, drop_catalog_role, with_catalog_role, with_role_in, without_catalog_role}
 use Rattle.pol_grant_actions.specs.Grants.{add_grant, revoke, with_grant, without_grant}
 use Rattle.pol_grant_actions.specs.Joins.{add_join, end_join, with_join, without_join}
-use Rattle.pol_grant_actions.proofs.LimitsLemmas.{catalog_role_limits, new_grant_limits, new_join_limits}
 
 -- what the rules on what is kept leave out
 join-not-kept : (role catalog_role : List ℕ) → reserved_join role catalog_role ≡ None → role ≡ codes "service_admin" → catalog_role ≡ codes "catalog_admin" → ⊥
@@ -67,64 +65,50 @@ first-false role grant passes is first =
 
 module _ (s : Rows) (command : Command) (sound : IsSound s) (within : IsWithin s command) where
   catalog_roles-differ : IdsDiffer catalog_role_id s.access.catalog_roles
-  catalog_roles-differ = IdsDiffer-rising catalog_role_id s.access.catalog_roles sound.access.catalog_roles.rise
+  catalog_roles-differ = IdsDiffer-rising catalog_role_id s.access.catalog_roles sound.orderly.access.catalog_roles.rise
 
   -- a catalogue role that is created
-  pub sound-create_catalog_role : (catalog name : List ℕ) → EachPasses (create_catalog_role s command catalog name).rules → IsSound (stamped s command (create_catalog_role s command catalog name).after)
+  pub orderly-create_catalog_role : (catalog name : List ℕ) → EachPasses (create_catalog_role s command catalog name).rules → IsOrderly (stamped s command (create_catalog_role s command catalog name).after)
   unfolding catalog_role_taken
-  sound-create_catalog_role catalog name passes = sound-done s command sound within (catalog_named catalog s.content) (with_role_in s name) (λ owner found.
+  orderly-create_catalog_role catalog name passes = orderly-done s command sound within (catalog_named catalog s.content) (with_role_in s name) (λ owner found.
       let row : CatalogRoleRow = record { id = s.next_id; catalog = owner.id; name = name } in
       let taken = sym (ap (λ one. given one (catalog_role_taken s name)) found) ∙ passes.1.1.1.0 in
-      let few = sym (ap (λ one. over_limit (done s one (with_role_in s name))) found) ∙ passes.1.1.1.1.0 in
-      let bounds = EachPasses-none (above quantity.CatalogRoles 10000 (length s.access.catalog_roles + 1) ∷ above quantity.NextId (2 ^ 62) (s.next_id + 1) ∷ []) (sym (catalog_role_limits s sound row refl) ∙ few) in
-      let count = above-within quantity.CatalogRoles 10000 (length s.access.catalog_roles + 1) bounds.0 in
-      let next = above-within quantity.NextId (2 ^ 62) (s.next_id + 1) bounds.1.0 in
       let free = nothing (catalog_role_named owner.id name s.access) (refused-not (is_some (catalog_role_named owner.id name s.access)) _ taken) in
       let own = catalog-own s command sound catalog owner found in
       let there = known catalog_id owner.id owner s.content.catalogs own in
-      let given_id = found-holds (λ (one : CatalogRow). IsGiven s.next_id (catalog_id one)) (is_catalog_named catalog) s.content.catalogs owner sound.content.catalogs.given found in
-      let pushed = access.pushed_catalog_role s.next_id s.access row sound.access (next_id-some s sound) refl given_id free (let room : length s.access.catalog_roles < 10000 = omega (arith, count) in room) in
-      let last = (access.new_rows_last s.next_id s.access sound.access).2 row refl in
-      new-access-sound s command sound within (with_catalog_role s row).access next
+      let given_id = found-holds (λ (one : CatalogRow). IsGiven s.next_id (catalog_id one)) (is_catalog_named catalog) s.content.catalogs owner sound.orderly.content.catalogs.given found in
+      let pushed = access.pushed_catalog_role s.next_id s.access row sound.orderly.access (next_id-some s sound) refl given_id free in
+      let last = (access.new_rows_last s.next_id s.access sound.orderly.access).2 row refl in
+      new-access-orderly s command sound within (with_catalog_role s row).access
       (subst (λ rows. IsSoundAccess (s.next_id + 1) (record s.access { catalog_roles = rows })) (sym last) pushed)
-      (tied.pushed_catalog_role s.access s.content sound.ties row (next-new catalog_role_id s.next_id s.next_id s.access.catalog_roles sound.access.catalog_roles refl) (new_ids s.next_id s.next_id s.content sound.content (omega arith)) there))
+      (tied.pushed_catalog_role s.access s.content sound.orderly.ties row (next-new catalog_role_id s.next_id s.next_id s.access.catalog_roles sound.orderly.access.catalog_roles refl) (new_ids s.next_id s.next_id s.content sound.orderly.content (omega arith)) there))
 
   -- a catalogue role that is dropped
-  pub sound-drop_catalog_role : (catalog name : List ℕ) → EachPasses (drop_catalog_role s command catalog name).rules → IsSound (stamped s command (drop_catalog_role s command catalog name).after)
-  sound-drop_catalog_role catalog name passes = sound-done s command sound within (catalog_role_at s catalog name) (without_catalog_role s) (λ row found.
+  pub orderly-drop_catalog_role : (catalog name : List ℕ) → EachPasses (drop_catalog_role s command catalog name).rules → IsOrderly (stamped s command (drop_catalog_role s command catalog name).after)
+  orderly-drop_catalog_role catalog name passes = orderly-done s command sound within (catalog_role_at s catalog name) (without_catalog_role s) (λ row found.
       let at = role-at s catalog name row found in
-      access-sound s command sound within (without_catalog_role s row).access
-      (access.dropped_catalog_roles s.next_id row.id s.access sound.access).0
-      (tied.dropped_catalog_role s.access s.content sound.ties row catalog_roles-differ (at-own s sound catalog name row at) (not-kept (codes "catalog_admin") name row.name passes.1.1.1.1.0 (sym (at-named s catalog name row at).1))))
-
-  join-count : (row : JoinRow) → over_limit (with_join s row) ≡ None → length (facts_with join.the_row.coded row s.access.joins) ≤ 100000
-  join-count row few = by (holds join.the_row.coded row s.access.joins) refl
-    where
-      by : (b : Bool) → holds join.the_row.coded row s.access.joins ≡ b → length (facts_with join.the_row.coded row s.access.joins) ≤ 100000
-      by true there = subst (λ rows. length rows ≤ 100000) (sym (facts_with-known join.the_row.coded row s.access.joins there)) sound.access.joins.bound
-      by false new =
-          let bounds = EachPasses-none (above quantity.Joins 100000 (length s.access.joins + 1) ∷ []) (sym (new_join_limits s sound row new) ∙ few) in
-          length-facts_with join.the_row.coded row s.access.joins 100000 (above-within quantity.Joins 100000 (length s.access.joins + 1) bounds.0)
+      access-orderly s command sound within (without_catalog_role s row).access
+      (access.dropped_catalog_roles s.next_id row.id s.access sound.orderly.access).0
+      (tied.dropped_catalog_role s.access s.content sound.orderly.ties row catalog_roles-differ (at-own s sound catalog name row at) (not-kept (codes "catalog_admin") name row.name passes.1.1.1.1.0 (sym (at-named s catalog name row at).1))))
 
   -- a join that is added
-  pub sound-add_join : (catalog role catalog_role : List ℕ) → EachPasses (add_join s command catalog role catalog_role).rules → IsSound (stamped s command (add_join s command catalog role catalog_role).after)
-  sound-add_join catalog role catalog_role passes = sound-done s command sound within (join_of s catalog role catalog_role) (with_join s) (λ row found.
+  pub orderly-add_join : (catalog role catalog_role : List ℕ) → EachPasses (add_join s command catalog role catalog_role).rules → IsOrderly (stamped s command (add_join s command catalog role catalog_role).after)
+  orderly-add_join catalog role catalog_role passes = orderly-done s command sound within (join_of s catalog role catalog_role) (with_join s) (λ row found.
       let made = join-found s catalog role catalog_role row found in
-      let few = sym (ap (λ one. over_limit (done s one (with_join s))) found) ∙ passes.1.1.1.1.1.0 in
       let role_known = subst (λ (one : JoinRow). knows principal_role_id one.principal_role s.access.principal_roles ≡ true) made.is (known principal_role_id made.one.id made.one s.access.principal_roles (role-own s sound role made.one made.one_there)) in
       let to_known = subst (λ (one : JoinRow). knows catalog_role_id one.catalog_role s.access.catalog_roles ≡ true) made.is (known catalog_role_id made.to.id made.to s.access.catalog_roles (at-own s sound catalog catalog_role made.to made.to_there)) in
-      access-sound s command sound within (with_join s row).access
-      (access.put_join s.next_id s.access row sound.access role_known to_known (join-count row few))
-      (ties.put_join s.access s.content sound.ties row))
+      access-orderly s command sound within (with_join s row).access
+      (access.put_join s.next_id s.access row sound.orderly.access role_known to_known)
+      (ties.put_join s.access s.content sound.orderly.ties row))
 
   -- a join that is ended
-  pub sound-end_join : (catalog role catalog_role : List ℕ) → EachPasses (end_join s command catalog role catalog_role).rules → IsSound (stamped s command (end_join s command catalog role catalog_role).after)
-  sound-end_join catalog role catalog_role passes = sound-done s command sound within (join_of s catalog role catalog_role) (without_join s) (λ row found.
+  pub orderly-end_join : (catalog role catalog_role : List ℕ) → EachPasses (end_join s command catalog role catalog_role).rules → IsOrderly (stamped s command (end_join s command catalog role catalog_role).after)
+  orderly-end_join catalog role catalog_role passes = orderly-done s command sound within (join_of s catalog role catalog_role) (without_join s) (λ row found.
       let made = join-found s catalog role catalog_role row found in
-      let roles_differ = IdsDiffer-rising principal_role_id s.access.principal_roles sound.access.principal_roles.rise in
-      access-sound s command sound within (without_join s row).access
-      (access.dropped_join s.next_id s.access row sound.access)
-      (subst (λ (one : JoinRow). AreTied (without_join s one).access s.content) made.is (ties.dropped_join s.access s.content sound.ties made.one made.to roles_differ catalog_roles-differ (role-own s sound role made.one made.one_there) (at-own s sound catalog catalog_role made.to made.to_there) (λ service admin. join-not-kept role catalog_role passes.1.1.1.1.1.1.0 (role-is s sound role made.one made.one_there ∙ service) (sym (at-named s catalog catalog_role made.to made.to_there).1 ∙ admin)))))
+      let roles_differ = IdsDiffer-rising principal_role_id s.access.principal_roles sound.orderly.access.principal_roles.rise in
+      access-orderly s command sound within (without_join s row).access
+      (access.dropped_join s.next_id s.access row sound.orderly.access)
+      (subst (λ (one : JoinRow). AreTied (without_join s one).access s.content) made.is (ties.dropped_join s.access s.content sound.orderly.ties made.one made.to roles_differ catalog_roles-differ (role-own s sound role made.one made.one_there) (at-own s sound catalog catalog_role made.to made.to_there) (λ service admin. join-not-kept role catalog_role passes.1.1.1.1.1.1.0 (role-is s sound role made.one made.one_there ∙ service) (sym (at-named s catalog catalog_role made.to made.to_there).1 ∙ admin)))))
 
   -- a namespace that was found lies in its catalogue
   record IsNamespaceAt (catalog : ℕ) (levels : List (List ℕ)) (one : Securable) : Type 0 where
@@ -141,9 +125,9 @@ module _ (s : Rows) (command : Command) (sound : IsSound s) (within : IsWithin s
       by None there is = let contrary : None ≡ Some one = is in cc
       by (Some row) there is = record {
         row = row;
-        own = found-own namespace_id (is_namespace_named catalog levels) row s.content.namespaces (IdsDiffer-rising namespace_id s.content.namespaces sound.content.namespaces.rise) there;
+        own = found-own namespace_id (is_namespace_named catalog levels) row s.content.namespaces (IdsDiffer-rising namespace_id s.content.namespaces sound.orderly.content.namespaces.rise) there;
         within_catalog = sym (eqb-true catalog row.catalog (and_parts (nat_eq catalog row.catalog) _ (found-passes (is_namespace_named catalog levels) s.content.namespaces row there)).0);
-        given_id = found-holds (λ (one : NamespaceRow). IsGiven s.next_id (namespace_id one)) (is_namespace_named catalog levels) s.content.namespaces row sound.content.namespaces.given there;
+        given_id = found-holds (λ (one : NamespaceRow). IsGiven s.next_id (namespace_id one)) (is_namespace_named catalog levels) s.content.namespaces row sound.orderly.content.namespaces.given there;
         is = some_is _ one is;
       }
 
@@ -156,7 +140,7 @@ module _ (s : Rows) (command : Command) (sound : IsSound s) (within : IsWithin s
   lies-in : (name : List ℕ) (catalog : CatalogRow) (named : GrantedOn) (one : Securable) → catalog_named name s.content ≡ Some catalog → securable_in s named catalog ≡ Some one → LiesIn catalog named one
   lies-in name catalog on.Catalog one there found = subst (LiesIn catalog on.Catalog) (some_is (securable.Catalog catalog.id) one found) (record {
     lies = ap (option_map (λ (row : CatalogRow). row.id)) (catalog-own s command sound name catalog there);
-    given_id = found-holds (λ (row : CatalogRow). IsGiven s.next_id (catalog_id row)) (is_catalog_named name) s.content.catalogs catalog sound.content.catalogs.given there;
+    given_id = found-holds (λ (row : CatalogRow). IsGiven s.next_id (catalog_id row)) (is_catalog_named name) s.content.catalogs catalog sound.orderly.content.catalogs.given there;
     kind = refl;
   })
   lies-in name catalog (on.Namespace levels) one there found =
@@ -169,28 +153,18 @@ module _ (s : Rows) (command : Command) (sound : IsSound s) (within : IsWithin s
   lies-in name catalog (on.Table identifier) one there found = let contrary : None ≡ Some one = found in cc
   lies-in name catalog (on.View identifier) one there found = let contrary : None ≡ Some one = found in cc
 
-  grant-count : (row : GrantRow) → over_limit (with_grant s row) ≡ None → length (facts_with grant_row.the_row.coded row s.access.grants) ≤ 100000
-  grant-count row few = by (holds grant_row.the_row.coded row s.access.grants) refl
-    where
-      by : (b : Bool) → holds grant_row.the_row.coded row s.access.grants ≡ b → length (facts_with grant_row.the_row.coded row s.access.grants) ≤ 100000
-      by true there = subst (λ rows. length rows ≤ 100000) (sym (facts_with-known grant_row.the_row.coded row s.access.grants there)) sound.access.grants.bound
-      by false new =
-          let bounds = EachPasses-none (above quantity.Grants 100000 (length s.access.grants + 1) ∷ []) (sym (new_grant_limits s sound row new) ∙ few) in
-          length-facts_with grant_row.the_row.coded row s.access.grants 100000 (above-within quantity.Grants 100000 (length s.access.grants + 1) bounds.0)
-
   -- a grant that is added
-  pub sound-add_grant : (catalog role : List ℕ) (grant : Grant) → EachPasses (add_grant s command catalog role grant).rules → IsSound (stamped s command (add_grant s command catalog role grant).after)
-  sound-add_grant catalog role grant passes = sound-done s command sound within (grant_of s catalog role grant) (with_grant s) (λ row found.
+  pub orderly-add_grant : (catalog role : List ℕ) (grant : Grant) → EachPasses (add_grant s command catalog role grant).rules → IsOrderly (stamped s command (add_grant s command catalog role grant).after)
+  orderly-add_grant catalog role grant passes = orderly-done s command sound within (grant_of s catalog role grant) (with_grant s) (λ row found.
       let made = grant-found s catalog role grant row found in
-      let few = sym (ap (λ one. over_limit (done s one (with_grant s))) found) ∙ passes.1.1.1.1.1.0 in
       let own = at-own s sound catalog role made.to made.to_there in
       let in_catalog = lies-in catalog made.to_there.owner grant.on made.one made.to_there.owner_there made.one_there in
       let to_known = known catalog_role_id made.to.id made.to s.access.catalog_roles own in
       let allowed : grantable grant.privilege (kind_of made.one) ≡ true = ap (grantable grant.privilege) in_catalog.kind ∙ grant.proper in
       let lies : catalog_of made.one s.content ≡ Some made.to.catalog = in_catalog.lies ∙ ap Some (sym (at-named s catalog role made.to made.to_there).0) in
-      access-sound s command sound within (with_grant s row).access
-      (access.put_grant s.next_id s.access row sound.access (subst (IsGrantOf s.next_id s.access.catalog_roles) made.is (record { role = to_known; securable = in_catalog.given_id; allowed = allowed })) (grant-count row few))
-      (ties.put_grant s.access s.content sound.ties row (subst (IsGrantWithin s.access s.content) made.is (record { role = made.to; there = own; within = lies }))))
+      access-orderly s command sound within (with_grant s row).access
+      (access.put_grant s.next_id s.access row sound.orderly.access (subst (IsGrantOf s.next_id s.access.catalog_roles) made.is (record { role = to_known; securable = in_catalog.given_id; allowed = allowed })))
+      (ties.put_grant s.access s.content sound.orderly.ties row (subst (IsGrantWithin s.access s.content) made.is (record { role = made.to; there = own; within = lies }))))
 
   -- the first grants of a `catalog_admin` are on its catalogue
   on-catalog : (catalog : CatalogRow) (named : GrantedOn) (one : Securable) (id : ℕ) → securable_in s named catalog ≡ Some one → one ≡ securable.Catalog id → is_catalog named ≡ true
@@ -205,15 +179,15 @@ module _ (s : Rows) (command : Command) (sound : IsSound s) (within : IsWithin s
   privilege-same privilege other is = true_same the_type privilege other is
 
   -- a grant that is revoked
-  pub sound-revoke : (catalog role : List ℕ) (grant : Grant) → EachPasses (revoke s command catalog role grant).rules → IsSound (stamped s command (revoke s command catalog role grant).after)
-  sound-revoke catalog role grant passes = sound-done s command sound within (grant_of s catalog role grant) (without_grant s) (λ row found.
+  pub orderly-revoke : (catalog role : List ℕ) (grant : Grant) → EachPasses (revoke s command catalog role grant).rules → IsOrderly (stamped s command (revoke s command catalog role grant).after)
+  orderly-revoke catalog role grant passes = orderly-done s command sound within (grant_of s catalog role grant) (without_grant s) (λ row found.
       let made = grant-found s catalog role grant row found in
       let own = at-own s sound catalog role made.to made.to_there in
       let named = at-named s catalog role made.to made.to_there in
       let made_row : GrantRow = record { catalog_role = made.to.id; privilege = grant.privilege; securable = made.one } in
-      access-sound s command sound within (without_grant s row).access
-      ((access.dropped_grants s.next_id s.access sound.access).0 row)
-      (subst (λ (one : GrantRow). AreTied (without_grant s one).access s.content) made.is (ties.dropped_grant s.access s.content sound.ties made.to made_row catalog_roles-differ own (λ admin on_it.
+      access-orderly s command sound within (without_grant s row).access
+      ((access.dropped_grants s.next_id s.access sound.orderly.access).0 row)
+      (subst (λ (one : GrantRow). AreTied (without_grant s one).access s.content) made.is (ties.dropped_grant s.access s.content sound.orderly.ties made.to made_row catalog_roles-differ own (λ admin on_it.
       let whole = on-catalog made.to_there.owner grant.on made.one made.to.catalog made.one_there on_it in
       let not_first = first-false role grant passes.1.1.1.1.1.1.0 (sym named.1 ∙ admin) in (
         λ is. not_first (ap (λ b. b && (same_privilege grant.privilege CatalogManageAccess || same_privilege grant.privilege CatalogManageContent)) whole ∙ ap (λ b. b || same_privilege grant.privilege CatalogManageContent) (privilege-same grant.privilege CatalogManageAccess is)),

@@ -7,9 +7,9 @@ use Rattle.pol_content.specs.Content.{catalog_named}
 use Rattle.pol_content.specs.declared.rows.CatalogRow.{CatalogRow}
 use Rattle.pol_tables.specs.Table.{rows_with}
 use Rattle.pol_rules.specs.AccessRules.{catalog_role_at, catalog_role_taken, in_catalog, no_catalog_role, reserved}
-use Rattle.pol_rules.specs.Acting.{Acting, done, reading, told}
+use Rattle.pol_rules.specs.Acting.{Acting, answer_on, done, reading}
 use Rattle.pol_state.specs.Rows.{Rows}
-use Rattle.pol_rules.specs.Rules.{inside, over_limit}
+use Rattle.pol_rules.specs.Rules.{inside}
 use Rattle.pol_commands.specs.declared.command.Command.{Command}
 use Rattle.pol_commands.specs.declared.reply.Answer.TheVariants.{RolesListed, RoleCreated, RoleLoaded, RoleDropped}
 
@@ -20,7 +20,7 @@ roles_in s catalog = map catalog_role_name (by_name catalog_role_name (filter (�
 -- listing them
 abbrev pub list_catalog_roles : Rows → Command → List ℕ → Acting
 list_catalog_roles s command catalog =
-    reading s (in_catalog s command catalog []) (told (catalog_named catalog s.content) (λ row. RolesListed (roles_in s row)))
+    reading s (in_catalog s command catalog []) (answer_on (catalog_named catalog s.content) (λ row. RolesListed (roles_in s row)))
 
 -- the rows with a catalogue role that takes the next id
 abbrev pub with_catalog_role : Rows → CatalogRoleRow → Rows
@@ -34,13 +34,11 @@ with_role_in s name catalog = with_catalog_role s (record { id = s.next_id; cata
 
 -- creating a role of a catalogue
 abbrev pub create_catalog_role : Rows → Command → List ℕ → List ℕ → Acting
-create_catalog_role s command catalog name =
-    let after : Rows = done s (catalog_named catalog s.content) (with_role_in s name) in
-    record {
-      rules = in_catalog s command catalog (inside s catalog (catalog_role_taken s name) ∷ over_limit after ∷ []);
-      after = after;
-      answer = RoleCreated;
-    }
+create_catalog_role s command catalog name = record {
+  rules = in_catalog s command catalog (inside s catalog (catalog_role_taken s name) ∷ []);
+  after = done s (catalog_named catalog s.content) (with_role_in s name);
+  answer = RoleCreated;
+}
 
 -- showing a role of a catalogue
 abbrev pub get_catalog_role : Rows → Command → List ℕ → List ℕ → Acting

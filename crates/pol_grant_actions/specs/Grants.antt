@@ -19,9 +19,9 @@ use Rattle.pol_content.specs.Content.{namespace_id}
 use Rattle.pol_tables.specs.Facts.{facts_with, facts_without}
 use Rattle.pol_tables.specs.Table.{row_of}
 use Rattle.pol_rules.specs.AccessRules.{catalog_role_at, grant_of, in_catalog, no_catalog_role, no_grant, no_securable, reserved_grant}
-use Rattle.pol_rules.specs.Acting.{Acting, done, reading, told}
+use Rattle.pol_rules.specs.Acting.{Acting, answer_on, done, reading}
 use Rattle.pol_state.specs.Rows.{Rows}
-use Rattle.pol_rules.specs.Rules.{given, inside, over_limit}
+use Rattle.pol_rules.specs.Rules.{given, inside}
 
 -- the securable that is there by its name in its catalogue
 abbrev pub named_on : Rows → Securable → Option GrantedOn
@@ -43,7 +43,7 @@ grants_held s role =
 -- listing them
 abbrev pub list_grants : Rows → Command → List ℕ → List ℕ → Acting
 list_grants s command catalog role =
-    reading s (in_catalog s command catalog (inside s catalog (no_catalog_role s role) ∷ [])) (told (catalog_role_at s catalog role) (λ row. GrantsListed (grants_held s row)))
+    reading s (in_catalog s command catalog (inside s catalog (no_catalog_role s role) ∷ [])) (answer_on (catalog_role_at s catalog role) (λ row. GrantsListed (grants_held s row)))
 
 -- the rows with a grant, and without one
 abbrev pub with_grant : Rows → GrantRow → Rows
@@ -54,13 +54,11 @@ without_grant s row = record s { access = record s.access { grants = facts_witho
 
 -- granting a privilege to a role of a catalogue
 abbrev pub add_grant : Rows → Command → List ℕ → List ℕ → Grant → Acting
-add_grant s command catalog role grant =
-    let after : Rows = done s (grant_of s catalog role grant) (with_grant s) in
-    record {
-      rules = in_catalog s command catalog (inside s catalog (no_securable s grant.on) ∷ inside s catalog (no_catalog_role s role) ∷ over_limit after ∷ []);
-      after = after;
-      answer = GrantAdded;
-    }
+add_grant s command catalog role grant = record {
+  rules = in_catalog s command catalog (inside s catalog (no_securable s grant.on) ∷ inside s catalog (no_catalog_role s role) ∷ []);
+  after = done s (grant_of s catalog role grant) (with_grant s);
+  answer = GrantAdded;
+}
 
 -- revoking a grant
 abbrev pub revoke : Rows → Command → List ℕ → List ℕ → Grant → Acting

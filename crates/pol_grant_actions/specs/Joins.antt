@@ -12,9 +12,9 @@ use Rattle.pol_content.specs.Content.{catalog_named}
 use Rattle.pol_content.specs.declared.rows.CatalogRow.{CatalogRow}
 use Rattle.pol_tables.specs.Facts.{facts_with, facts_without}
 use Rattle.pol_rules.specs.AccessRules.{in_catalog, join_of, no_catalog_role, no_join, no_principal_role, of_both, reserved_join}
-use Rattle.pol_rules.specs.Acting.{Acting, done, reading, told}
+use Rattle.pol_rules.specs.Acting.{Acting, answer_on, done, reading}
 use Rattle.pol_state.specs.Rows.{Rows}
-use Rattle.pol_rules.specs.Rules.{given, inside, over_limit}
+use Rattle.pol_rules.specs.Rules.{given, inside}
 
 -- the names of a catalogue's roles to which a principal role is joined
 abbrev pub roles_joined : Rows → PrincipalRoleRow → CatalogRow → List (List ℕ)
@@ -24,7 +24,7 @@ roles_joined s role catalog =
 -- listing them
 abbrev pub list_joins : Rows → Command → List ℕ → List ℕ → Acting
 list_joins s command catalog role =
-    reading s (in_catalog s command catalog (no_principal_role s role ∷ [])) (told (of_both (roles_joined s) (principal_role_named role s.access) (catalog_named catalog s.content)) RolesListed)
+    reading s (in_catalog s command catalog (no_principal_role s role ∷ [])) (answer_on (of_both (roles_joined s) (principal_role_named role s.access) (catalog_named catalog s.content)) RolesListed)
 
 -- the rows with a join, and without one
 abbrev pub with_join : Rows → JoinRow → Rows
@@ -35,13 +35,11 @@ without_join s row = record s { access = record s.access { joins = facts_without
 
 -- joining a principal role to a role of a catalogue
 abbrev pub add_join : Rows → Command → List ℕ → List ℕ → List ℕ → Acting
-add_join s command catalog role catalog_role =
-    let after : Rows = done s (join_of s catalog role catalog_role) (with_join s) in
-    record {
-      rules = in_catalog s command catalog (no_principal_role s role ∷ inside s catalog (no_catalog_role s catalog_role) ∷ over_limit after ∷ []);
-      after = after;
-      answer = JoinAdded;
-    }
+add_join s command catalog role catalog_role = record {
+  rules = in_catalog s command catalog (no_principal_role s role ∷ inside s catalog (no_catalog_role s catalog_role) ∷ []);
+  after = done s (join_of s catalog role catalog_role) (with_join s);
+  answer = JoinAdded;
+}
 
 -- ending a join
 abbrev pub end_join : Rows → Command → List ℕ → List ℕ → List ℕ → Acting

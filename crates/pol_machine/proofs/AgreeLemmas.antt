@@ -1,5 +1,5 @@
 -- A command does the same in a state and in its live part, and so in states that agree.
-use Rattle.std.proofs.Common.{◌∷◌, Option, None, Some, sym, ap, subst, ◌∙◌}
+use Rattle.std.proofs.Common.{◌≡◌, [], ◌∷◌, ◌++◌, Option, None, Some, sym, ap, subst, ◌∙◌}
 use Rattle.pol_commands.specs.declared.command.Command.{Command}
 use Rattle.pol_commands.specs.declared.reply.Refusal.{Refusal}
 use Rattle.pol_state.specs.Changes.{changes_between}
@@ -8,11 +8,12 @@ use Rattle.pol_state.specs.Sound.{IsSound}
 use Rattle.pol_state.proofs.ChangesLemmas.{changes-timed}
 use Rattle.pol_rules.specs.Acting.{rows_by, stamped, Acting}
 use Rattle.pol_rules.specs.Live.{live_part, Agree}
-use Rattle.pol_rules.specs.Rules.{first_refusal, run_full}
+use Rattle.pol_state.specs.Bounds.{first_refusal}
+use Rattle.pol_rules.specs.Rules.{run_full}
 use Rattle.pol_rules.proofs.LiveLemmas.{live-agrees}
 use Rattle.pol_rules.proofs.OwesLemmas.{owes-same, DoSame, Owes}
 use Rattle.pol_machine.specs.Agree.{DoesAlike}
-use Rattle.pol_machine.specs.Machine.{acting, next_by, next_state, reply_by, reply_of}
+use Rattle.pol_machine.specs.Machine.{acting, next_by, next_state, reply_by, reply_of, rules_within}
 use Rattle.pol_machine.proofs.OwesLemmas.{owes}
 
 module _ (s : Rows) (sound : IsSound s) (command : Command) where
@@ -37,17 +38,21 @@ module _ (s : Rows) (sound : IsSound s) (command : Command) where
   abbrev owed : Owes s command action other
   owed = owes s command command.action
 
+  -- its rules are judged alike, and its bounds
+  rules-alike : rules_within action ≡ rules_within other
+  rules-alike = λ i. owed.fair.alike sound i ++ owed.rows.bounds i ∷ []
+
   ends : DoSame s (next_state s command) (next_state live command)
   unfolding next_state run_full
   ends =
-      subst (λ rules. DoSame s (next_state s command) (next_by (run_full s command.charge) live (stamped live command (rows_by (first_refusal rules) live other.after)))) (owed.fair.alike sound)
-      (left-by (run_full s command.charge) (first_refusal action.rules) action.after other.after (owed.rows.same sound))
+      subst (λ rules. DoSame s (next_state s command) (next_by (run_full s command.charge) live (stamped live command (rows_by (first_refusal rules) live other.after)))) rules-alike
+      (left-by (run_full s command.charge) (first_refusal (rules_within action)) action.after other.after (owed.rows.same sound))
 
   -- a command does the same in a state and in its live part
   live-alike : DoesAlike command s live
   unfolding reply_of run_full
   live-alike = record {
-    reply = λ i. reply_by (first_refusal (run_full s command.charge ∷ owed.fair.alike sound i)) (owed.answer i);
+    reply = λ i. reply_by (first_refusal (run_full s command.charge ∷ rules-alike i)) (owed.answer i);
     changes = ends.changes;
     next = ends.agree;
   }

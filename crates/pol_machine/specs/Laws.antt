@@ -7,7 +7,8 @@ use Rattle.pol_state.specs.Changes.{changes_between}
 use Rattle.pol_machine.specs.Machine.{acting, next_state, reply_of, rules_of}
 use Rattle.pol_commands.specs.Reply.{is_run_full}
 use Rattle.pol_state.specs.Rows.{Rows}
-use Rattle.pol_rules.specs.Rules.{EachPasses, run_full, time_of}
+use Rattle.pol_state.specs.Bounds.{EachPasses}
+use Rattle.pol_rules.specs.Rules.{run_full, time_of}
 use Rattle.pol_state.specs.Sound.{IsSound}
 use Rattle.pol_commands.specs.declared.command.Command.{Command}
 use Rattle.pol_commands.specs.declared.reply.Reply.TheVariants.{Answered}

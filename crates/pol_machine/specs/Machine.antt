@@ -1,7 +1,8 @@
 -- The machine: the reply to a command in a state, and the state after it.
-use Rattle.std.specs.Prelude.{List, ◌∷◌, Option, Some, None}
+use Rattle.std.specs.Prelude.{List, [], ◌∷◌, ◌++◌, Option, Some, None}
 use Rattle.pol_state.specs.Rows.{Rows}
-use Rattle.pol_rules.specs.Rules.{run_full, first_refusal}
+use Rattle.pol_state.specs.Bounds.{first_refusal, over_limit}
+use Rattle.pol_rules.specs.Rules.{run_full}
 use Rattle.pol_rules.specs.Acting.{rows_by, stamped, Acting}
 use Rattle.pol_grant_actions.specs.CatalogRoles.{create_catalog_role, drop_catalog_role, get_catalog_role, list_catalog_roles}
 use Rattle.pol_content_actions.specs.Catalogs.{create_catalog, drop_catalog, get_catalog, get_config, list_catalogs}
@@ -57,9 +58,13 @@ acting s command (ListGrants catalog role) = list_grants s command catalog role
 acting s command (AddGrant catalog role grant) = add_grant s command catalog role grant
 acting s command (Revoke catalog role grant) = revoke s command catalog role grant
 
+-- the rules of an action, and last that no quantity is above its bound in the rows after it
+abbrev pub rules_within : Acting → List (Option Refusal)
+rules_within action = action.rules ++ over_limit action.after ∷ []
+
 -- the rules of a command, in their order
 abbrev pub rules_of : Rows → Command → List (Option Refusal)
-rules_of s command = run_full s command.charge ∷ (acting s command command.action).rules
+rules_of s command = run_full s command.charge ∷ rules_within (acting s command command.action)
 
 -- the first rule that fails, else the answer
 abbrev pub reply_by : Option Refusal → Answer → Reply
@@ -79,4 +84,4 @@ next_by None s next = next
 unfoldable pub next_state : Rows → Command → Rows
 next_state s command =
     let action = acting s command command.action in
-    next_by (run_full s command.charge) s (stamped s command (rows_by (first_refusal action.rules) s action.after))
+    next_by (run_full s command.charge) s (stamped s command (rows_by (first_refusal (rules_within action)) s action.after))

@@ -28,7 +28,8 @@ use pol_principal_actions::principal_roles::{
 use pol_principal_actions::principals::{
     create_principal, drop_principal, get_principal, list_principals, rotate,
 };
-use pol_rules::rules::{Acted, Stop, run_open};
+use pol_rules::bounds::within_bounds;
+use pol_rules::rules::{Acted, Asked, Undone, run_open};
 use pol_state::State;
 use pol_types::{Listed, OutOfMemory};
 use std::alloc::Global;
@@ -54,13 +55,21 @@ pub fn decide(alloc: Global, state: &State, command: &Command) -> Result<Decisio
     if let Err(why) = run_open(state, command.charge) {
         return Ok(refused(alloc, why));
     }
-    match act(alloc, state, command) {
-        Ok(acted) => Ok(Decision {
-            reply: Reply::Answered(acted.answer),
-            changes: acted.changes,
-        }),
-        Err(Stop::Refused(why)) => Ok(refused(alloc, why)),
-        Err(Stop::OutOfMemory) => Err(OutOfMemory),
+    let asked = Asked {
+        alloc,
+        state,
+        command,
+    };
+    match act(&asked) {
+        Ok(acted) => match within_bounds(state, &acted.changes) {
+            Ok(()) => Ok(Decision {
+                reply: Reply::Answered(acted.answer),
+                changes: acted.changes,
+            }),
+            Err(why) => Ok(refused(alloc, why)),
+        },
+        Err(Undone::Refused(why)) => Ok(refused(alloc, why)),
+        Err(Undone::OutOfMemory) => Err(OutOfMemory),
     }
 }
 
@@ -76,104 +85,90 @@ fn refused(alloc: Global, why: Refusal) -> Decision
 }
 
 /// Does a command's action.
-fn act(alloc: Global, state: &State, command: &Command) -> Result<Acted, Stop>
-    requires sound { IsSound state.now.rows }
-    requires moment { command.now.moment ≤ 2 ^ 62 }
-    ensures { let action = acting state.now.rows command.now command.now.action in Acts state.now.rows command.now action.rules action.after action.answer result }
+fn act(asked: &Asked<'_>) -> Result<Acted, Undone>
+    requires sound { IsSound asked.now.state.now.rows }
+    requires moment { asked.now.command.now.moment ≤ 2 ^ 62 }
+    ensures { Acts asked.now (λ s command. acting s command command.action) result }
 {
-    match &command.action {
+    match &asked.command.action {
         Action::OpenSession {
             client_id,
             secret,
             scopes,
-        } => open_session(alloc, state, command, client_id, secret, scopes),
-        Action::GetConfig { catalog } => get_config(alloc, state, command, catalog),
-        Action::ListCatalogs => list_catalogs(alloc, state, command),
+        } => open_session(asked, client_id, secret, scopes),
+        Action::GetConfig { catalog } => get_config(asked, catalog),
+        Action::ListCatalogs => list_catalogs(asked),
         Action::CreateCatalog {
             name,
             base,
             allowed,
             properties,
             external,
-        } => create_catalog(
-            alloc, state, command, name, base, allowed, properties, *external,
-        ),
-        Action::GetCatalog { catalog } => get_catalog(alloc, state, command, catalog),
-        Action::DropCatalog { catalog } => drop_catalog(alloc, state, command, catalog),
-        Action::ListNamespaces { catalog, parent } => {
-            list_namespaces(alloc, state, command, catalog, parent)
-        }
+        } => create_catalog(asked, name, base, allowed, properties, *external),
+        Action::GetCatalog { catalog } => get_catalog(asked, catalog),
+        Action::DropCatalog { catalog } => drop_catalog(asked, catalog),
+        Action::ListNamespaces { catalog, parent } => { list_namespaces(asked, catalog, parent) }
         Action::CreateNamespace {
             catalog,
             namespace,
             properties,
-        } => create_namespace(alloc, state, command, catalog, namespace, properties),
+        } => create_namespace(asked, catalog, namespace, properties),
         Action::LoadNamespace { catalog, namespace } => {
-            load_namespace(alloc, state, command, catalog, namespace)
+            load_namespace(asked, catalog, namespace)
         }
         Action::HeadNamespace { catalog, namespace } => {
-            head_namespace(alloc, state, command, catalog, namespace)
+            head_namespace(asked, catalog, namespace)
         }
         Action::DropNamespace { catalog, namespace } => {
-            drop_namespace(alloc, state, command, catalog, namespace)
+            drop_namespace(asked, catalog, namespace)
         }
         Action::UpdateProperties {
             catalog,
             namespace,
             removals,
             updates,
-        } => update_properties(alloc, state, command, catalog, namespace, removals, updates),
-        Action::ListPrincipals => list_principals(alloc, state, command),
+        } => update_properties(asked, catalog, namespace, removals, updates),
+        Action::ListPrincipals => list_principals(asked),
         Action::CreatePrincipal {
             name,
             client_id,
             secret,
-        } => create_principal(alloc, state, command, name, client_id, secret),
-        Action::GetPrincipal { name } => get_principal(alloc, state, command, name),
-        Action::DropPrincipal { name } => drop_principal(alloc, state, command, name),
-        Action::Rotate { name, secret } => rotate(alloc, state, command, name, secret),
-        Action::ListMembers { principal } => list_members(alloc, state, command, principal),
-        Action::AddMember { principal, role } => {
-            add_member(alloc, state, command, principal, role)
-        }
-        Action::EndMember { principal, role } => {
-            end_member(alloc, state, command, principal, role)
-        }
-        Action::ListPrincipalRoles => list_principal_roles(alloc, state, command),
-        Action::CreatePrincipalRole { name } => create_principal_role(alloc, state, command, name),
-        Action::GetPrincipalRole { name } => get_principal_role(alloc, state, command, name),
-        Action::DropPrincipalRole { name } => drop_principal_role(alloc, state, command, name),
-        Action::ListJoins { catalog, role } => list_joins(alloc, state, command, catalog, role),
+        } => create_principal(asked, name, client_id, secret),
+        Action::GetPrincipal { name } => get_principal(asked, name),
+        Action::DropPrincipal { name } => drop_principal(asked, name),
+        Action::Rotate { name, secret } => rotate(asked, name, secret),
+        Action::ListMembers { principal } => list_members(asked, principal),
+        Action::AddMember { principal, role } => { add_member(asked, principal, role) }
+        Action::EndMember { principal, role } => { end_member(asked, principal, role) }
+        Action::ListPrincipalRoles => list_principal_roles(asked),
+        Action::CreatePrincipalRole { name } => create_principal_role(asked, name),
+        Action::GetPrincipalRole { name } => get_principal_role(asked, name),
+        Action::DropPrincipalRole { name } => drop_principal_role(asked, name),
+        Action::ListJoins { catalog, role } => list_joins(asked, catalog, role),
         Action::AddJoin {
             catalog,
             role,
             catalog_role,
-        } => add_join(alloc, state, command, catalog, role, catalog_role),
+        } => add_join(asked, catalog, role, catalog_role),
         Action::EndJoin {
             catalog,
             role,
             catalog_role,
-        } => end_join(alloc, state, command, catalog, role, catalog_role),
-        Action::ListCatalogRoles { catalog } => list_catalog_roles(alloc, state, command, catalog),
-        Action::CreateCatalogRole { catalog, name } => {
-            create_catalog_role(alloc, state, command, catalog, name)
-        }
-        Action::GetCatalogRole { catalog, name } => {
-            get_catalog_role(alloc, state, command, catalog, name)
-        }
-        Action::DropCatalogRole { catalog, name } => {
-            drop_catalog_role(alloc, state, command, catalog, name)
-        }
-        Action::ListGrants { catalog, role } => list_grants(alloc, state, command, catalog, role),
+        } => end_join(asked, catalog, role, catalog_role),
+        Action::ListCatalogRoles { catalog } => list_catalog_roles(asked, catalog),
+        Action::CreateCatalogRole { catalog, name } => { create_catalog_role(asked, catalog, name) }
+        Action::GetCatalogRole { catalog, name } => { get_catalog_role(asked, catalog, name) }
+        Action::DropCatalogRole { catalog, name } => { drop_catalog_role(asked, catalog, name) }
+        Action::ListGrants { catalog, role } => list_grants(asked, catalog, role),
         Action::AddGrant {
             catalog,
             role,
             grant,
-        } => add_grant(alloc, state, command, catalog, role, grant),
+        } => add_grant(asked, catalog, role, grant),
         Action::Revoke {
             catalog,
             role,
             grant,
-        } => revoke(alloc, state, command, catalog, role, grant),
+        } => revoke(asked, catalog, role, grant),
     }
 }

@@ -28,7 +28,7 @@ use Rattle.pol_state.specs.Sound.{IsSound}
 use Rattle.pol_state.proofs.ChangesLemmas.{made-in_place, made-with_ids, none, still}
 use Rattle.pol_rules.specs.Acting.{stamped}
 use Rattle.pol_rules.specs.Rules.{time_of}
-use Rattle.pol_rules.proofs.LimitsLemmas.{next-new}
+use Rattle.pol_rules.proofs.SoundLemmas.{next-new}
 use Rattle.pol_principal_actions.specs.Members.{with_member, without_member}
 use Rattle.pol_principal_actions.specs.PrincipalRoles.{with_principal_role, without_principal_role}
 use Rattle.pol_principal_actions.specs.Principals.{rotated, with_new_principal, without_principal}
@@ -53,26 +53,26 @@ module _ (s : Rows) (command : Command) where
 
   module _ (sound : IsSound s) where
     principals-differ : IdsDiffer principal_id s.access.principals
-    principals-differ = IdsDiffer-rising principal_id s.access.principals sound.access.principals.rise
+    principals-differ = IdsDiffer-rising principal_id s.access.principals sound.orderly.access.principals.rise
 
     principal_roles-differ : IdsDiffer principal_role_id s.access.principal_roles
-    principal_roles-differ = IdsDiffer-rising principal_role_id s.access.principal_roles sound.access.principal_roles.rise
+    principal_roles-differ = IdsDiffer-rising principal_role_id s.access.principal_roles sound.orderly.access.principal_roles.rise
 
     -- a membership that is there is taken away
     pub ended_member_changes : (row : MemberRow) → holds member.the_row.coded row s.access.members ≡ true → changes_between s (stamped s command (without_member s row)) ≡ Time (time_of s command) ∷ DropMember row ∷ []
     ended_member_changes row there =
-        made-in_place s (stamped s command (without_member s row)) (record none { members = DropMember row ∷ [] }) refl refl (λ i. record (still s i) { members = fact_changes-take member.the_row.coded member_cmp PutMember DropMember row s.access.members sound.access.members.differ there i })
+        made-in_place s (stamped s command (without_member s row)) (record none { members = DropMember row ∷ [] }) refl refl (λ i. record (still s i) { members = fact_changes-take member.the_row.coded member_cmp PutMember DropMember row s.access.members sound.orderly.access.members.differ there i })
 
     -- a principal that takes the next id
     pub new_principal_changes : (row : PrincipalRow) → row.id ≡ s.next_id → changes_between s (stamped s command (with_new_principal s row)) ≡ Time (time_of s command) ∷ NextId (s.next_id + 1) ∷ PutPrincipal row ∷ []
     new_principal_changes row id =
-        let new = next-new principal_id s.next_id row.id s.access.principals sound.access.principals id in
+        let new = next-new principal_id s.next_id row.id s.access.principals sound.orderly.access.principals id in
         made-with_ids s (stamped s command (with_new_principal s row)) 1 (record none { principals = PutPrincipal row ∷ [] }) (omega arith) refl refl (λ i. record (still s i) { principals = table_changes-put_new principal.the_row.coded principal_id PutPrincipal DropPrincipal row s.access.principals new i })
 
     -- a principal role that takes the next id
     pub principal_role_changes : (row : PrincipalRoleRow) → row.id ≡ s.next_id → changes_between s (stamped s command (with_principal_role s row)) ≡ Time (time_of s command) ∷ NextId (s.next_id + 1) ∷ PutPrincipalRole row ∷ []
     principal_role_changes row id =
-        let new = next-new principal_role_id s.next_id row.id s.access.principal_roles sound.access.principal_roles id in
+        let new = next-new principal_role_id s.next_id row.id s.access.principal_roles sound.orderly.access.principal_roles id in
         made-with_ids s (stamped s command (with_principal_role s row)) 1 (record none { principal_roles = PutPrincipalRole row ∷ [] }) (omega arith) refl refl (λ i. record (still s i) { principal_roles = table_changes-put_new principal_role.the_row.coded principal_role_id PutPrincipalRole DropPrincipalRole row s.access.principal_roles new i })
 
     -- a principal that has the secret already, and one that gets another

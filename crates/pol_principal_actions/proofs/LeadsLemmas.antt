@@ -24,7 +24,7 @@ use Rattle.pol_state.specs.Rows.{Rows, digest_of}
 use Rattle.pol_state.specs.Sound.{IsSound}
 use Rattle.pol_state.proofs.AppliedLemmas.{joins-dropped, facts_without-unknown, members-dropped, with_members}
 use Rattle.pol_rules.specs.Rules.{time_of}
-use Rattle.pol_rules.proofs.LimitsLemmas.{facts_with-known}
+use Rattle.pol_tables.proofs.FactsLemmas.{facts_with-known}
 use Rattle.pol_rules.proofs.LeadsLemmas.{leads-by, leads-same, Leads}
 use Rattle.pol_principal_actions.specs.Members.{with_member, without_member}
 use Rattle.pol_principal_actions.specs.PrincipalRoles.{with_principal_role, without_principal_role}
@@ -61,7 +61,7 @@ module _ (s : Rows) (command : Command) where
         let known = sym (is_some-row_of principal_id row.id s.access.principals) ∙ ap is_some there in
         let is : digest_of secret ≡ row.digest = sym ((bytes_eq-Decides row.digest (digest_of secret)).0 same) in
         ap (λ digest. record s { access = record s.access { principals = rows_with principal_id (record row { digest = digest }) s.access.principals } }) is
-        ∙ ap (λ rows. record s { access = record s.access { principals = rows } }) (rows_with-known principal_id row s.access.principals known ∙ rows_with-same principal_id row s.access.principals (IdsDiffer-rising principal_id s.access.principals sound.access.principals.rise) there)
+        ∙ ap (λ rows. record s { access = record s.access { principals = rows } }) (rows_with-known principal_id row s.access.principals known ∙ rows_with-same principal_id row s.access.principals (IdsDiffer-rising principal_id s.access.principals sound.orderly.access.principals.rise) there)
 
     pub leads-rotated : (secret : List ℕ) (row : PrincipalRow) → row_of principal_id row.id s.access.principals ≡ Some row → Leads s command (rotated s secret row)
     leads-rotated secret row there = by (bytes_eq row.digest (digest_of secret)) refl

@@ -17,12 +17,12 @@ use Rattle.pol_rules.specs.Acting.{Acting}
 use Rattle.pol_rules.specs.Live.{live_part}
 use Rattle.pol_rules.proofs.FairLemmas.{none-fair, ◌⊳◌, fair-client_taken, fair-given, fair-in_realm, fair-no_member, fair-no_principal, fair-no_principal_role, fair-principal_role_taken, fair-principal_taken, fair-reserved, fair-reserved_member}
 use Rattle.pol_rules.proofs.FoundLemmas.{known, principal-own, role-own}
-use Rattle.pol_rules.proofs.OwesLemmas.{fair-limit, owes-apart, owes-done, owes-reading, owes-returning, NoneReturns, Owes}
+use Rattle.pol_rules.proofs.OwesLemmas.{owes-apart, owes-done, owes-reading, owes-returning, NoneReturns, Owes}
 use Rattle.pol_principal_actions.specs.Members.{add_member, end_member, list_members, with_member, without_member}
 use Rattle.pol_principal_actions.specs.PrincipalRoles.{create_principal_role, drop_principal_role, get_principal_role, list_principal_roles, with_principal_role, without_principal_role}
 use Rattle.pol_principal_actions.specs.Principals.{client_id_or, create_principal, drop_principal, get_principal, list_principals, new_principal, rotate, rotated, secret_or, with_new_principal, with_principal, without_principal}
 use Rattle.pol_principal_actions.proofs.LeadsLemmas.{leads-rotated, leads-with_member, leads-with_new_principal, leads-with_principal_role, leads-without_member, leads-without_principal, leads-without_principal_role}
-use Rattle.pol_principal_actions.proofs.SoundLemmas.{sound-add_member, sound-create_principal, sound-create_principal_role, sound-drop_principal, sound-drop_principal_role, sound-end_member, sound-rotate}
+use Rattle.pol_principal_actions.proofs.SoundLemmas.{orderly-add_member, orderly-create_principal, orderly-create_principal_role, orderly-drop_principal, orderly-drop_principal_role, orderly-end_member, orderly-rotate}
 
 module _ (s : Rows) (command : Command) where
   abbrev live : Rows
@@ -35,7 +35,7 @@ module _ (s : Rows) (command : Command) where
   -- a principal that is put is the one that was there, or takes the next id, which no session names
   put-returns : IsSound s → (row : PrincipalRow) → (knows principal_id row.id s.access.principals ≡ false → row.id ≡ s.next_id) → NoneReturns s (with_principal s row)
   put-returns sound row new =
-      each-weaken (IsSessionOf s.next_id s.next_serial) _ s.tokens.sessions (λ session known there. by session known (knows principal_id session.principal s.access.principals) refl there) sound.tokens.sessions
+      each-weaken (IsSessionOf s.next_id s.next_serial) _ s.tokens.sessions (λ session known there. by session known (knows principal_id session.principal s.access.principals) refl there) sound.orderly.tokens.sessions
     where
       apart : (session : SessionRow) → IsSessionOf s.next_id s.next_serial session → knows principal_id session.principal s.access.principals ≡ false → has_id principal_id session.principal row ≡ false
       apart session known unknown = elim (cases_Bool (has_id principal_id session.principal row)) [
@@ -68,11 +68,10 @@ module _ (s : Rows) (command : Command) where
   owes-create_principal name client_id secret =
       let client = client_id_or client_id command.words.a in
       let row = new_principal s name client (secret_or secret command.words.b command.words.c) in
-      let rows = owes-returning s command (with_new_principal s row) (λ sound. put-returns sound row (λ unknown. refl)) (λ sound. leads-with_new_principal s command sound row refl) in
       record {
-        rows = rows;
-        sound = λ sound within passes. sound-create_principal s command sound within name client_id secret passes;
-        fair = fair-in_realm command (fair-principal_taken name ⊳ fair-client_taken client ⊳ fair-limit s command rows ⊳ none-fair);
+        rows = owes-returning s command (with_new_principal s row) (λ sound. put-returns sound row (λ unknown. refl)) (λ sound. leads-with_new_principal s command sound row refl);
+        orderly = λ sound within passes. orderly-create_principal s command sound within name client_id secret passes;
+        fair = fair-in_realm command (fair-principal_taken name ⊳ fair-client_taken client ⊳ none-fair);
         answer = refl;
       }
 
@@ -82,7 +81,7 @@ module _ (s : Rows) (command : Command) where
   pub owes-drop_principal : (name : List ℕ) → OwesAlike (λ t. drop_principal t command name)
   owes-drop_principal name = record {
     rows = owes-done s command (principal_named name s.access) _ _ (λ row found. owes-returning s command (without_principal s row) (λ sound. without-returns row.id) (λ sound. leads-without_principal s command sound row (principal-own s sound name row found)));
-    sound = λ sound within passes. sound-drop_principal s command sound within name passes;
+    orderly = λ sound within passes. orderly-drop_principal s command sound within name passes;
     fair = fair-in_realm command (fair-no_principal name ⊳ fair-reserved (codes "root") name ⊳ none-fair);
     answer = refl;
   }
@@ -98,7 +97,7 @@ module _ (s : Rows) (command : Command) where
       let opens = secret_or secret command.words.a command.words.b in
       record {
         rows = owes-done s command (principal_named name s.access) (rotated s opens) (rotated live opens) (λ row found. owes-returning s command (rotated s opens row) (λ sound. rotated-returns sound name opens row found) (λ sound. leads-rotated s command sound opens row (principal-own s sound name row found)));
-        sound = λ sound within passes. sound-rotate s command sound within name secret passes;
+        orderly = λ sound within passes. orderly-rotate s command sound within name secret passes;
         fair = fair-in_realm command (fair-no_principal name ⊳ none-fair);
         answer = refl;
       }
@@ -109,20 +108,18 @@ module _ (s : Rows) (command : Command) where
 
   pub owes-add_member : (principal role : List ℕ) → OwesAlike (λ t. add_member t command principal role)
   unfolding member_of
-  owes-add_member principal role =
-      let rows = owes-done s command (member_of s principal role) (with_member s) (with_member live) (λ row found. owes-apart s command (with_member s row) refl (λ sound. leads-with_member s command row)) in
-      record {
-        rows = rows;
-        sound = λ sound within passes. sound-add_member s command sound within principal role passes;
-        fair = fair-in_realm command (fair-no_principal principal ⊳ fair-no_principal_role role ⊳ fair-limit s command rows ⊳ none-fair);
-        answer = refl;
-      }
+  owes-add_member principal role = record {
+    rows = owes-done s command (member_of s principal role) (with_member s) (with_member live) (λ row found. owes-apart s command (with_member s row) refl (λ sound. leads-with_member s command row));
+    orderly = λ sound within passes. orderly-add_member s command sound within principal role passes;
+    fair = fair-in_realm command (fair-no_principal principal ⊳ fair-no_principal_role role ⊳ none-fair);
+    answer = refl;
+  }
 
   pub owes-end_member : (principal role : List ℕ) → OwesAlike (λ t. end_member t command principal role)
   unfolding member_of
   owes-end_member principal role = record {
     rows = owes-done s command (member_of s principal role) _ _ (λ row found. owes-apart s command (without_member s row) refl (λ sound. leads-without_member s command sound row));
-    sound = λ sound within passes. sound-end_member s command sound within principal role passes;
+    orderly = λ sound within passes. orderly-end_member s command sound within principal role passes;
     fair = fair-in_realm command (fair-no_principal principal ⊳ fair-no_principal_role role ⊳ fair-given (member_of s principal role) (fair-no_member role) ⊳ fair-reserved_member principal role ⊳ none-fair);
     answer = refl;
   }
@@ -134,11 +131,10 @@ module _ (s : Rows) (command : Command) where
   pub owes-create_principal_role : (name : List ℕ) → OwesAlike (λ t. create_principal_role t command name)
   owes-create_principal_role name =
       let row : PrincipalRoleRow = record { id = s.next_id; name = name } in
-      let rows = owes-apart s command (with_principal_role s row) refl (λ sound. leads-with_principal_role s command sound row refl) in
       record {
-        rows = rows;
-        sound = λ sound within passes. sound-create_principal_role s command sound within name passes;
-        fair = fair-in_realm command (fair-principal_role_taken name ⊳ fair-limit s command rows ⊳ none-fair);
+        rows = owes-apart s command (with_principal_role s row) refl (λ sound. leads-with_principal_role s command sound row refl);
+        orderly = λ sound within passes. orderly-create_principal_role s command sound within name passes;
+        fair = fair-in_realm command (fair-principal_role_taken name ⊳ none-fair);
         answer = refl;
       }
 
@@ -148,7 +144,7 @@ module _ (s : Rows) (command : Command) where
   pub owes-drop_principal_role : (name : List ℕ) → OwesAlike (λ t. drop_principal_role t command name)
   owes-drop_principal_role name = record {
     rows = owes-done s command (principal_role_named name s.access) _ _ (λ row found. owes-apart s command (without_principal_role s row) refl (λ sound. leads-without_principal_role s command sound row (role-own s sound name row found)));
-    sound = λ sound within passes. sound-drop_principal_role s command sound within name passes;
+    orderly = λ sound within passes. orderly-drop_principal_role s command sound within name passes;
     fair = fair-in_realm command (fair-no_principal_role name ⊳ fair-reserved (codes "service_admin") name ⊳ none-fair);
     answer = refl;
   }

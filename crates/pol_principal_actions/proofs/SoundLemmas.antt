@@ -1,5 +1,5 @@
--- The actions on principals, principal roles and memberships keep a state sound.
-use Rattle.std.proofs.Common.{◌≡◌, ℕ, ◌+◌, ◌<◌, ◌≤◌, ◌^◌, Bool, true, false, ◌&&◌, ◌||◌, codes, List, [], ◌∷◌, length, Option, None, is_some, refl, sym, ap, subst, ◌∙◌, arith, true≢false}
+-- The actions on principals, principal roles and memberships keep a state orderly.
+use Rattle.std.proofs.Common.{◌≡◌, ℕ, ◌+◌, Bool, true, false, ◌&&◌, ◌||◌, codes, List, [], ◌∷◌, Option, None, is_some, refl, sym, ap, subst, ◌∙◌, arith, true≢false}
 use Rattle.std.specs.List.{AllByRecursion}
 use Rattle.std.specs.Str.{bytes_eq}
 use Rattle.std.proofs.lemmas.Bool.{eqb-true}
@@ -18,21 +18,18 @@ use Rattle.pol_content.specs.Ties.{is_access_id, is_content_id}
 use Rattle.pol_content.proofs.TiesLemmas as ties
 use Rattle.pol_content.proofs.TiesLemmas.{new_ids, or-false}
 use Rattle.pol_commands.specs.declared.command.Command.{Command}
-use Rattle.pol_commands.specs.declared.reply.Quantity.TheVariants as quantity
 use Rattle.pol_state.specs.Rows.{Rows, digest_of}
-use Rattle.pol_state.specs.Sound.{IsSound, IsSoundAccess}
+use Rattle.pol_state.specs.Sound.{IsOrderly, IsSound, IsSoundAccess}
 use Rattle.pol_rules.specs.AccessRules.{client_taken, member_of, principal_role_taken, principal_taken, reserved_member}
 use Rattle.pol_rules.specs.Acting.{done, stamped}
-use Rattle.pol_rules.specs.Rules.{above, over_limit, EachPasses}
+use Rattle.pol_state.specs.Bounds.{EachPasses}
 use Rattle.pol_rules.proofs.FoundLemmas.{known, member-found, principal-is, principal-own, role-is, role-own, text-same}
-use Rattle.pol_rules.proofs.LimitsLemmas.{facts_with-known, next-new, above-within, length-facts_with}
-use Rattle.pol_rules.proofs.RulesLemmas.{nothing, refused-not, EachPasses-none}
-use Rattle.pol_rules.proofs.SoundLemmas.{next_id-some, IsWithin, new-access-sound, sound-done, access-sound}
+use Rattle.pol_rules.proofs.RulesLemmas.{nothing, refused-not}
+use Rattle.pol_rules.proofs.SoundLemmas.{next-new, next_id-some, IsWithin, new-access-orderly, orderly-done, access-orderly}
 use Rattle.pol_rules.proofs.AccessRulesLemmas.{both-not, not-kept}
 use Rattle.pol_principal_actions.specs.Members.{add_member, end_member, with_member, without_member}
 use Rattle.pol_principal_actions.specs.PrincipalRoles.{create_principal_role, drop_principal_role, with_principal_role, without_principal_role}
 use Rattle.pol_principal_actions.specs.Principals.{client_id_or, create_principal, drop_principal, new_principal, rotate, rotated, secret_or, with_new_principal, without_principal}
-use Rattle.pol_principal_actions.proofs.LimitsLemmas.{new_member_limits, new_principal_limits, principal_role_limits}
 
 pub member-not-kept : (principal role : List ℕ) → reserved_member principal role ≡ None → principal ≡ codes "root" → role ≡ codes "service_admin" → ⊥
 unfolding reserved_member
@@ -50,94 +47,78 @@ apart-unknown key is_other id (row ∷ rows) apart is = or-false (has_id key id 
 
 module _ (s : Rows) (command : Command) (sound : IsSound s) (within : IsWithin s command) where
   -- a principal that is created
-  pub sound-create_principal : (name : List ℕ) (client_id secret : Option (List ℕ)) → EachPasses (create_principal s command name client_id secret).rules → IsSound (stamped s command (create_principal s command name client_id secret).after)
+  pub orderly-create_principal : (name : List ℕ) (client_id secret : Option (List ℕ)) → EachPasses (create_principal s command name client_id secret).rules → IsOrderly (stamped s command (create_principal s command name client_id secret).after)
   unfolding principal_taken client_taken
-  sound-create_principal name client_id secret passes =
+  orderly-create_principal name client_id secret passes =
       let client = client_id_or client_id command.words.a in
       let row : PrincipalRow = new_principal s name client (secret_or secret command.words.b command.words.c) in
-      let bounds = EachPasses-none (above quantity.Principals 10000 (length s.access.principals + 1) ∷ above quantity.NextId (2 ^ 62) (s.next_id + 1) ∷ []) (sym (new_principal_limits s sound row refl) ∙ passes.1.1.1.1.0) in
-      let count = above-within quantity.Principals 10000 (length s.access.principals + 1) bounds.0 in
-      let next = above-within quantity.NextId (2 ^ 62) (s.next_id + 1) bounds.1.0 in
       let free = nothing (principal_named name s.access) (refused-not (is_some (principal_named name s.access)) _ passes.1.1.0) in
       let client_free = nothing (principal_of_client client s.access) (refused-not (is_some (principal_of_client client s.access)) _ passes.1.1.1.0) in
-      let pushed = access.pushed_principal s.next_id s.access row sound.access (next_id-some s sound) refl free client_free (let room : length s.access.principals < 10000 = omega (arith, count) in room) in
-      let last = (access.new_rows_last s.next_id s.access sound.access).0 row refl in
-      new-access-sound s command sound within (with_new_principal s row).access next
+      let pushed = access.pushed_principal s.next_id s.access row sound.orderly.access (next_id-some s sound) refl free client_free in
+      let last = (access.new_rows_last s.next_id s.access sound.orderly.access).0 row refl in
+      new-access-orderly s command sound within (with_new_principal s row).access
       (subst (λ rows. IsSoundAccess (s.next_id + 1) (record s.access { principals = rows })) (sym last) pushed)
-      (ties.put_principal s.access s.content sound.ties row (new_ids s.next_id s.next_id s.content sound.content (omega arith)))
+      (ties.put_principal s.access s.content sound.orderly.ties row (new_ids s.next_id s.next_id s.content sound.orderly.content (omega arith)))
 
   -- a principal that is dropped
-  pub sound-drop_principal : (name : List ℕ) → EachPasses (drop_principal s command name).rules → IsSound (stamped s command (drop_principal s command name).after)
-  sound-drop_principal name passes = sound-done s command sound within (principal_named name s.access) (without_principal s) (λ row found.
-      access-sound s command sound within (without_principal s row).access
-      (access.dropped_principal s.next_id s.access row sound.access (principal-own s sound name row found) (not-kept (codes "root") name row.name passes.1.1.1.0 (principal-is s sound name row found)))
-      (ties.dropped_principal s.access s.content sound.ties row.id))
+  pub orderly-drop_principal : (name : List ℕ) → EachPasses (drop_principal s command name).rules → IsOrderly (stamped s command (drop_principal s command name).after)
+  orderly-drop_principal name passes = orderly-done s command sound within (principal_named name s.access) (without_principal s) (λ row found.
+      access-orderly s command sound within (without_principal s row).access
+      (access.dropped_principal s.next_id s.access row sound.orderly.access (principal-own s sound name row found) (not-kept (codes "root") name row.name passes.1.1.1.0 (principal-is s sound name row found)))
+      (ties.dropped_principal s.access s.content sound.orderly.ties row.id))
 
   -- an id of access is none of content
   no-content : (id : ℕ) → is_access_id id s.access ≡ true → is_content_id id s.content ≡ false
   no-content id is =
-      or-false (knows catalog_id id s.content.catalogs) (knows namespace_id id s.content.namespaces) (apart-unknown catalog_id (λ one. is_access_id one s.access) id s.content.catalogs sound.ties.ids_apart.catalogs is) (apart-unknown namespace_id (λ one. is_access_id one s.access) id s.content.namespaces sound.ties.ids_apart.namespaces is)
+      or-false (knows catalog_id id s.content.catalogs) (knows namespace_id id s.content.namespaces) (apart-unknown catalog_id (λ one. is_access_id one s.access) id s.content.catalogs sound.orderly.ties.ids_apart.catalogs is) (apart-unknown namespace_id (λ one. is_access_id one s.access) id s.content.namespaces sound.orderly.ties.ids_apart.namespaces is)
 
   -- a principal that gets another secret
-  pub sound-rotate : (name : List ℕ) (secret : Option (List ℕ)) → EachPasses (rotate s command name secret).rules → IsSound (stamped s command (rotate s command name secret).after)
-  sound-rotate name secret passes =
+  pub orderly-rotate : (name : List ℕ) (secret : Option (List ℕ)) → EachPasses (rotate s command name secret).rules → IsOrderly (stamped s command (rotate s command name secret).after)
+  orderly-rotate name secret passes =
       let opens = secret_or secret command.words.a command.words.b in
-      sound-done s command sound within (principal_named name s.access) (rotated s opens) (λ old found.
+      orderly-done s command sound within (principal_named name s.access) (rotated s opens) (λ old found.
       let row : PrincipalRow = record old { digest = digest_of opens } in
       let own = principal-own s sound name old found in
       let is = known principal_id old.id old s.access.principals own in
-      access-sound s command sound within (rotated s opens old).access
-      (access.replaced_principal s.next_id s.access old row sound.access own refl refl)
-      (ties.put_principal s.access s.content sound.ties row (no-content old.id (ap (λ b. b || knows principal_role_id old.id s.access.principal_roles || knows catalog_role_id old.id s.access.catalog_roles) is))))
+      access-orderly s command sound within (rotated s opens old).access
+      (access.replaced_principal s.next_id s.access old row sound.orderly.access own refl refl)
+      (ties.put_principal s.access s.content sound.orderly.ties row (no-content old.id (ap (λ b. b || knows principal_role_id old.id s.access.principal_roles || knows catalog_role_id old.id s.access.catalog_roles) is))))
 
   -- a membership that is added
-  member-count : (row : MemberRow) → over_limit (with_member s row) ≡ None → length (facts_with member.the_row.coded row s.access.members) ≤ 100000
-  member-count row few = by (holds member.the_row.coded row s.access.members) refl
-    where
-      by : (b : Bool) → holds member.the_row.coded row s.access.members ≡ b → length (facts_with member.the_row.coded row s.access.members) ≤ 100000
-      by true there = subst (λ rows. length rows ≤ 100000) (sym (facts_with-known member.the_row.coded row s.access.members there)) sound.access.members.bound
-      by false new =
-          let bounds = EachPasses-none (above quantity.Members 100000 (length s.access.members + 1) ∷ []) (sym (new_member_limits s sound row new) ∙ few) in
-          length-facts_with member.the_row.coded row s.access.members 100000 (above-within quantity.Members 100000 (length s.access.members + 1) bounds.0)
-
-  pub sound-add_member : (principal role : List ℕ) → EachPasses (add_member s command principal role).rules → IsSound (stamped s command (add_member s command principal role).after)
-  sound-add_member principal role passes = sound-done s command sound within (member_of s principal role) (with_member s) (λ row found.
+  pub orderly-add_member : (principal role : List ℕ) → EachPasses (add_member s command principal role).rules → IsOrderly (stamped s command (add_member s command principal role).after)
+  orderly-add_member principal role passes = orderly-done s command sound within (member_of s principal role) (with_member s) (λ row found.
       let made = member-found s principal role row found in
-      let few = sym (ap (λ one. over_limit (done s one (with_member s))) found) ∙ passes.1.1.1.1.0 in
       let principal_known = subst (λ (one : MemberRow). knows principal_id one.principal s.access.principals ≡ true) made.is (known principal_id made.one.id made.one s.access.principals (principal-own s sound principal made.one made.one_there)) in
       let role_known = subst (λ (one : MemberRow). knows principal_role_id one.role s.access.principal_roles ≡ true) made.is (known principal_role_id made.of.id made.of s.access.principal_roles (role-own s sound role made.of made.of_there)) in
-      access-sound s command sound within (with_member s row).access
-      (access.put_member s.next_id s.access row sound.access principal_known role_known (member-count row few))
-      (ties.members_keep s.access s.content sound.ties (with_member s row).access.members))
+      access-orderly s command sound within (with_member s row).access
+      (access.put_member s.next_id s.access row sound.orderly.access principal_known role_known)
+      (ties.members_keep s.access s.content sound.orderly.ties (with_member s row).access.members))
 
   -- a membership that is ended
-  pub sound-end_member : (principal role : List ℕ) → EachPasses (end_member s command principal role).rules → IsSound (stamped s command (end_member s command principal role).after)
-  sound-end_member principal role passes = sound-done s command sound within (member_of s principal role) (without_member s) (λ row found.
+  pub orderly-end_member : (principal role : List ℕ) → EachPasses (end_member s command principal role).rules → IsOrderly (stamped s command (end_member s command principal role).after)
+  orderly-end_member principal role passes = orderly-done s command sound within (member_of s principal role) (without_member s) (λ row found.
       let made = member-found s principal role row found in
-      access-sound s command sound within (without_member s row).access
-      (subst (λ (one : MemberRow). IsSoundAccess s.next_id (without_member s one).access) made.is (access.dropped_member s.next_id s.access made.one made.of sound.access (principal-own s sound principal made.one made.one_there) (role-own s sound role made.of made.of_there) (λ root admin. member-not-kept principal role passes.1.1.1.1.1.0 (principal-is s sound principal made.one made.one_there ∙ root) (role-is s sound role made.of made.of_there ∙ admin))))
-      (ties.members_keep s.access s.content sound.ties (without_member s row).access.members))
+      access-orderly s command sound within (without_member s row).access
+      (subst (λ (one : MemberRow). IsSoundAccess s.next_id (without_member s one).access) made.is (access.dropped_member s.next_id s.access made.one made.of sound.orderly.access (principal-own s sound principal made.one made.one_there) (role-own s sound role made.of made.of_there) (λ root admin. member-not-kept principal role passes.1.1.1.1.1.0 (principal-is s sound principal made.one made.one_there ∙ root) (role-is s sound role made.of made.of_there ∙ admin))))
+      (ties.members_keep s.access s.content sound.orderly.ties (without_member s row).access.members))
 
   -- a principal role that is created
-  pub sound-create_principal_role : (name : List ℕ) → EachPasses (create_principal_role s command name).rules → IsSound (stamped s command (create_principal_role s command name).after)
+  pub orderly-create_principal_role : (name : List ℕ) → EachPasses (create_principal_role s command name).rules → IsOrderly (stamped s command (create_principal_role s command name).after)
   unfolding principal_role_taken
-  sound-create_principal_role name passes =
+  orderly-create_principal_role name passes =
       let row : PrincipalRoleRow = record { id = s.next_id; name = name } in
-      let bounds = EachPasses-none (above quantity.PrincipalRoles 10000 (length s.access.principal_roles + 1) ∷ above quantity.NextId (2 ^ 62) (s.next_id + 1) ∷ []) (sym (principal_role_limits s sound row refl) ∙ passes.1.1.1.0) in
-      let count = above-within quantity.PrincipalRoles 10000 (length s.access.principal_roles + 1) bounds.0 in
-      let next = above-within quantity.NextId (2 ^ 62) (s.next_id + 1) bounds.1.0 in
       let free = nothing (principal_role_named name s.access) (refused-not (is_some (principal_role_named name s.access)) _ passes.1.1.0) in
-      let pushed = access.pushed_principal_role s.next_id s.access row sound.access (next_id-some s sound) refl free (let room : length s.access.principal_roles < 10000 = omega (arith, count) in room) in
-      let last = (access.new_rows_last s.next_id s.access sound.access).1 row refl in
-      new-access-sound s command sound within (with_principal_role s row).access next
+      let pushed = access.pushed_principal_role s.next_id s.access row sound.orderly.access (next_id-some s sound) refl free in
+      let last = (access.new_rows_last s.next_id s.access sound.orderly.access).1 row refl in
+      new-access-orderly s command sound within (with_principal_role s row).access
       (subst (λ rows. IsSoundAccess (s.next_id + 1) (record s.access { principal_roles = rows })) (sym last) pushed)
-      (ties.pushed_principal_role s.access s.content sound.ties row (next-new principal_role_id s.next_id s.next_id s.access.principal_roles sound.access.principal_roles refl) (new_ids s.next_id s.next_id s.content sound.content (omega arith)))
+      (ties.pushed_principal_role s.access s.content sound.orderly.ties row (next-new principal_role_id s.next_id s.next_id s.access.principal_roles sound.orderly.access.principal_roles refl) (new_ids s.next_id s.next_id s.content sound.orderly.content (omega arith)))
 
   -- a principal role that is dropped
-  pub sound-drop_principal_role : (name : List ℕ) → EachPasses (drop_principal_role s command name).rules → IsSound (stamped s command (drop_principal_role s command name).after)
-  sound-drop_principal_role name passes = sound-done s command sound within (principal_role_named name s.access) (without_principal_role s) (λ row found.
+  pub orderly-drop_principal_role : (name : List ℕ) → EachPasses (drop_principal_role s command name).rules → IsOrderly (stamped s command (drop_principal_role s command name).after)
+  orderly-drop_principal_role name passes = orderly-done s command sound within (principal_role_named name s.access) (without_principal_role s) (λ row found.
       let own = role-own s sound name row found in
       let other = not-kept (codes "service_admin") name row.name passes.1.1.1.0 (role-is s sound name row found) in
-      access-sound s command sound within (without_principal_role s row).access
-      (access.dropped_principal_role s.next_id s.access row sound.access own other)
-      (ties.dropped_principal_role s.access s.content sound.ties row (IdsDiffer-rising principal_role_id s.access.principal_roles sound.access.principal_roles.rise) own other))
+      access-orderly s command sound within (without_principal_role s row).access
+      (access.dropped_principal_role s.next_id s.access row sound.orderly.access own other)
+      (ties.dropped_principal_role s.access s.content sound.orderly.ties row (IdsDiffer-rising principal_role_id s.access.principal_roles sound.orderly.access.principal_roles.rise) own other))

@@ -8,9 +8,9 @@ use Rattle.pol_access.specs.declared.rows.MemberRow.{MemberRow}
 use Rattle.pol_access.specs.declared.rows.PrincipalRow.{PrincipalRow}
 use Rattle.pol_tables.specs.Facts.{facts_with, facts_without}
 use Rattle.pol_rules.specs.AccessRules.{in_realm, member_of, no_member, no_principal, no_principal_role, reserved_member}
-use Rattle.pol_rules.specs.Acting.{Acting, done, reading, told}
+use Rattle.pol_rules.specs.Acting.{Acting, answer_on, done, reading}
 use Rattle.pol_state.specs.Rows.{Rows}
-use Rattle.pol_rules.specs.Rules.{given, over_limit}
+use Rattle.pol_rules.specs.Rules.{given}
 use Rattle.pol_commands.specs.declared.command.Command.{Command}
 use Rattle.pol_commands.specs.declared.reply.Answer.TheVariants.{RolesListed, MemberAdded, MemberEnded}
 
@@ -22,7 +22,7 @@ roles_held s principal =
 -- listing them
 abbrev pub list_members : Rows → Command → List ℕ → Acting
 list_members s command principal =
-    reading s (in_realm s command (no_principal s principal ∷ [])) (told (principal_named principal s.access) (λ row. RolesListed (roles_held s row)))
+    reading s (in_realm s command (no_principal s principal ∷ [])) (answer_on (principal_named principal s.access) (λ row. RolesListed (roles_held s row)))
 
 -- the rows with a membership, and without one
 abbrev pub with_member : Rows → MemberRow → Rows
@@ -33,13 +33,11 @@ without_member s row = record s { access = record s.access { members = facts_wit
 
 -- making a principal a member of a principal role
 abbrev pub add_member : Rows → Command → List ℕ → List ℕ → Acting
-add_member s command principal role =
-    let after : Rows = done s (member_of s principal role) (with_member s) in
-    record {
-      rules = in_realm s command (no_principal s principal ∷ no_principal_role s role ∷ over_limit after ∷ []);
-      after = after;
-      answer = MemberAdded;
-    }
+add_member s command principal role = record {
+  rules = in_realm s command (no_principal s principal ∷ no_principal_role s role ∷ []);
+  after = done s (member_of s principal role) (with_member s);
+  answer = MemberAdded;
+}
 
 -- ending a membership
 abbrev pub end_member : Rows → Command → List ℕ → List ℕ → Acting

@@ -8,7 +8,6 @@ use Rattle.pol_tables.specs.Table.{rows_with}
 use Rattle.pol_rules.specs.AccessRules.{in_realm, no_principal_role, principal_role_taken, reserved}
 use Rattle.pol_rules.specs.Acting.{Acting, done, reading}
 use Rattle.pol_state.specs.Rows.{Rows}
-use Rattle.pol_rules.specs.Rules.{over_limit}
 use Rattle.pol_commands.specs.declared.command.Command.{Command}
 use Rattle.pol_commands.specs.declared.reply.Answer.TheVariants.{RolesListed, RoleCreated, RoleLoaded, RoleDropped}
 
@@ -26,13 +25,11 @@ with_principal_role s row = record s {
 
 -- creating a principal role
 abbrev pub create_principal_role : Rows → Command → List ℕ → Acting
-create_principal_role s command name =
-    let after : Rows = with_principal_role s (record { id = s.next_id; name = name }) in
-    record {
-      rules = in_realm s command (principal_role_taken s name ∷ over_limit after ∷ []);
-      after = after;
-      answer = RoleCreated;
-    }
+create_principal_role s command name = record {
+  rules = in_realm s command (principal_role_taken s name ∷ []);
+  after = with_principal_role s (record { id = s.next_id; name = name });
+  answer = RoleCreated;
+}
 
 -- showing a principal role
 abbrev pub get_principal_role : Rows → Command → List ℕ → Acting

@@ -7,9 +7,8 @@ use Rattle.pol_access.specs.declared.rows.PrincipalRow.{PrincipalRow}
 use Rattle.pol_tables.specs.Table.{rows_with}
 use Rattle.pol_tokens.specs.Text.{word_digits}
 use Rattle.pol_rules.specs.AccessRules.{client_taken, in_realm, no_principal, principal_taken, reserved}
-use Rattle.pol_rules.specs.Acting.{Acting, done, reading, told}
+use Rattle.pol_rules.specs.Acting.{Acting, answer_on, done, reading}
 use Rattle.pol_state.specs.Rows.{Rows, digest_of}
-use Rattle.pol_rules.specs.Rules.{over_limit}
 use Rattle.pol_commands.specs.declared.command.Command.{Command}
 use Rattle.pol_commands.specs.declared.reply.Answer.TheVariants.{PrincipalsListed, PrincipalCreated, PrincipalLoaded, PrincipalDropped, SecretRotated}
 
@@ -40,16 +39,15 @@ abbrev pub create_principal : Rows → Command → List ℕ → Option (List ℕ
 create_principal s command name client_id secret =
     let client = client_id_or client_id command.words.a in
     let opens = secret_or secret command.words.b command.words.c in
-    let after : Rows = with_new_principal s (new_principal s name client opens) in
     record {
-      rules = in_realm s command (principal_taken s name ∷ client_taken s client ∷ over_limit after ∷ []);
-      after = after;
+      rules = in_realm s command (principal_taken s name ∷ client_taken s client ∷ []);
+      after = with_new_principal s (new_principal s name client opens);
       answer = PrincipalCreated name client opens;
     }
 
 -- showing a principal
 abbrev pub get_principal : Rows → Command → List ℕ → Acting
-get_principal s command name = reading s (in_realm s command (no_principal s name ∷ [])) (told (principal_named name s.access) PrincipalLoaded)
+get_principal s command name = reading s (in_realm s command (no_principal s name ∷ [])) (answer_on (principal_named name s.access) PrincipalLoaded)
 
 -- the rows without a principal and its memberships
 abbrev pub without_principal : Rows → PrincipalRow → Rows
@@ -74,5 +72,5 @@ rotate s command name secret =
     record {
       rules = in_realm s command (no_principal s name ∷ []);
       after = done s (principal_named name s.access) (rotated s opens);
-      answer = told (principal_named name s.access) (λ row. SecretRotated row.name row.client_id opens);
+      answer = answer_on (principal_named name s.access) (λ row. SecretRotated row.name row.client_id opens);
     }

@@ -1,7 +1,6 @@
 //! The actions on principals, principal roles and memberships.
 #![tactic(auto)]
 
-mod bounds;
 mod drawn;
 pub mod members;
 pub mod principal_roles;

@@ -29,7 +29,8 @@ use Rattle.pol_state.specs.Sound.{IsSound}
 use Rattle.pol_rules.specs.AccessRules.{catalog_role_taken, client_taken, in_catalog, in_realm, no_catalog_role, no_grant, no_join, no_member, no_principal, no_principal_role, no_securable, principal_role_taken, principal_taken, reserved, reserved_grant, reserved_join, reserved_member}
 use Rattle.pol_rules.specs.Live.{live_part}
 use Rattle.pol_rules.specs.Needs.{caller_may, first_unmet, forbidden, session_may, shown}
-use Rattle.pol_rules.specs.Rules.{bad_text, bad_texts, catalog_holds, catalog_taken, client_of, given, inside, invalid_client, invalid_scope, is_signed_in, key_twice, limits, namespace_holds, namespace_taken, no_catalogue, no_namespace, no_parent, over_limit, refuse_if, time_of, unauthenticated, unsupported_type}
+use Rattle.pol_state.specs.Bounds.{limits, over_limit, refuse_if}
+use Rattle.pol_rules.specs.Rules.{bad_text, bad_texts, catalog_holds, catalog_taken, client_of, given, inside, invalid_client, invalid_scope, is_signed_in, key_twice, namespace_holds, namespace_taken, no_catalogue, no_namespace, no_parent, time_of, unauthenticated, unsupported_type}
 use Rattle.pol_rules.specs.declared.needs.Need.{Need}
 use Rattle.pol_rules.proofs.LiveLemmas.{session-live}
 use Rattle.pol_rules.proofs.RulesLemmas.{either-other, first-other, refuse_if-other, tells_full}

@@ -125,11 +125,11 @@ module _ (s : Rows) where
     -- what is found by its name has it, and is the row of its id
     pub principal-own : (name : List ℕ) (row : PrincipalRow) → principal_named name s.access ≡ Some row → row_of principal_id row.id s.access.principals ≡ Some row
     principal-own name row found =
-        found-own principal_id (has_name name) row s.access.principals (IdsDiffer-rising principal_id s.access.principals sound.access.principals.rise) found
+        found-own principal_id (has_name name) row s.access.principals (IdsDiffer-rising principal_id s.access.principals sound.orderly.access.principals.rise) found
 
     pub role-own : (name : List ℕ) (row : PrincipalRoleRow) → principal_role_named name s.access ≡ Some row → row_of principal_role_id row.id s.access.principal_roles ≡ Some row
     role-own name row found =
-        found-own principal_role_id (has_role_name name) row s.access.principal_roles (IdsDiffer-rising principal_role_id s.access.principal_roles sound.access.principal_roles.rise) found
+        found-own principal_role_id (has_role_name name) row s.access.principal_roles (IdsDiffer-rising principal_role_id s.access.principal_roles sound.orderly.access.principal_roles.rise) found
 
     pub principal-is : (name : List ℕ) (row : PrincipalRow) → principal_named name s.access ≡ Some row → name ≡ row.name
     principal-is name row found = text-is name row.name (found-passes (has_name name) s.access.principals row found)
@@ -139,11 +139,11 @@ module _ (s : Rows) where
 
     pub at-own : (catalog name : List ℕ) (row : CatalogRoleRow) → IsRoleAt catalog name row → row_of catalog_role_id row.id s.access.catalog_roles ≡ Some row
     at-own catalog name row at =
-        found-own catalog_role_id (has_catalog_role_name at.owner.id name) row s.access.catalog_roles (IdsDiffer-rising catalog_role_id s.access.catalog_roles sound.access.catalog_roles.rise) at.there
+        found-own catalog_role_id (has_catalog_role_name at.owner.id name) row s.access.catalog_roles (IdsDiffer-rising catalog_role_id s.access.catalog_roles sound.orderly.access.catalog_roles.rise) at.there
 
 module _ (s : Rows) (command : Command) (sound : IsSound s) where
   catalogs-differ : IdsDiffer catalog_id s.content.catalogs
-  catalogs-differ = IdsDiffer-rising catalog_id s.content.catalogs sound.content.catalogs.rise
+  catalogs-differ = IdsDiffer-rising catalog_id s.content.catalogs sound.orderly.content.catalogs.rise
 
   -- what is found by its name is the row of its id
   pub catalog-own : (name : List ℕ) (row : CatalogRow) → catalog_named name s.content ≡ Some row → row_of catalog_id row.id s.content.catalogs ≡ Some row

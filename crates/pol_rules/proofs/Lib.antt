@@ -1,12 +1,14 @@
 pub mod AccessRulesLemmas
+pub mod BoundsLemmas
 pub mod ContentLemmas
+pub mod CountedLemmas
 pub mod FairLemmas
 pub mod FoundLemmas
 pub mod JudgedLemmas
 pub mod LeadsLemmas
-pub mod LimitsLemmas
 pub mod LiveLemmas
 pub mod NeedsLemmas
 pub mod OwesLemmas
+pub mod ProloguesLemmas
 pub mod RulesLemmas
 pub mod SoundLemmas

@@ -14,8 +14,10 @@ use Rattle.pol_tokens.specs.Text.{text_of_token}
 use Rattle.pol_tokens.specs.Tokens.{has_text, serial_of}
 use Rattle.pol_tokens.specs.declared.session.SessionRow.{SessionRow}
 use Rattle.pol_tokens.proofs.TextLemmas.{decode-serial}
+use Rattle.pol_state.specs.Bounds.{over_limit}
 use Rattle.pol_state.specs.Rows.{Rows}
 use Rattle.pol_state.specs.Sound.{IsSessionOf, IsSound}
+use Rattle.pol_state.proofs.BoundsLemmas.{next_serial_bound}
 use Rattle.pol_rules.specs.Rules.{kept_if, session_of}
 use Rattle.pol_rules.specs.Live.{is_live, live_part, Agree}
 
@@ -106,27 +108,29 @@ module _ (s : Rows) where
   module _ (sound : IsSound s) where
     serials-fit : AllByRecursion (λ row. row.serial < 2 ^ 64) s.tokens.sessions
     serials-fit =
-        each-weaken (IsSessionOf s.next_id s.next_serial) (λ row. row.serial < 2 ^ 64) s.tokens.sessions (λ row known. omega (arith, known.below, sound.next_serial_bound)) sound.tokens.sessions
+        each-weaken (IsSessionOf s.next_id s.next_serial) (λ row. row.serial < 2 ^ 64) s.tokens.sessions (λ row known. omega (arith, known.below, next_serial_bound s sound)) sound.orderly.tokens.sessions
 
     -- from the state's time on, the live sessions have that of a caller
     pub session-live : (time : ℕ) (text : List ℕ) → s.time ≤ time → session_of (live_part s) time text ≡ session_of s time text
     unfolding session_of
     session-live time text later =
-        kept-stays (is_sought text time) (λ row. knows principal_id row.principal s.access.principals) (is_live s) s.tokens.sessions (one-sought text time s.tokens.sessions sound.tokens.sessions_rise serials-fit)
+        kept-stays (is_sought text time) (λ row. knows principal_id row.principal s.access.principals) (is_live s) s.tokens.sessions (one-sought text time s.tokens.sessions sound.orderly.tokens.sessions_rise serials-fit)
         (each-all (λ row. is_sought text time row ≡ true → knows principal_id row.principal s.access.principals ≡ true → is_live s row ≡ true) s.tokens.sessions (λ row sought there. live-before time row later (and_parts (has_text text row) (nat_lt time row.expires) sought).1 there))
 
     -- the live part is sound
     pub live-sound : IsSound (live_part s)
+    unfolding over_limit
     live-sound = record {
-      access = sound.access;
-      content = sound.content;
-      ties = sound.ties;
-      tokens = record {
-        sessions_rise = KeysRise-filter serial_of (is_live s) s.tokens.sessions sound.tokens.sessions_rise;
-        sessions = each-filter (IsSessionOf s.next_id s.next_serial) (is_live s) s.tokens.sessions sound.tokens.sessions;
+      orderly = record {
+        access = sound.orderly.access;
+        content = sound.orderly.content;
+        ties = sound.orderly.ties;
+        tokens = record {
+          sessions_rise = KeysRise-filter serial_of (is_live s) s.tokens.sessions sound.orderly.tokens.sessions_rise;
+          sessions = each-filter (IsSessionOf s.next_id s.next_serial) (is_live s) s.tokens.sessions sound.orderly.tokens.sessions;
+        };
+        time_bound = sound.orderly.time_bound;
+        charged_bound = sound.orderly.charged_bound;
       };
-      time_bound = sound.time_bound;
-      next_id_bound = sound.next_id_bound;
-      next_serial_bound = sound.next_serial_bound;
-      charged_bound = sound.charged_bound;
+      within = sound.within;
     }

@@ -1,4 +1,4 @@
--- What each action owes: its changes lead to its rows after, it keeps soundness, and the live part does the same.
+-- What each action owes: its changes lead to its rows after, which are orderly, and the live part does the same.
 use Rattle.std.proofs.Common.{◌≡◌, ◌+◌, true, ◌++◌, ◌∙◌, List, filter, Option, None, Some, nat_lt, refl, sym, subst, arith}
 use Rattle.std.specs.List.{AllByRecursion}
 use Rattle.std.proofs.lemmas.Bool.{and_parts}
@@ -12,15 +12,16 @@ use Rattle.pol_commands.specs.declared.reply.Answer.{Answer}
 use Rattle.pol_commands.specs.declared.reply.Refusal.{Refusal}
 use Rattle.pol_state.specs.Changes.{changes_between, headed, id_change, in_turn, row_changes, serial_change}
 use Rattle.pol_state.specs.Rows.{Rows}
-use Rattle.pol_state.specs.Sound.{IsSound}
+use Rattle.pol_state.specs.Sound.{IsOrderly, IsSound}
 use Rattle.pol_state.proofs.ChangesLemmas.{sessions-kept}
 use Rattle.pol_rules.specs.Acting.{done, reading, stamped, Acting}
 use Rattle.pol_rules.specs.Live.{is_live, live_part, live_tokens, Agree}
-use Rattle.pol_rules.specs.Rules.{over_limit, time_of, EachPasses}
-use Rattle.pol_rules.proofs.FairLemmas.{limit-other, AreFair, IsFair}
+use Rattle.pol_state.specs.Bounds.{over_limit, EachPasses}
+use Rattle.pol_rules.specs.Rules.{time_of}
+use Rattle.pol_rules.proofs.FairLemmas.{AreFair}
 use Rattle.pol_rules.proofs.LeadsLemmas.{leads-same, Leads}
 use Rattle.pol_rules.proofs.LiveLemmas.{filter-weaker, live-before}
-use Rattle.pol_rules.proofs.SoundLemmas.{stamped-sound, IsWithin}
+use Rattle.pol_rules.proofs.SoundLemmas.{stamped-orderly, IsWithin}
 
 -- rows with these tokens
 abbrev pub with_tokens : TokenRows → Rows → Rows
@@ -44,17 +45,13 @@ module _ (s : Rows) (command : Command) where
     pub same : IsSound s → DoSame s (stamped s command after) (stamped (live_part s) command live)
     pub bounds : over_limit after ≡ over_limit live
 
-  -- what is owed of an action: besides, it keeps soundness where its rules pass, none of them tells that the run is
-  -- full, and in the live part they are judged alike and the answer is the same
+  -- what is owed of an action: besides, it keeps a sound state orderly where its rules pass, none of them tells that the
+  -- run is full, and in the live part they are judged alike and the answer is the same
   pub record Owes (action live : Acting) : Type 0 where
     pub rows : OwesRows action.after live.after
-    pub sound : IsSound s → IsWithin s command → EachPasses action.rules → IsSound (stamped s command action.after)
+    pub orderly : IsSound s → IsWithin s command → EachPasses action.rules → IsOrderly (stamped s command action.after)
     pub fair : AreFair s action.rules live.rules
     pub answer : action.answer ≡ live.answer
-
-  -- the rule on the bounds of these rows
-  pub fair-limit : {after live : Rows} → OwesRows after live → IsFair s (over_limit after) (over_limit live)
-  fair-limit {after = after} rows = record { other = limit-other after; alike = λ sound. rows.bounds }
 
   -- rows that leave the principals alone bring none back
   pub none-returns : NoneReturns s s
@@ -108,7 +105,7 @@ module _ (s : Rows) (command : Command) where
   pub owes-reading : {rules live : List (Option Refusal)} {answer : Answer} → AreFair s rules live → Owes (reading s rules answer) (reading (live_part s) live answer)
   owes-reading fair = record {
     rows = owes-same;
-    sound = λ sound within passes. stamped-sound s command sound within;
+    orderly = λ sound within passes. stamped-orderly s command sound.orderly within;
     fair = fair;
     answer = refl;
   }

@@ -1,29 +1,36 @@
 -- The first of the rules that fails.
-use Rattle.std.proofs.Common.{◌≡◌, ℕ, Bool, true, false, is_some, List, [], ◌∷◌, Option, None, Some, refl, ap, ◌∙◌}
+use Rattle.std.proofs.Common.{◌≡◌, ℕ, Bool, true, false, is_some, List, [], ◌∷◌, ◌++◌, Option, None, Some, refl, ap, ◌∙◌}
 use Rattle.std.specs.List.{AllByRecursion}
 use Rattle.std.specs.Option.{option_or}
 use Rattle.pol_commands.specs.Reply.{is_full}
 use Rattle.pol_commands.specs.declared.reply.Refusal.{Refusal}
 use Rattle.pol_commands.specs.declared.reply.Refusal.TheVariants.{RunFull}
 use Rattle.pol_state.specs.Rows.{Rows}
-use Rattle.pol_rules.specs.Rules.{first_refusal, refuse_if, run_full, EachPasses}
+use Rattle.pol_state.specs.Bounds.{first_refusal, refuse_if}
+use Rattle.pol_rules.specs.Rules.{run_full}
 
--- a rule that fails first is the answer, and one that passes leaves it to those after it
+-- a rule that fails first is the answer
 pub refusal-stops : (rule : Option Refusal) (why : Refusal) (rules : List (Option Refusal)) → rule ≡ Some why → first_refusal (rule ∷ rules) ≡ Some why
 refusal-stops rule why rules fails = ap (λ first. first_refusal (first ∷ rules)) fails
 
-pub refusal-past : (rule : Option Refusal) (rules : List (Option Refusal)) (first : Option Refusal) → rule ≡ None → first_refusal rules ≡ first → first_refusal (rule ∷ rules) ≡ first
-refusal-past rule rules first passes rest = ap (λ one. first_refusal (one ∷ rules)) passes ∙ rest
+-- rules that come later are judged where those before them pass
+pub first-joined : (rules more : List (Option Refusal)) → first_refusal (rules ++ more) ≡ option_or (first_refusal rules) (first_refusal more)
+first-joined [] more = refl
+first-joined (None ∷ rules) more = first-joined rules more
+first-joined (Some why ∷ rules) more = refl
 
--- no rule fails exactly where each passes
-pub refusal-none : (rules : List (Option Refusal)) → EachPasses rules → first_refusal rules ≡ None
-refusal-none [] passes = refl
-refusal-none (rule ∷ rules) passes = refusal-past rule rules None passes.0 (refusal-none rules passes.1)
+-- and so is the one that comes last
+pub first-then : (rules : List (Option Refusal)) (last : Option Refusal) → first_refusal (rules ++ last ∷ []) ≡ option_or (first_refusal rules) last
+first-then rules last = first-joined rules (last ∷ []) ∙ ap (option_or (first_refusal rules)) (alone last)
+  where
+    alone : (rule : Option Refusal) → first_refusal (rule ∷ []) ≡ rule
+    alone None = refl
+    alone (Some why) = refl
 
-pub EachPasses-none : (rules : List (Option Refusal)) → first_refusal rules ≡ None → EachPasses rules
-EachPasses-none [] none = tt
-EachPasses-none (None ∷ rules) none = (refl, EachPasses-none rules none)
-EachPasses-none (Some why ∷ rules) none = let contrary : Some why ≡ None = none in cc
+-- neither of two fails
+pub none-either : (first second : Option Refusal) → option_or first second ≡ None → (first ≡ None) × (second ≡ None)
+none-either None second none = (refl, none)
+none-either (Some why) second none = let contrary : Some why ≡ None = none in cc
 
 -- whether a rule says that the run is full
 abbrev pub tells_full : Option Refusal → Bool

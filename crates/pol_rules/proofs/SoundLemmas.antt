@@ -1,9 +1,13 @@
--- The rows after an action, at the time of its command, are sound.
-use Rattle.std.proofs.Common.{◌≡◌, ℕ, ◌+◌, ◌≤◌, ◌^◌, Bool, true, false, cond, None, Some, refl, arith, nat_lt, Option, List}
+-- The rows after an action, at the time of its command, are orderly.
+use Rattle.std.proofs.Common.{◌≡◌, ℕ, ◌+◌, ◌≤◌, ◌^◌, Bool, true, false, cond, None, Some, refl, sym, subst, arith, nat_lt, Option, List}
 use Rattle.std.proofs.lemmas.Bool.{ltb-false}
 use Rattle.pol_access.specs.Access.{AccessRows, principal_id}
 use Rattle.pol_access.proofs.SoundLemmas.{given-later}
+use Rattle.pol_tables.specs.Rising.{KeysBelow}
+use Rattle.pol_tables.specs.Table.{knows}
 use Rattle.pol_tables.proofs.ListLemmas.{each-weaken}
+use Rattle.pol_tables.proofs.NumberedLemmas.{below-next}
+use Rattle.pol_tables.proofs.RisingLemmas.{knows-below}
 use Rattle.pol_content.specs.Content.{ContentRows}
 use Rattle.pol_content.specs.Sound.{IsSoundContent}
 use Rattle.pol_content.proofs.SoundLemmas.{more_ids}
@@ -14,10 +18,9 @@ use Rattle.pol_commands.specs.declared.command.Command.{Command}
 use Rattle.pol_commands.specs.declared.reply.Refusal.TheVariants.{RunFull}
 use Rattle.pol_commands.specs.declared.reply.Refusal.{Refusal}
 use Rattle.pol_state.specs.Rows.{Rows}
-use Rattle.pol_state.specs.Sound.{AreTied, IsGiven, IsSessionOf, IsSound, IsSoundAccess, IsSoundTokens, NamesGiven}
-use Rattle.pol_rules.specs.Acting.{stamped, rows_by, done}
-use Rattle.pol_rules.specs.Rules.{run_full, time_of, first_refusal, EachPasses}
-use Rattle.pol_rules.proofs.RulesLemmas.{EachPasses-none}
+use Rattle.pol_state.specs.Sound.{AreNumbered, AreTied, IsGiven, IsOrderly, IsSessionOf, IsSound, IsSoundAccess, IsSoundTokens, NamesGiven}
+use Rattle.pol_rules.specs.Acting.{stamped, done}
+use Rattle.pol_rules.specs.Rules.{run_full, time_of}
 use Rattle.pol_rules.proofs.FoundLemmas.{found-holds}
 
 -- the bounds of a command's time and charge
@@ -28,7 +31,7 @@ pub record IsWithin (s : Rows) (command : Command) : Type 0 where
 pub within-bounds : (s : Rows) (command : Command) → IsSound s → command.moment ≤ 2 ^ 62 → run_full s command.charge ≡ None → IsWithin s command
 unfolding run_full
 within-bounds s command sound moment open_ = record {
-  time = omega (arith, sound.time_bound, moment);
+  time = omega (arith, sound.orderly.time_bound, moment);
   charged = by (nat_lt (2 ^ 30) (s.charged + command.charge)) refl open_;
 }
   where
@@ -36,16 +39,14 @@ within-bounds s command sound moment open_ = record {
     by true is contrary = cc
     by false is none = ltb-false (2 ^ 30) (s.charged + command.charge) is
 
--- the same rows at the command's time are sound
-pub stamped-sound : (s : Rows) (command : Command) → IsSound s → IsWithin s command → IsSound (stamped s command s)
-stamped-sound s command sound within = record {
-  access = sound.access;
-  content = sound.content;
-  ties = sound.ties;
-  tokens = sound.tokens;
+-- the same rows at the command's time are orderly
+pub stamped-orderly : (s : Rows) (command : Command) → IsOrderly s → IsWithin s command → IsOrderly (stamped s command s)
+stamped-orderly s command orderly within = record {
+  access = orderly.access;
+  content = orderly.content;
+  ties = orderly.ties;
+  tokens = orderly.tokens;
   time_bound = within.time;
-  next_id_bound = sound.next_id_bound;
-  next_serial_bound = sound.next_serial_bound;
   charged_bound = within.charged;
 }
 
@@ -61,45 +62,41 @@ later-tokens low high serial tokens more sound = record {
   sessions = each-weaken (IsSessionOf low serial) (IsSessionOf high serial) tokens.sessions (λ row known. record { below = known.below; principal = given-later low high row.principal more known.principal; scope = names-later low high row.scope more known.scope }) sound.sessions;
 }
 
--- other rows of access and content, with more ids given out, are sound at the command's time
-pub tables-sound : (s : Rows) (command : Command) (access : AccessRows) (content : ContentRows) (next_id : ℕ) → IsSound s → IsWithin s command → s.next_id ≤ next_id → next_id ≤ 2 ^ 62 → IsSoundAccess next_id access → IsSoundContent next_id content → AreTied access content
-    → IsSound (stamped s command (record s { access = access; content = content; next_id = next_id }))
-tables-sound s command access content next_id sound within more bound access_sound content_sound tied = record {
+-- other rows of access and content, with more ids given out, are orderly at the command's time
+pub tables-orderly : (s : Rows) (command : Command) (access : AccessRows) (content : ContentRows) (next_id : ℕ) → IsSound s → IsWithin s command → s.next_id ≤ next_id → IsSoundAccess next_id access → IsSoundContent next_id content → AreTied access content
+    → IsOrderly (stamped s command (record s { access = access; content = content; next_id = next_id }))
+tables-orderly s command access content next_id sound within more access_sound content_sound tied = record {
   access = access_sound;
   content = content_sound;
   ties = tied;
-  tokens = later-tokens s.next_id next_id s.next_serial s.tokens more sound.tokens;
+  tokens = later-tokens s.next_id next_id s.next_serial s.tokens more sound.orderly.tokens;
   time_bound = within.time;
-  next_id_bound = bound;
-  next_serial_bound = sound.next_serial_bound;
   charged_bound = within.charged;
 }
 
 -- some id was given out
 pub next_id-some : (s : Rows) → IsSound s → 1 ≤ s.next_id
 next_id-some s sound =
-    let chain = sound.access.root_chain in
-    let given = found-holds (λ row. IsGiven s.next_id (principal_id row)) _ s.access.principals chain.root sound.access.principals.given chain.root_there in
+    let chain = sound.orderly.access.root_chain in
+    let given = found-holds (λ row. IsGiven s.next_id (principal_id row)) _ s.access.principals chain.root sound.orderly.access.principals.given chain.root_there in
     omega (arith, given.0, given.1)
 
+-- the next id is new among rows that were numbered
+pub next-new : {R : Type 0} (key : R → ℕ) (next_id id : ℕ) (rows : List R) → AreNumbered key next_id rows → id ≡ next_id → knows key id rows ≡ false
+next-new key next_id id rows numbered is =
+    knows-below key id rows (subst (λ high. KeysBelow key high rows) (sym is) (below-next key next_id rows numbered))
+
 module _ (s : Rows) (command : Command) (sound : IsSound s) (within : IsWithin s command) where
-  -- an action whose rules pass, and one on what it found
-  pub sound-after : (rules : List (Option Refusal)) (after : Rows) → (EachPasses rules → IsSound (stamped s command after)) → IsSound (stamped s command (rows_by (first_refusal rules) s after))
-  sound-after rules after so = by (first_refusal rules) refl
-    where
-      by : (first : Option Refusal) → first_refusal rules ≡ first → IsSound (stamped s command (rows_by first s after))
-      by (Some why) fails = stamped-sound s command sound within
-      by None none = so (EachPasses-none rules none)
+  -- an action on what it found
+  pub orderly-done : {A : Type 0} (found : Option A) (after : A → Rows) → ((one : A) → found ≡ Some one → IsOrderly (stamped s command (after one))) → IsOrderly (stamped s command (done s found after))
+  orderly-done None after so = stamped-orderly s command sound.orderly within
+  orderly-done (Some one) after so = so one refl
 
-  pub sound-done : {A : Type 0} (found : Option A) (after : A → Rows) → ((one : A) → found ≡ Some one → IsSound (stamped s command (after one))) → IsSound (stamped s command (done s found after))
-  sound-done None after so = stamped-sound s command sound within
-  sound-done (Some one) after so = so one refl
+  -- other rows of access are orderly at the command's time, and so are they with one more id given out
+  pub access-orderly : (after : AccessRows) → IsSoundAccess s.next_id after → AreTied after s.content → IsOrderly (stamped s command (record s { access = after }))
+  access-orderly after kept tied_after =
+      tables-orderly s command after s.content s.next_id sound within (omega arith) kept sound.orderly.content tied_after
 
-  -- other rows of access are sound at the command's time, and so are they with one more id given out
-  pub access-sound : (after : AccessRows) → IsSoundAccess s.next_id after → AreTied after s.content → IsSound (stamped s command (record s { access = after }))
-  access-sound after kept tied_after =
-      tables-sound s command after s.content s.next_id sound within (omega arith) sound.next_id_bound kept sound.content tied_after
-
-  pub new-access-sound : (after : AccessRows) → s.next_id + 1 ≤ 2 ^ 62 → IsSoundAccess (s.next_id + 1) after → AreTied after s.content → IsSound (stamped s command (record s { access = after; next_id = s.next_id + 1 }))
-  new-access-sound after bound kept tied_after =
-      tables-sound s command after s.content (s.next_id + 1) sound within (omega arith) bound kept (more_ids s.next_id (s.next_id + 1) s.content (omega arith) sound.content) tied_after
+  pub new-access-orderly : (after : AccessRows) → IsSoundAccess (s.next_id + 1) after → AreTied after s.content → IsOrderly (stamped s command (record s { access = after; next_id = s.next_id + 1 }))
+  new-access-orderly after kept tied_after =
+      tables-orderly s command after s.content (s.next_id + 1) sound within (omega arith) kept (more_ids s.next_id (s.next_id + 1) s.content (omega arith) sound.orderly.content) tied_after

@@ -25,7 +25,8 @@ use Rattle.pol_content.specs.declared.rows.CatalogRow.{CatalogRow}
 use Rattle.pol_tables.specs.Facts.{holds}
 use Rattle.pol_rules.specs.Needs.{forbidden, on_catalog, service}
 use Rattle.pol_state.specs.Rows.{Rows}
-use Rattle.pol_rules.specs.Rules.{inside, no_catalogue, no_namespace, refuse_if, unauthenticated}
+use Rattle.pol_state.specs.Bounds.{refuse_if}
+use Rattle.pol_rules.specs.Rules.{inside, no_catalogue, no_namespace, unauthenticated}
 
 -- the rules of an action that manages the realm, and of one that manages the access of a catalogue, before its own
 abbrev pub in_realm : Rows → Command → List (Option Refusal) → List (Option Refusal)

@@ -23,9 +23,9 @@ done s None after = s
 done s (Some found) after = after found
 
 -- the answer on what was found; where nothing was, the answer isn't given
-abbrev pub told : {A : Type 0} → Option A → (A → Answer) → Answer
-told None answer = NamespaceThere
-told (Some found) answer = answer found
+abbrev pub answer_on : {A : Type 0} → Option A → (A → Answer) → Answer
+answer_on None answer = NamespaceThere
+answer_on (Some found) answer = answer found
 
 -- these rows, with the command's time, and its charge added
 abbrev pub stamped : Rows → Command → Rows → Rows

@@ -1,5 +1,6 @@
 pub mod AccessRules
 pub mod Acting
+pub mod Counted
 pub mod Judged
 pub mod Live
 pub mod Needs

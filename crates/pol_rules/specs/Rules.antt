@@ -1,6 +1,6 @@
 -- Rules: what refuses a command, in the order in which an action lists its rules.
-use Rattle.std.specs.Prelude.{◌≡◌, ℕ, ◌+◌, ◌^◌, max, Bool, true, false, not, nat_lt, ◌||◌, ◌++◌, List, [], ◌∷◌, length, Option, Some, None, is_some, is_none, if◌then◌else◌, codes}
-use Rattle.std.specs.List.{find, list_all, list_any, AllByRecursion}
+use Rattle.std.specs.Prelude.{ℕ, ◌+◌, ◌^◌, max, Bool, true, false, not, nat_lt, ◌||◌, ◌++◌, List, [], ◌∷◌, Option, Some, None, is_some, is_none, if◌then◌else◌, codes}
+use Rattle.std.specs.List.{find, list_all}
 use Rattle.std.specs.Option.{option_map, option_or}
 use Rattle.std.specs.Str.{bytes_eq}
 use Rattle.pol_access.specs.Access.{AccessRows, has_other_role, principal_id, is_member}
@@ -17,34 +17,19 @@ use Rattle.pol_properties.specs.declared.property.Property.{Property}
 use Rattle.pol_tables.specs.Table.{knows}
 use Rattle.pol_tokens.specs.Tokens.{find_session}
 use Rattle.pol_tokens.specs.declared.session.SessionRow.{SessionRow}
+use Rattle.pol_state.specs.Bounds.{refuse_if}
 use Rattle.pol_state.specs.Rows.{Rows, digest_of}
 use Rattle.pol_commands.specs.declared.command.Caller.{Caller}
 use Rattle.pol_commands.specs.declared.command.Caller.TheVariants.{Nobody, Bearer, Setup}
 use Rattle.pol_commands.specs.declared.command.Command.{Command}
 use Rattle.pol_commands.specs.declared.reply.OptionName.TheVariants as option
 use Rattle.pol_commands.specs.declared.reply.Refusal.{Refusal}
-use Rattle.pol_commands.specs.declared.reply.Refusal.TheVariants.{RunFull, InvalidClient, InvalidScope, Unauthenticated, NoCatalogue, NoNamespace, NameTaken, NotEmpty, KeyTwice, BadLocation, Unsupported, Limit}
-use Rattle.pol_commands.specs.declared.reply.Quantity.TheVariants as quantity
-use Rattle.pol_commands.specs.declared.reply.Quantity.{Quantity}
-
--- a rule that refuses where the test holds
-abbrev pub refuse_if : Bool → Refusal → Option Refusal
-refuse_if test why = if test then Some why else None
+use Rattle.pol_commands.specs.declared.reply.Refusal.TheVariants.{RunFull, InvalidClient, InvalidScope, Unauthenticated, NoCatalogue, NoNamespace, NameTaken, NotEmpty, KeyTwice, BadLocation, Unsupported}
 
 -- a rule on what an earlier rule has found; where nothing was found, the earlier rule has refused already
 abbrev pub given : {A : Type 0} → Option A → (A → Option Refusal) → Option Refusal
 given None rule = None
 given (Some found) rule = rule found
-
--- the first of the rules that fails
-abbrev pub first_refusal : List (Option Refusal) → Option Refusal
-first_refusal [] = None
-first_refusal (None ∷ rules) = first_refusal rules
-first_refusal (Some why ∷ rules) = Some why
-
--- each rule passes
-abbrev pub EachPasses : List (Option Refusal) → Type 0
-EachPasses rules = AllByRecursion (λ rule. rule ≡ None) rules
 
 -- the charges of the run and this charge are above 2^30 together
 unfoldable pub run_full : Rows → ℕ → Option Refusal
@@ -154,47 +139,3 @@ bad_texts (text ∷ texts) = option_or (bad_text text) (bad_texts texts)
 -- the catalogue isn't kept here
 unfoldable pub unsupported_type : Bool → Option Refusal
 unsupported_type external = refuse_if external (Unsupported option.Type)
-
--- a number is above the bound of a quantity
-abbrev pub above : Quantity → ℕ → ℕ → Option Refusal
-above quantity bound number = refuse_if (nat_lt bound number) (Limit quantity bound)
-
--- a row has a number above the bound of a quantity
-abbrev pub any_above : {R : Type 0} → Quantity → ℕ → (R → ℕ) → List R → Option Refusal
-any_above quantity bound number rows = refuse_if (list_any (λ row. nat_lt bound (number row)) rows) (Limit quantity bound)
-
--- how many allowed locations and properties rows have
-abbrev pub allowed_count : CatalogRow → ℕ
-allowed_count row = length row.allowed
-
-abbrev pub catalog_properties : CatalogRow → ℕ
-catalog_properties row = length row.properties
-
-abbrev pub namespace_properties : NamespaceRow → ℕ
-namespace_properties row = length row.properties
-
--- the quantities of these rows that are above their bounds
-abbrev pub limits : Rows → List (Option Refusal)
-limits rows =
-    above quantity.Catalogs 1000 (length rows.content.catalogs)
-    ∷ above quantity.Principals 10000 (length rows.access.principals)
-    ∷ above quantity.PrincipalRoles 10000 (length rows.access.principal_roles)
-    ∷ above quantity.CatalogRoles 10000 (length rows.access.catalog_roles)
-    ∷ above quantity.Members 100000 (length rows.access.members)
-    ∷ above quantity.Joins 100000 (length rows.access.joins)
-    ∷ above quantity.Grants 100000 (length rows.access.grants)
-    ∷ above quantity.Namespaces 100000 (length rows.content.namespaces)
-    ∷ any_above quantity.AllowedLocations 100 allowed_count rows.content.catalogs
-    ∷ any_above quantity.Properties 1000 catalog_properties rows.content.catalogs
-    ∷ any_above quantity.Properties 1000 namespace_properties rows.content.namespaces
-    ∷ above quantity.NextId (2 ^ 62) rows.next_id
-    ∷ above quantity.NextSerial (2 ^ 62) rows.next_serial
-    ∷ []
-
--- the first of them
-unfoldable pub over_limit : Rows → Option Refusal
-over_limit rows = first_refusal (limits rows)
-
--- rows with this next serial
-abbrev pub with_serial : ℕ → Rows → Rows
-with_serial serial s = record s { next_serial = serial }

@@ -6,12 +6,12 @@ ghost use Rattle.pol_access.specs.contracts.rows.GrantRow as grant_row;
 ghost use Rattle.pol_tables.specs.Facts.{holds};
 ghost use Rattle.pol_tables.specs.Table.{row_of};
 ghost use Rattle.pol_rules.specs.AccessRules.{catalog_role_taken, client_taken, is_first, no_catalog_role, no_grant, no_join, no_member, no_principal, no_principal_role, no_securable, principal_role_taken, principal_taken, reserved, reserved_grant, reserved_join, reserved_member, securable_in};
-ghost use Rattle.pol_rules.specs.Judged.{Judges};
+ghost use Rattle.pol_rules.specs.Judged.{Judges, Tells};
 ghost use Rattle.pol_state.specs.Sound.{IsSound};
 
 use crate::catalog_rules::CATALOG_ADMIN;
 use crate::namespace_rules::namespace_there;
-use crate::rules::Stop;
+use crate::rules::{Asked, Undone};
 use pol_access::{
     CatalogRoleRow, GrantRow, JoinRow, MemberRow, PrincipalRoleRow, PrincipalRow, Privilege,
     Securable,
@@ -19,7 +19,6 @@ use pol_access::{
 use pol_commands::{Grant, GrantedOn, Refusal};
 use pol_content::CatalogRow;
 use pol_names::Plain;
-use pol_state::State;
 use pol_state::texts::text;
 use std::alloc::Global;
 
@@ -31,17 +30,13 @@ pub const SERVICE_ADMIN: &str = "service_admin";
 
 /// The principal of the name.
 #[tactic(auto, unfolding(crate::specs::AccessRules::no_principal))]
-pub fn principal_there<'a>(
-    alloc: Global,
-    state: &'a State,
-    name: &Plain,
-) -> Result<&'a PrincipalRow, Stop>
-    requires { IsSound state.now.rows }
-    ensures { Judges (no_principal state.now.rows name.now) (λ row. (principal_named name.now state.now.rows.access ≡ Some row.now) × (row_of principal_id row.now.id state.now.rows.access.principals ≡ Some row.now)) result }
+pub fn principal_there<'a>(asked: &Asked<'a>, name: &Plain) -> Result<&'a PrincipalRow, Undone>
+    requires { IsSound asked.now.state.now.rows }
+    ensures { let s = asked.now.state.now.rows in Tells (no_principal s name.now) (λ row. (principal_named name.now s.access ≡ Some row.now) × (row_of principal_id row.now.id s.access.principals ≡ Some row.now)) result }
 {
-    let Some(row) = state.access().principal_named(name.as_str()) else {
-        return Err(Stop::Refused(Refusal::NoSuchRole {
-            name: text(alloc, name.as_str())?,
+    let Some(row) = asked.state.access().principal_named(name.as_str()) else {
+        return Err(Undone::Refused(Refusal::NoSuchRole {
+            name: text(asked.alloc, name.as_str())?,
         }));
     };
     Ok(row)
@@ -50,16 +45,15 @@ pub fn principal_there<'a>(
 /// The principal role of the name.
 #[tactic(auto, unfolding(crate::specs::AccessRules::no_principal_role))]
 pub fn principal_role_there<'a>(
-    alloc: Global,
-    state: &'a State,
+    asked: &Asked<'a>,
     name: &Plain,
-) -> Result<&'a PrincipalRoleRow, Stop>
-    requires { IsSound state.now.rows }
-    ensures { Judges (no_principal_role state.now.rows name.now) (λ row. (principal_role_named name.now state.now.rows.access ≡ Some row.now) × (row_of principal_role_id row.now.id state.now.rows.access.principal_roles ≡ Some row.now)) result }
+) -> Result<&'a PrincipalRoleRow, Undone>
+    requires { IsSound asked.now.state.now.rows }
+    ensures { let s = asked.now.state.now.rows in Tells (no_principal_role s name.now) (λ row. (principal_role_named name.now s.access ≡ Some row.now) × (row_of principal_role_id row.now.id s.access.principal_roles ≡ Some row.now)) result }
 {
-    let Some(row) = state.access().principal_role_named(name.as_str()) else {
-        return Err(Stop::Refused(Refusal::NoSuchRole {
-            name: text(alloc, name.as_str())?,
+    let Some(row) = asked.state.access().principal_role_named(name.as_str()) else {
+        return Err(Undone::Refused(Refusal::NoSuchRole {
+            name: text(asked.alloc, name.as_str())?,
         }));
     };
     Ok(row)
@@ -68,17 +62,17 @@ pub fn principal_role_there<'a>(
 /// The role of the name in the catalogue.
 #[tactic(auto, unfolding(crate::specs::AccessRules::no_catalog_role))]
 pub fn catalog_role_there<'a>(
-    alloc: Global,
-    state: &'a State,
+    asked: &Asked<'a>,
     catalog: &CatalogRow,
     name: &Plain,
-) -> Result<&'a CatalogRoleRow, Stop>
-    requires { IsSound state.now.rows }
-    ensures { Judges (no_catalog_role state.now.rows name.now catalog.now) (λ row. (catalog_role_named catalog.now.id name.now state.now.rows.access ≡ Some row.now) × (row_of catalog_role_id row.now.id state.now.rows.access.catalog_roles ≡ Some row.now)) result }
+) -> Result<&'a CatalogRoleRow, Undone>
+    requires { IsSound asked.now.state.now.rows }
+    ensures { let s = asked.now.state.now.rows in Tells (no_catalog_role s name.now catalog.now) (λ row. (catalog_role_named catalog.now.id name.now s.access ≡ Some row.now) × (row_of catalog_role_id row.now.id s.access.catalog_roles ≡ Some row.now)) result }
 {
-    let Some(row) = state.access().catalog_role_named(catalog.id, name.as_str()) else {
-        return Err(Stop::Refused(Refusal::NoSuchRole {
-            name: text(alloc, name.as_str())?,
+    let access = asked.state.access();
+    let Some(row) = access.catalog_role_named(catalog.id, name.as_str()) else {
+        return Err(Undone::Refused(Refusal::NoSuchRole {
+            name: text(asked.alloc, name.as_str())?,
         }));
     };
     Ok(row)
@@ -86,13 +80,14 @@ pub fn catalog_role_there<'a>(
 
 /// No principal has the name.
 #[tactic(auto, unfolding(crate::specs::AccessRules::principal_taken))]
-pub fn principal_free(alloc: Global, state: &State, name: &Plain) -> Result<(), Stop>
-    requires { IsSound state.now.rows }
-    ensures { Judges (principal_taken state.now.rows name.now) (λ _. ⊤) result }
+pub fn principal_free(asked: &Asked<'_>, name: &Plain) -> Result<(), Undone>
+    requires { IsSound asked.now.state.now.rows }
+    ensures { Tells (principal_taken asked.now.state.now.rows name.now) (λ _. ⊤) result }
 {
-    if state.access().principal_named(name.as_str()).is_some() {
-        return Err(Stop::Refused(Refusal::NameTaken {
-            name: text(alloc, name.as_str())?,
+    let access = asked.state.access();
+    if access.principal_named(name.as_str()).is_some() {
+        return Err(Undone::Refused(Refusal::NameTaken {
+            name: text(asked.alloc, name.as_str())?,
         }));
     }
     Ok(())
@@ -100,13 +95,14 @@ pub fn principal_free(alloc: Global, state: &State, name: &Plain) -> Result<(), 
 
 /// No principal has the client id.
 #[tactic(auto, unfolding(crate::specs::AccessRules::client_taken))]
-pub fn client_free(alloc: Global, state: &State, client_id: &str) -> Result<(), Stop>
-    requires { IsSound state.now.rows }
-    ensures { Judges (client_taken state.now.rows client_id.now) (λ _. ⊤) result }
+pub fn client_free(asked: &Asked<'_>, client_id: &str) -> Result<(), Undone>
+    requires { IsSound asked.now.state.now.rows }
+    ensures { Tells (client_taken asked.now.state.now.rows client_id.now) (λ _. ⊤) result }
 {
-    if state.access().principal_of_client(client_id).is_some() {
-        return Err(Stop::Refused(Refusal::NameTaken {
-            name: text(alloc, client_id)?,
+    let access = asked.state.access();
+    if access.principal_of_client(client_id).is_some() {
+        return Err(Undone::Refused(Refusal::NameTaken {
+            name: text(asked.alloc, client_id)?,
         }));
     }
     Ok(())
@@ -114,13 +110,14 @@ pub fn client_free(alloc: Global, state: &State, client_id: &str) -> Result<(), 
 
 /// No principal role has the name.
 #[tactic(auto, unfolding(crate::specs::AccessRules::principal_role_taken))]
-pub fn principal_role_free(alloc: Global, state: &State, name: &Plain) -> Result<(), Stop>
-    requires { IsSound state.now.rows }
-    ensures { Judges (principal_role_taken state.now.rows name.now) (λ _. ⊤) result }
+pub fn principal_role_free(asked: &Asked<'_>, name: &Plain) -> Result<(), Undone>
+    requires { IsSound asked.now.state.now.rows }
+    ensures { Tells (principal_role_taken asked.now.state.now.rows name.now) (λ _. ⊤) result }
 {
-    if state.access().principal_role_named(name.as_str()).is_some() {
-        return Err(Stop::Refused(Refusal::NameTaken {
-            name: text(alloc, name.as_str())?,
+    let access = asked.state.access();
+    if access.principal_role_named(name.as_str()).is_some() {
+        return Err(Undone::Refused(Refusal::NameTaken {
+            name: text(asked.alloc, name.as_str())?,
         }));
     }
     Ok(())
@@ -129,18 +126,18 @@ pub fn principal_role_free(alloc: Global, state: &State, name: &Plain) -> Result
 /// No role of the catalogue has the name.
 #[tactic(auto, unfolding(crate::specs::AccessRules::catalog_role_taken))]
 pub fn catalog_role_free(
-    alloc: Global,
-    state: &State,
+    asked: &Asked<'_>,
     catalog: &CatalogRow,
     name: &Plain,
-) -> Result<(), Stop>
-    requires { IsSound state.now.rows }
-    ensures { Judges (catalog_role_taken state.now.rows name.now catalog.now) (λ _. ⊤) result }
+) -> Result<(), Undone>
+    requires { IsSound asked.now.state.now.rows }
+    ensures { Tells (catalog_role_taken asked.now.state.now.rows name.now catalog.now) (λ _. ⊤) result }
 {
-    let found = state.access().catalog_role_named(catalog.id, name.as_str());
+    let access = asked.state.access();
+    let found = access.catalog_role_named(catalog.id, name.as_str());
     if found.is_some() {
-        return Err(Stop::Refused(Refusal::NameTaken {
-            name: text(alloc, name.as_str())?,
+        return Err(Undone::Refused(Refusal::NameTaken {
+            name: text(asked.alloc, name.as_str())?,
         }));
     }
     Ok(())
@@ -148,29 +145,28 @@ pub fn catalog_role_free(
 
 /// What a grant names in the catalogue.
 pub fn securable_there(
-    alloc: Global,
-    state: &State,
+    asked: &Asked<'_>,
     catalog: &CatalogRow,
     on: &GrantedOn,
-) -> Result<Securable, Stop>
-    requires { IsSound state.now.rows }
-    ensures { Judges (no_securable state.now.rows on.now catalog.now) (λ securable. securable_in state.now.rows on.now catalog.now ≡ Some securable) result }
+) -> Result<Securable, Undone>
+    requires { IsSound asked.now.state.now.rows }
+    ensures { let s = asked.now.state.now.rows in Judges (no_securable s on.now catalog.now) (λ securable. securable_in s on.now catalog.now ≡ Some securable) result }
 {
     match on {
         GrantedOn::Catalog => Ok(Securable::Catalog(catalog.id)),
         GrantedOn::Namespace(levels) => {
-            let row = namespace_there(alloc, state, catalog.id, levels)?;
+            let row = namespace_there(asked, catalog.id, levels)?;
             Ok(Securable::Namespace(row.id))
         }
         GrantedOn::Table(identifier) => {
-            namespace_there(alloc, state, catalog.id, &identifier.namespace)?;
-            Err(Stop::Refused(Refusal::NoTable {
+            namespace_there(asked, catalog.id, &identifier.namespace)?;
+            Err(Undone::Refused(Refusal::NoTable {
                 identifier: identifier.clone()?,
             }))
         }
         GrantedOn::View(identifier) => {
-            namespace_there(alloc, state, catalog.id, &identifier.namespace)?;
-            Err(Stop::Refused(Refusal::NoView {
+            namespace_there(asked, catalog.id, &identifier.namespace)?;
+            Err(Undone::Refused(Refusal::NoView {
                 identifier: identifier.clone()?,
             }))
         }
@@ -179,12 +175,12 @@ pub fn securable_there(
 
 /// The membership is there. The role, to which it would lead, has this name.
 #[tactic(auto, unfolding(crate::specs::AccessRules::no_member))]
-pub fn member_there(alloc: Global, state: &State, role: &Plain, row: &MemberRow) -> Result<(), Stop>
-    ensures { Judges (no_member state.now.rows role.now row.now) (λ _. is_member row.now.principal row.now.role state.now.rows.access ≡ true) result }
+pub fn member_there(asked: &Asked<'_>, role: &Plain, row: &MemberRow) -> Result<(), Undone>
+    ensures { let s = asked.now.state.now.rows in Tells (no_member s role.now row.now) (λ _. is_member row.now.principal row.now.role s.access ≡ true) result }
 {
-    if !state.access().is_member(row.principal, row.role) {
-        return Err(Stop::Refused(Refusal::NoSuchRole {
-            name: text(alloc, role.as_str())?,
+    if !asked.state.access().is_member(row.principal, row.role) {
+        return Err(Undone::Refused(Refusal::NoSuchRole {
+            name: text(asked.alloc, role.as_str())?,
         }));
     }
     Ok(())
@@ -192,20 +188,13 @@ pub fn member_there(alloc: Global, state: &State, role: &Plain, row: &MemberRow)
 
 /// The join is there. The catalogue role, to which it would lead, has this name.
 #[tactic(auto, unfolding(crate::specs::AccessRules::no_join))]
-pub fn join_there(
-    alloc: Global,
-    state: &State,
-    catalog_role: &Plain,
-    row: &JoinRow,
-) -> Result<(), Stop>
-    ensures { Judges (no_join state.now.rows catalog_role.now row.now) (λ _. is_joined row.now.principal_role row.now.catalog_role state.now.rows.access ≡ true) result }
+pub fn join_there(asked: &Asked<'_>, catalog_role: &Plain, row: &JoinRow) -> Result<(), Undone>
+    ensures { let s = asked.now.state.now.rows in Tells (no_join s catalog_role.now row.now) (λ _. is_joined row.now.principal_role row.now.catalog_role s.access ≡ true) result }
 {
-    if !state
-        .access()
-        .is_joined(row.principal_role, row.catalog_role)
-    {
-        return Err(Stop::Refused(Refusal::NoSuchRole {
-            name: text(alloc, catalog_role.as_str())?,
+    let access = asked.state.access();
+    if !access.is_joined(row.principal_role, row.catalog_role) {
+        return Err(Undone::Refused(Refusal::NoSuchRole {
+            name: text(asked.alloc, catalog_role.as_str())?,
         }));
     }
     Ok(())
@@ -213,12 +202,12 @@ pub fn join_there(
 
 /// The grant is there.
 #[tactic(auto, unfolding(crate::specs::AccessRules::no_grant))]
-pub fn grant_there(alloc: Global, state: &State, row: &GrantRow) -> Result<(), Stop>
-    ensures { Judges (no_grant state.now.rows row.now) (λ _. holds grant_row.the_row.coded row.now state.now.rows.access.grants ≡ true) result }
+pub fn grant_there(asked: &Asked<'_>, row: &GrantRow) -> Result<(), Undone>
+    ensures { let s = asked.now.state.now.rows in Tells (no_grant s row.now) (λ _. holds grant_row.the_row.coded row.now s.access.grants ≡ true) result }
 {
-    if !state.access().has_grant(row) {
-        return Err(Stop::Refused(Refusal::NoSuchRole {
-            name: text(alloc, row.privilege.as_str())?,
+    if !asked.state.access().has_grant(row) {
+        return Err(Undone::Refused(Refusal::NoSuchRole {
+            name: text(asked.alloc, row.privilege.as_str())?,
         }));
     }
     Ok(())
@@ -226,11 +215,11 @@ pub fn grant_there(alloc: Global, state: &State, row: &GrantRow) -> Result<(), S
 
 /// The name isn't that of what is kept.
 #[tactic(auto, unfolding(crate::specs::AccessRules::reserved))]
-pub fn unreserved(alloc: Global, kept: &str, name: &Plain) -> Result<(), Stop>
-    ensures { Judges (reserved kept.now name.now) (λ _. ⊤) result }
+pub fn unreserved(alloc: Global, kept: &str, name: &Plain) -> Result<(), Undone>
+    ensures { Tells (reserved kept.now name.now) (λ _. ⊤) result }
 {
     if name.as_str() == kept {
-        return Err(Stop::Refused(Refusal::Reserved {
+        return Err(Undone::Refused(Refusal::Reserved {
             name: text(alloc, kept)?,
         }));
     }
@@ -239,11 +228,11 @@ pub fn unreserved(alloc: Global, kept: &str, name: &Plain) -> Result<(), Stop>
 
 /// The membership, by the names of its principal and its role, may end.
 #[tactic(auto, unfolding(crate::specs::AccessRules::reserved_member))]
-pub fn member_may_end(alloc: Global, principal: &Plain, role: &Plain) -> Result<(), Stop>
-    ensures { Judges (reserved_member principal.now role.now) (λ _. ⊤) result }
+pub fn member_may_end(alloc: Global, principal: &Plain, role: &Plain) -> Result<(), Undone>
+    ensures { Tells (reserved_member principal.now role.now) (λ _. ⊤) result }
 {
     if principal.as_str() == ROOT && role.as_str() == SERVICE_ADMIN {
-        return Err(Stop::Refused(Refusal::Reserved {
+        return Err(Undone::Refused(Refusal::Reserved {
             name: text(alloc, ROOT)?,
         }));
     }
@@ -252,11 +241,11 @@ pub fn member_may_end(alloc: Global, principal: &Plain, role: &Plain) -> Result<
 
 /// The join, by the names of its roles, may end.
 #[tactic(auto, unfolding(crate::specs::AccessRules::reserved_join))]
-pub fn join_may_end(alloc: Global, role: &Plain, catalog_role: &Plain) -> Result<(), Stop>
-    ensures { Judges (reserved_join role.now catalog_role.now) (λ _. ⊤) result }
+pub fn join_may_end(alloc: Global, role: &Plain, catalog_role: &Plain) -> Result<(), Undone>
+    ensures { Tells (reserved_join role.now catalog_role.now) (λ _. ⊤) result }
 {
     if role.as_str() == SERVICE_ADMIN && catalog_role.as_str() == CATALOG_ADMIN {
-        return Err(Stop::Refused(Refusal::Reserved {
+        return Err(Undone::Refused(Refusal::Reserved {
             name: text(alloc, CATALOG_ADMIN)?,
         }));
     }
@@ -265,11 +254,11 @@ pub fn join_may_end(alloc: Global, role: &Plain, catalog_role: &Plain) -> Result
 
 /// The grant to the catalogue role of this name may be revoked.
 #[tactic(auto, unfolding(crate::specs::AccessRules::reserved_grant))]
-pub fn grant_may_end(alloc: Global, role: &Plain, grant: &Grant) -> Result<(), Stop>
-    ensures { Judges (reserved_grant role.now grant.now) (λ _. ⊤) result }
+pub fn grant_may_end(alloc: Global, role: &Plain, grant: &Grant) -> Result<(), Undone>
+    ensures { Tells (reserved_grant role.now grant.now) (λ _. ⊤) result }
 {
     if role.as_str() == CATALOG_ADMIN && is_first(grant) {
-        return Err(Stop::Refused(Refusal::Reserved {
+        return Err(Undone::Refused(Refusal::Reserved {
             name: text(alloc, CATALOG_ADMIN)?,
         }));
     }

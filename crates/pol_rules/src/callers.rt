@@ -6,9 +6,9 @@ ghost use Rattle.pol_state.specs.Sound.{IsSound};
 ghost use Rattle.pol_tables.specs.Table.{knows};
 ghost use Rattle.pol_rules.specs.Rules.{client_of, invalid_client, is_signed_in, session_of, unauthenticated};
 
-use crate::rules::time_of;
+use crate::rules::{Asked, time_of};
 use pol_access::PrincipalRow;
-use pol_commands::{Caller, Command, Refusal};
+use pol_commands::{Caller, Refusal};
 use pol_state::State;
 use pol_state::texts::digest;
 use pol_tokens::SessionRow;
@@ -16,10 +16,10 @@ use pol_tokens::SessionRow;
 /// The caller may ask: it is the bearer of an unexpired session's text, whose principal is there, or it sets the
 /// catalogue up.
 #[tactic(auto, unfolding(crate::specs::Rules::unauthenticated))]
-pub fn signed_in(state: &State, command: &Command) -> Result<(), Refusal>
-    ensures { Sees (unauthenticated state.now.rows command.now) (λ _. ⊤) result }
+pub fn signed_in(asked: &Asked<'_>) -> Result<(), Refusal>
+    ensures { Sees (unauthenticated asked.now.state.now.rows asked.now.command.now) (λ _. ⊤) result }
 {
-    if !is_signed_in(state, time_of(state, command), &command.caller) {
+    if !is_signed_in(asked.state, time_of(asked), &asked.command.caller) {
         return Err(Refusal::Unauthenticated);
     }
     Ok(())
@@ -58,14 +58,14 @@ fn is_principal(state: &State, id: u64) -> bool
 /// The principal of the client id, whose secret this is.
 #[tactic(auto, unfolding(crate::specs::Rules::client_of, crate::specs::Rules::invalid_client))]
 pub fn client_there<'a>(
-    state: &'a State,
+    asked: &Asked<'a>,
     client_id: &str,
     secret: &str,
 ) -> Result<&'a PrincipalRow, Refusal>
-    requires { IsSound state.now.rows }
-    ensures { Sees (invalid_client state.now.rows client_id.now secret.now) (λ principal. client_of state.now.rows client_id.now secret.now ≡ Some principal.now) result }
+    requires { IsSound asked.now.state.now.rows }
+    ensures { let s = asked.now.state.now.rows in Sees (invalid_client s client_id.now secret.now) (λ principal. client_of s client_id.now secret.now ≡ Some principal.now) result }
 {
-    let Some(principal) = state.access().principal_of_client(client_id) else {
+    let Some(principal) = asked.state.access().principal_of_client(client_id) else {
         return Err(Refusal::InvalidClient);
     };
     if principal.digest != digest(secret) {

@@ -4,11 +4,11 @@ ghost use Rattle.pol_access.specs.Names.{principal_role_named};
 ghost use Rattle.pol_content.specs.Content.{catalog_id, catalog_named};
 ghost use Rattle.pol_tables.specs.Table.{row_of};
 ghost use Rattle.pol_locations.specs.Location.{segments_of};
-ghost use Rattle.pol_rules.specs.Judged.{Judges, Sees};
+ghost use Rattle.pol_rules.specs.Judged.{Judges, Sees, Tells};
 ghost use Rattle.pol_rules.specs.Rules.{bad_text, bad_texts, catalog_holds, catalog_taken, no_catalogue, unsupported_type};
 ghost use Rattle.pol_state.specs.Sound.{IsSound};
 
-use crate::rules::Stop;
+use crate::rules::{Asked, Undone};
 use pol_access::PrincipalRoleRow;
 use pol_commands::{OptionName, Refusal};
 use pol_content::CatalogRow;
@@ -23,16 +23,12 @@ pub const CATALOG_ADMIN: &str = "catalog_admin";
 
 /// The catalogue of the name.
 #[tactic(auto, unfolding(crate::specs::Rules::no_catalogue))]
-pub fn catalog_there<'a>(
-    alloc: Global,
-    state: &'a State,
-    name: &Plain,
-) -> Result<&'a CatalogRow, Stop>
-    requires { IsSound state.now.rows }
-    ensures { Judges (no_catalogue state.now.rows name.now) (λ row. (catalog_named name.now state.now.rows.content ≡ Some row.now) × (row_of catalog_id row.now.id state.now.rows.content.catalogs ≡ Some row.now)) result }
+pub fn catalog_there<'a>(asked: &Asked<'a>, name: &Plain) -> Result<&'a CatalogRow, Undone>
+    requires { IsSound asked.now.state.now.rows }
+    ensures { let s = asked.now.state.now.rows in Tells (no_catalogue s name.now) (λ row. (catalog_named name.now s.content ≡ Some row.now) × (row_of catalog_id row.now.id s.content.catalogs ≡ Some row.now)) result }
 {
-    let Some(row) = state.content().catalogue(name) else {
-        return Err(Stop::Refused(Refusal::NoCatalogue {
+    let Some(row) = asked.state.content().catalogue(name) else {
+        return Err(Undone::Refused(Refusal::NoCatalogue {
             name: name.clone()?,
         }));
     };
@@ -41,13 +37,13 @@ pub fn catalog_there<'a>(
 
 /// No catalogue has the name.
 #[tactic(auto, unfolding(crate::specs::Rules::catalog_taken))]
-pub fn catalog_free(alloc: Global, state: &State, name: &Plain) -> Result<(), Stop>
-    requires { IsSound state.now.rows }
-    ensures { Judges (catalog_taken state.now.rows name.now) (λ _. ⊤) result }
+pub fn catalog_free(asked: &Asked<'_>, name: &Plain) -> Result<(), Undone>
+    requires { IsSound asked.now.state.now.rows }
+    ensures { Tells (catalog_taken asked.now.state.now.rows name.now) (λ _. ⊤) result }
 {
-    if state.content().catalogue(name).is_some() {
-        return Err(Stop::Refused(Refusal::NameTaken {
-            name: Text::from(String::from_str(alloc, name.as_str())?),
+    if asked.state.content().catalogue(name).is_some() {
+        return Err(Undone::Refused(Refusal::NameTaken {
+            name: Text::from(String::from_str(asked.alloc, name.as_str())?),
         }));
     }
     Ok(())
@@ -55,14 +51,14 @@ pub fn catalog_free(alloc: Global, state: &State, name: &Plain) -> Result<(), St
 
 /// The catalogue has no namespace, and no role beside `catalog_admin`.
 #[tactic(auto, unfolding(crate::specs::Rules::catalog_holds))]
-pub fn catalog_empty(alloc: Global, state: &State, catalog: &CatalogRow) -> Result<(), Stop>
-    ensures { Judges (catalog_holds state.now.rows catalog.now) (λ _. ⊤) result }
+pub fn catalog_empty(asked: &Asked<'_>, catalog: &CatalogRow) -> Result<(), Undone>
+    ensures { Tells (catalog_holds asked.now.state.now.rows catalog.now) (λ _. ⊤) result }
 {
-    if !state.content().catalog_is_empty(catalog.id)
-        || state.access().has_other_role(catalog.id, CATALOG_ADMIN)
-    {
-        return Err(Stop::Refused(Refusal::NotEmpty {
-            name: Text::from(String::from_str(alloc, catalog.name.as_str())?),
+    let content = asked.state.content();
+    let access = asked.state.access();
+    if !content.catalog_is_empty(catalog.id) || access.has_other_role(catalog.id, CATALOG_ADMIN) {
+        return Err(Undone::Refused(Refusal::NotEmpty {
+            name: Text::from(String::from_str(asked.alloc, catalog.name.as_str())?),
         }));
     }
     Ok(())
@@ -70,24 +66,24 @@ pub fn catalog_empty(alloc: Global, state: &State, catalog: &CatalogRow) -> Resu
 
 /// The location of a catalogue's text.
 #[tactic(auto, unfolding(crate::specs::Rules::bad_text))]
-pub fn located(alloc: Global, text: &Text) -> Result<Location, Stop>
+pub fn located(alloc: Global, text: &Text) -> Result<Location, Undone>
     ensures { Judges (bad_text text.now) (λ location. location ≡ segments_of text.now) result }
 {
     match Location::parse(alloc, text.as_str()) {
         Ok(location) => Ok(location),
-        Err(LocationRefused::OutOfMemory) => Err(Stop::OutOfMemory),
+        Err(LocationRefused::OutOfMemory) => Err(Undone::OutOfMemory),
         Err(
             why @ (LocationRefused::BadScheme
             | LocationRefused::EmptySegment
             | LocationRefused::DotSegment
             | LocationRefused::ControlByte
             | LocationRefused::TooLong),
-        ) => Err(Stop::Refused(Refusal::BadLocation { table: 0, why })),
+        ) => Err(Undone::Refused(Refusal::BadLocation { table: 0, why })),
     }
 }
 
 /// The locations of these texts.
-pub fn all_located(alloc: Global, texts: &[Text]) -> Result<Listed<Location>, Stop>
+pub fn all_located(alloc: Global, texts: &[Text]) -> Result<Listed<Location>, Undone>
     ensures { Judges (bad_texts texts.now) (λ locations. locations ≡ map segments_of texts.now) result }
 {
     let mut locations = Vec::new(alloc);

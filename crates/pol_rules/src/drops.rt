@@ -5,61 +5,57 @@ ghost use Rattle.pol_access.specs.Order.{grants_in_order, joins_in_order, member
 ghost use Rattle.pol_access.specs.Referent.{grant_names, join_names, member_names};
 ghost use Rattle.pol_content.specs.declared.change.Change.TheVariants.{DropCatalogRole, DropGrant, DropJoin, DropMember};
 
+use crate::rules::Asked;
 use pol_access::{GrantRow, JoinRow, MemberRow, Referent};
 use pol_content::Change;
-use pol_state::State;
 use pol_types::OutOfMemory;
-use std::alloc::Global;
 
 /// Pushes the drops of the roles of a catalogue, named by its id.
 pub fn push_roles(
-    alloc: Global,
-    state: &State,
+    asked: &Asked<'_>,
     catalog: u64,
     changes: &mut Vec<Change>,
 ) -> Result<(), OutOfMemory>
-    ensures { let access = state.now.rows.access in OnOk result (changes.new.items ≡ changes.old.items ++ map DropCatalogRole (map catalog_role_id (filter (λ row. row.catalog == catalog) access.catalog_roles))) }
+    ensures { let access = asked.now.state.now.rows.access in OnOk result (changes.new.items ≡ changes.old.items ++ map DropCatalogRole (map catalog_role_id (filter (λ row. row.catalog == catalog) access.catalog_roles))) }
 {
-    let ids = state.access().role_ids_of_catalog(alloc, catalog)?;
+    let access = asked.state.access();
+    let ids = access.role_ids_of_catalog(asked.alloc, catalog)?;
     push_role_drops(ids.as_slice(), changes)
 }
 
 /// Pushes the drops of the members that name it, in rising order.
 pub fn push_members(
-    alloc: Global,
-    state: &State,
+    asked: &Asked<'_>,
     referent: Referent,
     changes: &mut Vec<Change>,
 ) -> Result<(), OutOfMemory>
-    ensures { let access = state.now.rows.access in OnOk result (changes.new.items ≡ changes.old.items ++ map DropMember (members_in_order (filter (member_names referent) access.members))) }
+    ensures { let access = asked.now.state.now.rows.access in OnOk result (changes.new.items ≡ changes.old.items ++ map DropMember (members_in_order (filter (member_names referent) access.members))) }
 {
-    let rows = state.access().members_of(alloc, referent)?;
+    let rows = asked.state.access().members_of(asked.alloc, referent)?;
     push_member_drops(rows.as_slice(), changes)
 }
 
 /// Pushes the drops of the joins that name it, in rising order.
 pub fn push_joins(
-    alloc: Global,
-    state: &State,
+    asked: &Asked<'_>,
     referent: Referent,
     changes: &mut Vec<Change>,
 ) -> Result<(), OutOfMemory>
-    ensures { let access = state.now.rows.access in OnOk result (changes.new.items ≡ changes.old.items ++ map DropJoin (joins_in_order (filter (join_names access.catalog_roles referent) access.joins))) }
+    ensures { let access = asked.now.state.now.rows.access in OnOk result (changes.new.items ≡ changes.old.items ++ map DropJoin (joins_in_order (filter (join_names access.catalog_roles referent) access.joins))) }
 {
-    let rows = state.access().joins_of(alloc, referent)?;
+    let rows = asked.state.access().joins_of(asked.alloc, referent)?;
     push_join_drops(rows.as_slice(), changes)
 }
 
 /// Pushes the drops of the grants that name it, in rising order.
 pub fn push_grants(
-    alloc: Global,
-    state: &State,
+    asked: &Asked<'_>,
     referent: Referent,
     changes: &mut Vec<Change>,
 ) -> Result<(), OutOfMemory>
-    ensures { let access = state.now.rows.access in OnOk result (changes.new.items ≡ changes.old.items ++ map DropGrant (grants_in_order (filter (grant_names access.catalog_roles referent) access.grants))) }
+    ensures { let access = asked.now.state.now.rows.access in OnOk result (changes.new.items ≡ changes.old.items ++ map DropGrant (grants_in_order (filter (grant_names access.catalog_roles referent) access.grants))) }
 {
-    let rows = state.access().grants_of(alloc, referent)?;
+    let rows = asked.state.access().grants_of(asked.alloc, referent)?;
     push_grant_drops(rows.as_slice(), changes)
 }
 

@@ -2,10 +2,12 @@
 #![tactic(auto)]
 
 pub mod access_rules;
+pub mod bounds;
 pub mod callers;
 pub mod catalog_rules;
+pub mod changes;
 pub mod drops;
-pub mod made;
 pub mod namespace_rules;
 pub mod needs;
+pub mod prologues;
 pub mod rules;

@@ -5,15 +5,14 @@ ghost use Rattle.pol_rules.specs.Needs.{caller_may, first_unmet, forbidden, name
 ghost use Rattle.pol_state.specs.Sound.{IsSound};
 
 use crate::callers::session_of;
-use crate::rules::{Stop, time_of};
+use crate::rules::{Asked, Undone, time_of};
 use pol_access::{Privilege, Securable};
-use pol_commands::{Caller, Command, Refusal, SecurableName};
+use pol_commands::{Caller, Refusal, SecurableName};
 use pol_content::{CatalogRow, NamespaceRow};
 use pol_names::Namespace;
 use pol_state::State;
 use pol_tokens::SessionRow;
 use pol_types::OutOfMemory;
-use std::alloc::Global;
 
 /// A privilege that an action needs, and what it needs it on.
 #[derive(Clone, Copy, Debug)]
@@ -23,98 +22,88 @@ pub struct Need {
 }
 
 /// The caller may manage the realm.
-pub fn allowed_service(alloc: Global, state: &State, command: &Command) -> Result<(), Stop>
-    requires { IsSound state.now.rows }
-    ensures { Judges (forbidden state.now.rows command.now service) (λ _. ⊤) result }
+pub fn allowed_service(asked: &Asked<'_>) -> Result<(), Undone>
+    requires { IsSound asked.now.state.now.rows }
+    ensures { Judges (forbidden asked.now.state.now.rows asked.now.command.now service) (λ _. ⊤) result }
 {
     let need = Need {
         privilege: Privilege::ServiceManageAccess,
         on: Securable::Realm,
     };
-    allowed(alloc, state, command, &[need])
+    allowed(asked, &[need])
 }
 
 /// The caller may use the privilege on the catalogue.
 pub fn allowed_on_catalog(
-    alloc: Global,
-    state: &State,
-    command: &Command,
+    asked: &Asked<'_>,
     privilege: Privilege,
     catalog: &CatalogRow,
-) -> Result<(), Stop>
-    requires { IsSound state.now.rows }
-    ensures { Judges (forbidden state.now.rows command.now (on_catalog privilege catalog.now)) (λ _. ⊤) result }
+) -> Result<(), Undone>
+    requires { IsSound asked.now.state.now.rows }
+    ensures { Judges (forbidden asked.now.state.now.rows asked.now.command.now (on_catalog privilege catalog.now)) (λ _. ⊤) result }
 {
     let need = Need {
         privilege,
         on: Securable::Catalog(catalog.id),
     };
-    allowed(alloc, state, command, &[need])
+    allowed(asked, &[need])
 }
 
 /// The caller may use the privilege on the deepest part of a path in the catalogue that is there.
 pub fn allowed_on_path(
-    alloc: Global,
-    state: &State,
-    command: &Command,
+    asked: &Asked<'_>,
     privilege: Privilege,
     levels: &Namespace,
     catalog: &CatalogRow,
-) -> Result<(), Stop>
-    requires { IsSound state.now.rows }
-    ensures { Judges (forbidden state.now.rows command.now (on_path state.now.rows privilege levels.now catalog.now)) (λ _. ⊤) result }
+) -> Result<(), Undone>
+    requires { IsSound asked.now.state.now.rows }
+    ensures { let s = asked.now.state.now.rows in Judges (forbidden s asked.now.command.now (on_path s privilege levels.now catalog.now)) (λ _. ⊤) result }
 {
-    let on = state.content().deepest(alloc, catalog.id, levels)?;
-    allowed(alloc, state, command, &[Need { privilege, on }])
+    let content = asked.state.content();
+    let on = content.deepest(asked.alloc, catalog.id, levels)?;
+    allowed(asked, &[Need { privilege, on }])
 }
 
 /// The caller may use the privilege on the deepest part of a parent's path, where there is one, else on the catalogue.
 pub fn allowed_on_parent(
-    alloc: Global,
-    state: &State,
-    command: &Command,
+    asked: &Asked<'_>,
     privilege: Privilege,
     parent: Option<&Namespace>,
     catalog: &CatalogRow,
-) -> Result<(), Stop>
-    requires { IsSound state.now.rows }
-    ensures { Judges (forbidden state.now.rows command.now (on_parent state.now.rows privilege (option_copied parent.entry) catalog.now)) (λ _. ⊤) result }
+) -> Result<(), Undone>
+    requires { IsSound asked.now.state.now.rows }
+    ensures { let s = asked.now.state.now.rows in Judges (forbidden s asked.now.command.now (on_parent s privilege (option_copied parent.entry) catalog.now)) (λ _. ⊤) result }
 {
     match parent {
-        Some(levels) => allowed_on_path(alloc, state, command, privilege, levels, catalog),
-        None => allowed_on_catalog(alloc, state, command, privilege, catalog),
+        Some(levels) => allowed_on_path(asked, privilege, levels, catalog),
+        None => allowed_on_catalog(asked, privilege, catalog),
     }
 }
 
 /// The caller has what the action needs. The first need that isn't met is told.
 #[tactic(auto, unfolding(crate::specs::Needs::forbidden))]
-fn allowed(alloc: Global, state: &State, command: &Command, needs: &[Need]) -> Result<(), Stop>
-    requires { IsSound state.now.rows }
-    ensures { Judges (forbidden state.now.rows command.now needs.now) (λ _. ⊤) result }
+fn allowed(asked: &Asked<'_>, needs: &[Need]) -> Result<(), Undone>
+    requires { IsSound asked.now.state.now.rows }
+    ensures { Judges (forbidden asked.now.state.now.rows asked.now.command.now needs.now) (λ _. ⊤) result }
 {
-    let Some(need) = first_unmet(alloc, state, command, needs)? else {
+    let Some(need) = first_unmet(asked, needs)? else {
         return Ok(());
     };
-    Err(Stop::Refused(Refusal::Forbidden {
+    Err(Undone::Refused(Refusal::Forbidden {
         privilege: need.privilege,
-        securable: shown(alloc, state, need.on)?,
+        securable: shown(asked.state, need.on)?,
     }))
 }
 
 /// The first need that isn't met.
 #[tactic(auto, unfolding(crate::specs::Needs::first_unmet))]
-fn first_unmet(
-    alloc: Global,
-    state: &State,
-    command: &Command,
-    needs: &[Need],
-) -> Result<Option<Need>, OutOfMemory>
-    requires { IsSound state.now.rows }
-    ensures { IfOk result (λ unmet. unmet ≡ first_unmet state.now.rows command.now needs.now) }
+fn first_unmet(asked: &Asked<'_>, needs: &[Need]) -> Result<Option<Need>, OutOfMemory>
+    requires { IsSound asked.now.state.now.rows }
+    ensures { IfOk result (λ unmet. unmet ≡ first_unmet asked.now.state.now.rows asked.now.command.now needs.now) }
 {
-    let time = time_of(state, command);
+    let time = time_of(asked);
     for need in needs {
-        if !caller_may(alloc, state, time, &command.caller, need)? {
+        if !caller_may(asked, time, need)? {
             return Ok(Some(*need));
         }
     }
@@ -122,20 +111,14 @@ fn first_unmet(
 }
 
 /// Whether the caller has what it needs.
-fn caller_may(
-    alloc: Global,
-    state: &State,
-    time: u64,
-    caller: &Caller,
-    need: &Need,
-) -> Result<bool, OutOfMemory>
-    requires { IsSound state.now.rows }
-    ensures { IfOk result (λ may. may ≡ caller_may state.now.rows time caller.now need.now) }
+fn caller_may(asked: &Asked<'_>, time: u64, need: &Need) -> Result<bool, OutOfMemory>
+    requires { IsSound asked.now.state.now.rows }
+    ensures { let s = asked.now.state.now.rows in IfOk result (λ may. may ≡ caller_may s time asked.now.command.now.caller need.now) }
 {
-    match caller {
+    match &asked.command.caller {
         Caller::Nobody => Ok(false),
-        Caller::Bearer(text) => match session_of(state, time, text.as_slice()) {
-            Some(session) => session_may(alloc, state, session, need),
+        Caller::Bearer(text) => match session_of(asked.state, time, text.as_slice()) {
+            Some(session) => session_may(asked, session, need),
             None => Ok(false),
         },
         Caller::Setup => Ok(true),
@@ -143,18 +126,13 @@ fn caller_may(
 }
 
 /// Whether the session has what it needs, by its roles.
-fn session_may(
-    alloc: Global,
-    state: &State,
-    session: &SessionRow,
-    need: &Need,
-) -> Result<bool, OutOfMemory>
-    requires { IsSound state.now.rows }
-    ensures { IfOk result (λ may. may ≡ session_may state.now.rows (Some session.now) need.now) }
+fn session_may(asked: &Asked<'_>, session: &SessionRow, need: &Need) -> Result<bool, OutOfMemory>
+    requires { IsSound asked.now.state.now.rows }
+    ensures { IfOk result (λ may. may ≡ session_may asked.now.state.now.rows (Some session.now) need.now) }
 {
-    let chain = state.content().chain(alloc, need.on)?;
+    let chain = asked.state.content().chain(asked.alloc, need.on)?;
     Ok(
-        state.access().may(
+        asked.state.access().may(
             session.principal,
             &session.scope,
             need.privilege,
@@ -164,7 +142,7 @@ fn session_may(
 }
 
 /// The securable as a refusal shows it.
-fn shown(alloc: Global, state: &State, securable: Securable) -> Result<SecurableName, OutOfMemory>
+fn shown(state: &State, securable: Securable) -> Result<SecurableName, OutOfMemory>
     ensures { IfOk result (λ name. name ≡ shown state.now.rows securable) }
 {
     match securable {

@@ -1,9 +1,10 @@
 ghost use Rattle.std.specs.Prelude.{◌≡◌, ◌+◌, ◌<◌, ◌≤◌, ◌^◌, []};
 ghost use Rattle.std.specs.Bool.{⊤};
 ghost use Rattle.pol_rules.specs.Judged.{Sees};
-ghost use Rattle.pol_rules.specs.Rules.{above, over_limit, run_full, time_of, with_serial};
+ghost use Rattle.pol_state.specs.Bounds.{above};
+ghost use Rattle.pol_rules.specs.Rules.{run_full, time_of};
 ghost use Rattle.pol_state.specs.Sound.{IsSound};
-ghost use Rattle.pol_rules.specs.declared.rules.Stop.TheVariants.{OutOfMemory as Unallocated, Refused as IsRefused};
+ghost use Rattle.pol_rules.specs.declared.rules.Undone.TheVariants.{OutOfMemory as Unallocated, Refused as IsRefused};
 
 use pol_commands::{Answer, Command, Quantity, Refusal};
 use pol_content::Change;
@@ -14,54 +15,50 @@ use std::alloc::{AllocError, AllocFailed, Global};
 /// What the charges of one run come to at most.
 const RUN_BOUND: u64 = 1 << 30;
 
-/// What the next id and the next serial come to at most.
-pub const COUNTER_BOUND: u64 = 1 << 62;
-
-/// How many roles the catalogues have at most, taken together.
-pub const CATALOG_ROLES: u64 = 10_000;
-
-/// How many joins there are at most.
-pub const JOINS: u64 = 100_000;
-
-/// How many grants there are at most.
-pub const GRANTS: u64 = 100_000;
+/// A command, the state that it is judged and done in, and the allocator that its answer takes memory from.
+#[derive(Clone, Copy)]
+pub struct Asked<'a> {
+    pub alloc: Global,
+    pub state: &'a State,
+    pub command: &'a Command,
+}
 
 /// Why a command isn't done.
 #[derive(Debug, Drop)]
-pub enum Stop {
+pub enum Undone {
     Refused(Refusal),
     OutOfMemory,
 }
 
-impl From<Refusal> for Stop {
-    ghost from_gives = { λ why stop. stop ≡ IsRefused why };
+impl From<Refusal> for Undone {
+    ghost from_gives = { λ why undone. undone ≡ IsRefused why };
 
     fn from(why: Refusal) -> Self {
-        Stop::Refused(why)
+        Undone::Refused(why)
     }
 }
 
-impl From<OutOfMemory> for Stop {
-    ghost from_gives = { λ _ stop. stop ≡ Unallocated };
+impl From<OutOfMemory> for Undone {
+    ghost from_gives = { λ _ undone. undone ≡ Unallocated };
 
     fn from(_error: OutOfMemory) -> Self {
-        Stop::OutOfMemory
+        Undone::OutOfMemory
     }
 }
 
-impl From<AllocError> for Stop {
-    ghost from_gives = { λ _ stop. stop ≡ Unallocated };
+impl From<AllocError> for Undone {
+    ghost from_gives = { λ _ undone. undone ≡ Unallocated };
 
     fn from(_error: AllocError) -> Self {
-        Stop::OutOfMemory
+        Undone::OutOfMemory
     }
 }
 
-impl<T: Drop> From<AllocFailed<T>> for Stop {
-    ghost from_gives = { λ _ stop. stop ≡ Unallocated };
+impl<T: Drop> From<AllocFailed<T>> for Undone {
+    ghost from_gives = { λ _ undone. undone ≡ Unallocated };
 
     fn from(_error: AllocFailed<T>) -> Self {
-        Stop::OutOfMemory
+        Undone::OutOfMemory
     }
 }
 
@@ -86,10 +83,10 @@ pub fn run_open(state: &State, charge: u64) -> Result<(), Refusal>
 }
 
 /// The time of a command: the greater of the state's and its moment.
-pub fn time_of(state: &State, command: &Command) -> u64
-    ensures { result ≡ time_of state.now.rows command.now }
+pub fn time_of(asked: &Asked<'_>) -> u64
+    ensures { result ≡ time_of asked.now.state.now.rows asked.now.command.now }
 {
-    state.time().max(command.moment)
+    asked.state.time().max(asked.command.moment)
 }
 
 /// What an action that changes nothing comes to.
@@ -111,15 +108,4 @@ pub fn within(quantity: Quantity, bound: u64, number: u64) -> Result<(), Refusal
         return Err(Refusal::Limit { quantity, bound });
     }
     Ok(())
-}
-
-/// The serial of the next session or token, which leaves a next one within the bound.
-#[tactic(auto, using(crate::proofs::LimitsLemmas::serial_limits))]
-pub fn serial_left(state: &State) -> Result<u64, Refusal>
-    requires { IsSound state.now.rows }
-    ensures { Sees (over_limit (with_serial (state.now.rows.next_serial + 1) state.now.rows)) (λ serial. (serial ≡ state.now.rows.next_serial) × (serial < 2 ^ 62)) result }
-{
-    let serial = state.next_serial();
-    within(Quantity::NextSerial, COUNTER_BOUND, serial + 1)?;
-    Ok(serial)
 }

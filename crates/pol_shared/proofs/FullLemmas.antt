@@ -1,10 +1,11 @@
 -- A reply tells a full run exactly where the charges come to more than the bound of a run.
 use Rattle.std.proofs.Common.{◌≡◌, ◌≢◌, ℕ, ◌+◌, ◌<◌, ◌≤◌, ◌^◌, ◌∷◌, None, Some, is_some, ap, sym, ◌∙◌, inl, inr, true≢false}
 use Rattle.std.proofs.lemmas.Bool.{cases_lt, le-ltb, lt-ltb}
-use Rattle.pol_machine.specs.Machine.{acting, reply_by, reply_of}
+use Rattle.pol_machine.specs.Machine.{acting, reply_by, reply_of, rules_within}
 use Rattle.pol_commands.specs.Reply.{is_run_full}
 use Rattle.pol_state.specs.Rows.{Rows}
-use Rattle.pol_rules.specs.Rules.{first_refusal, refuse_if, run_full}
+use Rattle.pol_state.specs.Bounds.{first_refusal, refuse_if}
+use Rattle.pol_rules.specs.Rules.{run_full}
 use Rattle.pol_commands.specs.declared.command.Command.{Command}
 use Rattle.pol_commands.specs.declared.reply.Refusal.{Refusal}
 use Rattle.pol_commands.specs.declared.reply.Refusal.TheVariants.{RunFull}
@@ -33,7 +34,7 @@ module _ (s : Rows) (command : Command) where
   pub full-told : 2 ^ 30 < s.charged + command.charge → reply_of s command ≡ Refused (RunFull s.charged command.charge)
   unfolding reply_of
   full-told above =
-      ap (λ full. reply_by (first_refusal (full ∷ (acting s command command.action).rules)) (acting s command command.action).answer) (full-above s command.charge above)
+      ap (λ full. reply_by (first_refusal (full ∷ rules_within (acting s command command.action))) (acting s command command.action).answer) (full-above s command.charge above)
 
   pub reply-full : (charged charge : ℕ) → reply_of s command ≡ Refused (RunFull charged charge) → IsFullRun s command charged charge
   reply-full charged charge is = elim (cases_lt (2 ^ 30) (s.charged + command.charge)) [

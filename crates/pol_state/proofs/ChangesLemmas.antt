@@ -86,4 +86,4 @@ changes-timed s time charged = made-in_place s (timed s time charged) none refl 
 -- each serial is below the next one
 pub serials-below : (s : Rows) → IsSound s → KeysBelow serial_of s.next_serial s.tokens.sessions
 serials-below s sound =
-    each-weaken (IsSessionOf s.next_id s.next_serial) (λ row. serial_of row < s.next_serial) s.tokens.sessions (λ row known. known.below) sound.tokens.sessions
+    each-weaken (IsSessionOf s.next_id s.next_serial) (λ row. serial_of row < s.next_serial) s.tokens.sessions (λ row known. known.below) sound.orderly.tokens.sessions

@@ -13,8 +13,9 @@ use Rattle.pol_tables.proofs.SameLemmas.{same-refl}
 use Rattle.pol_tables.proofs.TableLemmas.{rows_with-new}
 use Rattle.pol_content.specs.Content.{ContentRows}
 use Rattle.pol_tokens.specs.Tokens.{TokenRows}
+use Rattle.pol_state.specs.Bounds.{over_limit}
 use Rattle.pol_state.specs.Rows.{fresh_state, root_row, service_admin_row}
-use Rattle.pol_state.specs.Sound.{IsSound}
+use Rattle.pol_state.specs.Sound.{IsOrderly, IsSound}
 
 abbrev membership : MemberRow
 membership = record { principal = 1; role = 2 }
@@ -75,9 +76,9 @@ fresh-made secret access content tokens access_is content_is empty =
     λ i. record { access = access_is i; content = content_is i; tokens = record { sessions = empty i }; time = 0; next_id = 3; next_serial = 0; charged = 0 }
 
 -- it is sound
-pub fresh-sound : (secret : List ℕ) → IsSound (fresh_state secret)
+fresh-orderly : (secret : List ℕ) → IsOrderly (fresh_state secret)
 unfolding fresh_state KeysRise IsDistinct
-fresh-sound secret = record {
+fresh-orderly secret = record {
   access = record {
     principals = record { rise = (tt, tt); given = ((lit≤ tt, lit< tt), tt) };
     principal_roles = record { rise = (tt, tt); given = ((lit≤ tt, lit< tt), tt) };
@@ -88,9 +89,9 @@ fresh-sound secret = record {
     role_names_differ = (tt, tt);
     catalog_roles_known = tt;
     catalog_role_names_differ = tt;
-    members = record { differ = (tt, tt); each = (record { principal = refl; role = refl }, tt); bound = lit≤ tt };
-    joins = record { differ = tt; each = tt; bound = lit≤ tt };
-    grants = record { differ = tt; each = tt; bound = lit≤ tt };
+    members = record { differ = (tt, tt); each = (record { principal = refl; role = refl }, tt) };
+    joins = record { differ = tt; each = tt };
+    grants = record { differ = tt; each = tt };
     root_chain = record {
       root = root_row secret;
       admin = service_admin_row;
@@ -98,9 +99,6 @@ fresh-sound secret = record {
       admin_there = refl;
       member = ap (λ held. held || false) (same-refl the_row.coded membership);
     };
-    principals_bound = lit≤ tt;
-    principal_roles_bound = lit≤ tt;
-    catalog_roles_bound = lit≤ tt;
   };
   content = record {
     catalogs = record { rise = tt; given = tt };
@@ -110,15 +108,13 @@ fresh-sound secret = record {
     namespace_names_differ = tt;
     namespace_catalogs = tt;
     namespace_parents = tt;
-    catalogs_bound = lit≤ tt;
-    namespaces_bound = lit≤ tt;
-    catalogs_small = tt;
-    namespaces_small = tt;
   };
   ties = record { role_catalogs = tt; grants_within = tt; catalog_admins = tt; ids_apart = record { catalogs = tt; namespaces = tt } };
   tokens = record { sessions_rise = tt; sessions = tt };
   time_bound = lit≤ tt;
-  next_id_bound = lit≤ tt;
-  next_serial_bound = lit≤ tt;
   charged_bound = lit≤ tt;
 }
+
+pub fresh-sound : (secret : List ℕ) → IsSound (fresh_state secret)
+unfolding fresh_state over_limit
+fresh-sound secret = record { orderly = fresh-orderly secret; within = refl }

@@ -1,3 +1,4 @@
 pub mod AppliedLemmas
+pub mod BoundsLemmas
 pub mod ChangesLemmas
 pub mod FreshLemmas

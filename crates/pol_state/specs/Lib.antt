@@ -1,4 +1,5 @@
 pub mod Applied
+pub mod Bounds
 pub mod Changes
 pub mod Rows
 pub mod Sound

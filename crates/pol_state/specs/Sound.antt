@@ -1,5 +1,5 @@
 -- Sound states.
-use Rattle.std.specs.Prelude.{◌<◌, ◌≤◌, ◌^◌, ℕ}
+use Rattle.std.specs.Prelude.{◌≡◌, ◌<◌, ◌≤◌, ◌^◌, ℕ, None}
 use Rattle.std.specs.Bool.{⊤}
 use Rattle.std.specs.List.{AllByRecursion}
 pub use Rattle.pol_access.specs.Sound.{AreFacts, HasRootChain, IsCatalogRoleOf, IsGrantOf, IsJoinOf, IsMemberOf, IsSecurableGiven, IsSoundAccess}
@@ -11,6 +11,7 @@ pub use Rattle.pol_tables.specs.Numbered.{AreNumbered, IsGiven}
 use Rattle.pol_tables.specs.Rising.{KeysRise}
 use Rattle.pol_tokens.specs.Tokens.{TokenRows, serial_of}
 use Rattle.pol_tokens.specs.declared.session.SessionRow.{SessionRow}
+use Rattle.pol_state.specs.Bounds.{over_limit}
 use Rattle.pol_state.specs.Rows.{Rows}
 
 -- the ids that a scope names were given out
@@ -29,13 +30,16 @@ pub record IsSoundTokens (next_id next_serial : ℕ) (tokens : TokenRows) : Type
   pub sessions_rise : KeysRise serial_of tokens.sessions
   pub sessions : AllByRecursion (IsSessionOf next_id next_serial) tokens.sessions
 
--- a sound state
-pub record IsSound (s : Rows) : Type 0 where
+-- all that holds of a sound state but its bounds
+pub record IsOrderly (s : Rows) : Type 0 where
   pub access : IsSoundAccess s.next_id s.access
   pub content : IsSoundContent s.next_id s.content
   pub ties : AreTied s.access s.content
   pub tokens : IsSoundTokens s.next_id s.next_serial s.tokens
   pub time_bound : s.time ≤ 2 ^ 62
-  pub next_id_bound : s.next_id ≤ 2 ^ 62
-  pub next_serial_bound : s.next_serial ≤ 2 ^ 62
   pub charged_bound : s.charged ≤ 2 ^ 30
+
+-- a sound state: it is orderly, and no quantity is above its bound
+pub record IsSound (s : Rows) : Type 0 where
+  pub orderly : IsOrderly s
+  pub within : over_limit s ≡ None

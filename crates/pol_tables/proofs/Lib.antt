@@ -1,4 +1,5 @@
 pub mod ChangesLemmas
+pub mod CountLemmas
 pub mod FactChangesLemmas
 pub mod FactsLemmas
 mod IndexLemmas

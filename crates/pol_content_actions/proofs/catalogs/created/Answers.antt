@@ -1,14 +1,13 @@
 use Rattle.std.proofs.Common.{[], ◌∷◌, ◌+◌, sym, ◌∙◌}
 use Rattle.pol_content.specs.declared.change.Change.TheVariants.{Time, NextId, PutCatalog, PutCatalogRole, PutGrant, PutJoin}
 use Rattle.pol_rules.specs.Rules.{time_of}
-use Rattle.pol_content_actions.proofs.ChangesLemmas.{changes-with_catalog}
-use Rattle.pol_content_actions.proofs.LimitsLemmas.{admin-last}
+use Rattle.pol_content_actions.proofs.ChangesLemmas.{admin-last, changes-with_catalog}
 use Rattle.pol_content_actions.proofs.catalogs.created.Goals as goal
 
 pub returns-clause-changes : goal.returns-clause-changes
 returns-clause-changes c =
-    let s = c.args.state.now.rows in
-    let command = c.args.command.now in
+    let s = c.args.asked.now.state.now.rows in
+    let command = c.args.asked.now.command.now in
     let admin = admin-last s c.requires.sound c.args.row.id c.args.service.now.id c.requires.id in
     c.from.ensures
     ∙ c.in_ok-vec.ensures.items

@@ -10,8 +10,8 @@ use Rattle.pol_content_actions.proofs.catalogs.dropped.Goals as goal
 
 pub returns-clause-changes : goal.returns-clause-changes
 returns-clause-changes c =
-    let s = c.args.state.now.rows in
-    let command = c.args.command.now in
+    let s = c.args.asked.now.state.now.rows in
+    let command = c.args.asked.now.command.now in
     let named = referent.RoleOfCatalog c.args.row.now.id in
     let roles = map DropCatalogRole (map catalog_role_id (filter (λ role. role.catalog == c.args.row.now.id) s.access.catalog_roles)) in
     let joins = map DropJoin (joins_in_order (filter (join_names s.access.catalog_roles named) s.access.joins)) in

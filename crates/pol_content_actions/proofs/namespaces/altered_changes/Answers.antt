@@ -13,16 +13,16 @@ use Rattle.pol_content_actions.proofs.namespaces.altered_changes.Goals as goal
 
 pub returns-then-eq : goal.returns-then-eq
 returns-then-eq c =
-    let s = c.args.state.now.rows in
-    let command = c.args.command.now in
+    let s = c.args.asked.now.state.now.rows in
+    let command = c.args.asked.now.command.now in
     let is : c.args.altered ≡ c.args.row.now = namespace_rows_exact c.args.altered c.args.row.now (sym c.eq.ensures ∙ c.if-eq.true) in
     let there : row_of namespace_id c.args.altered.id s.content.namespaces ≡ Some c.args.altered = subst (λ (row : NamespaceRow). row_of namespace_id row.id s.content.namespaces ≡ Some row) (sym is) c.requires.there in
     c.from.ensures ∙ c.new.ensures.items ∙ sym (changes-unaltered s c.requires.sound (time_of s command) (s.charged + command.charge) c.args.altered there)
 
 pub returns : goal.returns
 returns c =
-    let s = c.args.state.now.rows in
-    let command = c.args.command.now in
+    let s = c.args.asked.now.state.now.rows in
+    let command = c.args.asked.now.command.now in
     let there : row_of namespace_id c.args.altered.id s.content.namespaces ≡ Some c.args.row.now = ap (λ id. row_of namespace_id id s.content.namespaces) c.requires.id ∙ c.requires.there in
     let other = same-differ the_row.coded c.args.altered c.args.row.now (λ is. true≢false (sym (namespace_rows_same c.args.altered c.args.row.now is) ∙ sym c.eq.ensures ∙ c.if-eq.false)) in
     c.from-2.ensures

@@ -6,8 +6,8 @@ use Rattle.pol_content_actions.proofs.namespaces.created.Goals as goal
 
 pub returns-clause-changes : goal.returns-clause-changes
 returns-clause-changes c =
-    let s = c.args.state.now.rows in
-    let command = c.args.command.now in
+    let s = c.args.asked.now.state.now.rows in
+    let command = c.args.asked.now.command.now in
     let levels_are : c.in_ok-clone.field-0 ≡ c.args.levels.now = search rules in
     let properties_are : c.in_ok-clone-2.field-0 ≡ c.args.properties.now = search rules in
     c.from.ensures

@@ -10,8 +10,8 @@ use Rattle.pol_content_actions.proofs.namespaces.dropped.Goals as goal
 
 pub returns-clause-changes : goal.returns-clause-changes
 returns-clause-changes c =
-    let s = c.args.state.now.rows in
-    let command = c.args.command.now in
+    let s = c.args.asked.now.state.now.rows in
+    let command = c.args.asked.now.command.now in
     let grants = map DropGrant (grants_in_order (filter (grant_names s.access.catalog_roles (referent.Securable (securable.Namespace c.args.row.now.id))) s.access.grants)) in
     c.from.ensures
     ∙ c.in_ok-push_grants.ensures

@@ -6,10 +6,10 @@ use Rattle.pol_content_actions.proofs.scopes.scopes_there.Goals as goal
 
 pub returns-then-not-are_scopes : goal.returns-then-not-are_scopes
 returns-then-not-are_scopes c =
-    let refused : list_all (is_scope c.args.state.now.rows.access c.args.principal) c.args.scopes.now ≡ false = cc in
-    scopes-refused c.args.state.now.rows c.args.principal c.args.scopes.now refused
+    let refused : list_all (is_scope c.args.asked.now.state.now.rows.access c.args.principal) c.args.scopes.now ≡ false = cc in
+    scopes-refused c.args.asked.now.state.now.rows c.args.principal c.args.scopes.now refused
 
 pub returns : goal.returns
 returns c =
-    let passed : list_all (is_scope c.args.state.now.rows.access c.args.principal) c.args.scopes.now ≡ true = cc in
-    (scopes-passed c.args.state.now.rows c.args.principal c.args.scopes.now passed, tt)
+    let passed : list_all (is_scope c.args.asked.now.state.now.rows.access c.args.principal) c.args.scopes.now ≡ true = cc in
+    (scopes-passed c.args.asked.now.state.now.rows c.args.principal c.args.scopes.now passed, tt)

@@ -25,7 +25,7 @@ past_end = record { catalog_role = 0; privilege = NamespaceCreate; securable = R
 
 pub loop-row-preserved : goal.loop-row-preserved
 loop-row-preserved c =
-    let give = named_grant c.args.state.now.rows in
+    let give = named_grant c.args.asked.now.state.now.rows in
     let place = c.loop-row.row-index in
     c.in_ok-push_named.ensures
     ∙ ap (λ items. items ++ option_to_list (give (get_or c.args.rows.now place past_end))) c.loop-row.invariant

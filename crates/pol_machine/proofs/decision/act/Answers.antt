@@ -6,12 +6,8 @@ use Rattle.pol_machine.proofs.decision.act.Goals as goal
 
 pub returns-in-CreateCatalog : goal.returns-in-CreateCatalog
 returns-in-CreateCatalog c =
-    let s = c.args.state.now.rows in
-    let command = c.args.command.now in
-    subst (λ (action : Action). Acts s command (acting s command action).rules (acting s command action).after (acting s command action).answer c.create_catalog.result) (sym c.in-CreateCatalog.is) c.create_catalog.ensures
+    subst (λ (action : Action). Acts c.args.asked.now (λ s command. acting s command action) c.create_catalog.result) (sym c.in-CreateCatalog.is) c.create_catalog.ensures
 
 pub returns-in-ListJoins : goal.returns-in-ListJoins
 returns-in-ListJoins c =
-    let s = c.args.state.now.rows in
-    let command = c.args.command.now in
-    subst (λ (action : Action). Acts s command (acting s command action).rules (acting s command action).after (acting s command action).answer c.list_joins.result) (sym c.in-ListJoins.is) c.list_joins.ensures
+    subst (λ (action : Action). Acts c.args.asked.now (λ s command. acting s command action) c.list_joins.result) (sym c.in-ListJoins.is) c.list_joins.ensures

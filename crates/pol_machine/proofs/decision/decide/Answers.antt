@@ -1,10 +1,10 @@
-use Rattle.std.proofs.Common.{◌≡◌, None, Some, ap, sym, ◌∙◌}
+use Rattle.std.proofs.Common.{◌≡◌, None, Some, Ok, Err, ap, sym, ◌∙◌}
+use Rattle.pol_state.specs.Bounds.{first_refusal}
 use Rattle.pol_state.specs.Changes.{changes_between}
 use Rattle.pol_commands.specs.declared.reply.Reply.TheVariants.{Answered}
-use Rattle.pol_rules.specs.Rules.{first_refusal}
-use Rattle.pol_rules.proofs.RulesLemmas.{refusal-past, refusal-stops}
+use Rattle.pol_rules.proofs.RulesLemmas.{refusal-stops}
 use Rattle.pol_machine.specs.Machine.{rules_of}
-use Rattle.pol_machine.proofs.DecisionLemmas.{changes-refused, next-answered, reply-answered, reply-refused}
+use Rattle.pol_machine.proofs.DecisionLemmas.{bounds-judged, changes-refused, first-of, next-answered, reply-answered, reply-refused}
 use Rattle.pol_machine.proofs.decision.decide.Goals as goal
 
 pub returns-in-Err-clause-reply : goal.returns-in-Err-clause-reply
@@ -15,26 +15,46 @@ pub returns-in-Err-clause-changes : goal.returns-in-Err-clause-changes
 returns-in-Err-clause-changes c =
     c.refused.ensures.changes ∙ sym (changes-refused c.args.state.now.rows c.args.command.now c.in-Err.why (refusal-stops _ c.in-Err.why _ c.in-Err.ensures))
 
-pub returns-in-Ok-clause-reply : goal.returns-in-Ok-clause-reply
-returns-in-Ok-clause-reply c =
+pub returns-in-Ok-within_bounds-clause-reply : goal.returns-in-Ok-within_bounds-clause-reply
+returns-in-Ok-within_bounds-clause-reply c =
     let s = c.args.state.now.rows in
     let command = c.args.command.now in
-    let passed : first_refusal (rules_of s command) ≡ None = refusal-past _ _ None c.in_default.ensures.0 c.in-Ok.ensures.0 in
+    let within = bounds-judged s command _ (Ok tt) c.requires.sound c.requires.moment c.in_default.ensures.0 c.in-Ok.ensures.0 c.in-Ok.ensures.2 c.in-Ok-within_bounds.ensures in
+    let passed : first_refusal (rules_of s command) ≡ None = first-of s command None c.in_default.ensures.0 c.in-Ok.ensures.0 ∙ within.0 in
     ap Answered c.in-Ok.ensures.1 ∙ sym (reply-answered s command passed)
 
-pub returns-in-Ok-clause-changes : goal.returns-in-Ok-clause-changes
-returns-in-Ok-clause-changes c =
+pub returns-in-Ok-within_bounds-clause-changes : goal.returns-in-Ok-within_bounds-clause-changes
+returns-in-Ok-within_bounds-clause-changes c =
     let s = c.args.state.now.rows in
     let command = c.args.command.now in
-    let passed : first_refusal (rules_of s command) ≡ None = refusal-past _ _ None c.in_default.ensures.0 c.in-Ok.ensures.0 in
+    let within = bounds-judged s command _ (Ok tt) c.requires.sound c.requires.moment c.in_default.ensures.0 c.in-Ok.ensures.0 c.in-Ok.ensures.2 c.in-Ok-within_bounds.ensures in
+    let passed : first_refusal (rules_of s command) ≡ None = first-of s command None c.in_default.ensures.0 c.in-Ok.ensures.0 ∙ within.0 in
     c.in-Ok.ensures.2 ∙ ap (changes_between s) (sym (next-answered s command passed))
+
+pub returns-in-Err-within_bounds-clause-reply : goal.returns-in-Err-within_bounds-clause-reply
+returns-in-Err-within_bounds-clause-reply c =
+    let s = c.args.state.now.rows in
+    let command = c.args.command.now in
+    let why = c.in-Err-within_bounds.why in
+    let above = bounds-judged s command _ (Err why) c.requires.sound c.requires.moment c.in_default.ensures.0 c.in-Ok.ensures.0 c.in-Ok.ensures.2 c.in-Err-within_bounds.ensures in
+    let fails : first_refusal (rules_of s command) ≡ Some why = first-of s command None c.in_default.ensures.0 c.in-Ok.ensures.0 ∙ above in
+    c.refused-in-Err-within_bounds.ensures.reply ∙ sym (reply-refused s command why fails)
+
+pub returns-in-Err-within_bounds-clause-changes : goal.returns-in-Err-within_bounds-clause-changes
+returns-in-Err-within_bounds-clause-changes c =
+    let s = c.args.state.now.rows in
+    let command = c.args.command.now in
+    let why = c.in-Err-within_bounds.why in
+    let above = bounds-judged s command _ (Err why) c.requires.sound c.requires.moment c.in_default.ensures.0 c.in-Ok.ensures.0 c.in-Ok.ensures.2 c.in-Err-within_bounds.ensures in
+    let fails : first_refusal (rules_of s command) ≡ Some why = first-of s command None c.in_default.ensures.0 c.in-Ok.ensures.0 ∙ above in
+    c.refused-in-Err-within_bounds.ensures.changes ∙ sym (changes-refused s command why fails)
 
 pub returns-in-Err-Refused-clause-reply : goal.returns-in-Err-Refused-clause-reply
 returns-in-Err-Refused-clause-reply c =
     let s = c.args.state.now.rows in
     let command = c.args.command.now in
     let refused = rw c.in-Err-Refused.field-0-is at c.in-Err-Refused.ensures in
-    let fails : first_refusal (rules_of s command) ≡ Some c.in-Err-Refused.why = refusal-past _ _ (Some c.in-Err-Refused.why) c.in_default.ensures.0 refused in
+    let fails : first_refusal (rules_of s command) ≡ Some c.in-Err-Refused.why = first-of s command (Some c.in-Err-Refused.why) c.in_default.ensures.0 refused in
     c.refused-in-Err-Refused.ensures.reply ∙ sym (reply-refused s command c.in-Err-Refused.why fails)
 
 pub returns-in-Err-Refused-clause-changes : goal.returns-in-Err-Refused-clause-changes
@@ -42,5 +62,5 @@ returns-in-Err-Refused-clause-changes c =
     let s = c.args.state.now.rows in
     let command = c.args.command.now in
     let refused = rw c.in-Err-Refused.field-0-is at c.in-Err-Refused.ensures in
-    let fails : first_refusal (rules_of s command) ≡ Some c.in-Err-Refused.why = refusal-past _ _ (Some c.in-Err-Refused.why) c.in_default.ensures.0 refused in
+    let fails : first_refusal (rules_of s command) ≡ Some c.in-Err-Refused.why = first-of s command (Some c.in-Err-Refused.why) c.in_default.ensures.0 refused in
     c.refused-in-Err-Refused.ensures.changes ∙ sym (changes-refused s command c.in-Err-Refused.why fails)

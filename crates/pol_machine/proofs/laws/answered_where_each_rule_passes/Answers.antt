@@ -1,7 +1,7 @@
 use Rattle.std.proofs.Common.{ap}
 use Rattle.pol_machine.specs.Machine.{acting, reply_by, reply_of, rules_of}
 use Rattle.pol_machine.proofs.DecisionLemmas.{answered-none}
-use Rattle.pol_rules.proofs.RulesLemmas.{refusal-none, EachPasses-none}
+use Rattle.pol_state.proofs.BoundsLemmas.{refusal-none, EachPasses-none}
 use Rattle.pol_machine.proofs.laws.answered_where_each_rule_passes.Goals as goal
 
 pub returns : goal.returns

@@ -8,9 +8,9 @@ use Rattle.pol_principal_actions.proofs.principals.dropped.Goals as goal
 
 pub returns-clause-changes : goal.returns-clause-changes
 returns-clause-changes c =
-    let s = c.args.state.now.rows in
+    let s = c.args.asked.now.state.now.rows in
     let named = referent.Principal c.args.row.now.id in
     let members = map DropMember (members_in_order (filter (member_names named) s.access.members)) in
     c.from.ensures
     ∙ c.in_ok-push_members.ensures ∙ ap (λ items. items ++ members) (c.in_ok-changes.ensures.items ∙ (λ i. Time (c.time_of.ensures i) ∷ DropPrincipal c.args.row.now.id ∷ []))
-    ∙ sym (dropped_principal_changes s c.args.command.now c.requires.sound c.args.row.now c.requires.there)
+    ∙ sym (dropped_principal_changes s c.args.asked.now.command.now c.requires.sound c.args.row.now c.requires.there)

@@ -5,21 +5,21 @@ use Rattle.pol_rules.proofs.needs.first_unmet.Goals as goal
 
 pub loop-need-init : goal.loop-need-init
 loop-need-init c =
-    let s = c.args.state.now.rows in
-    let command = c.args.command.now in
+    let s = c.args.asked.now.state.now.rows in
+    let command = c.args.asked.now.command.now in
     ap (λ time. find (is_unmet s time command.caller) c.args.needs.now) c.time_of-time.ensures ∙ first_is s command c.args.needs.now
 
 pub returns-then-not-branch : goal.returns-then-not-branch
 returns-then-not-branch c =
-    at_unmet c.args.state.now.rows c.time_of-time.result c.args.command.now.caller c.args.needs.now c.loop-need.need-index _ c.loop-need-test.true (sym c.in_ok-caller_may.ensures ∙ c.if-not-branch.true)
+    at_unmet c.args.asked.now.state.now.rows c.time_of-time.result c.args.asked.now.command.now.caller c.args.needs.now c.loop-need.need-index _ c.loop-need-test.true (sym c.in_ok-caller_may.ensures ∙ c.if-not-branch.true)
     ∙ c.loop-need.invariant
 
 pub loop-need-preserved : goal.loop-need-preserved
 loop-need-preserved c =
-    past_met c.args.state.now.rows c.time_of-time.result c.args.command.now.caller c.args.needs.now c.loop-need.need-index _ c.loop-need-test.true (sym c.in_ok-caller_may.ensures ∙ c.if-not-branch.false)
+    past_met c.args.asked.now.state.now.rows c.time_of-time.result c.args.asked.now.command.now.caller c.args.needs.now c.loop-need.need-index _ c.loop-need-test.true (sym c.in_ok-caller_may.ensures ∙ c.if-not-branch.false)
     ∙ c.loop-need.invariant
 
 pub returns : goal.returns
 returns c =
-    past_all c.args.state.now.rows c.time_of-time.result c.args.command.now.caller c.args.needs.now c.loop-need.need-index (omega (arith, c.loop-need-test.false))
+    past_all c.args.asked.now.state.now.rows c.time_of-time.result c.args.asked.now.command.now.caller c.args.needs.now c.loop-need.need-index (omega (arith, c.loop-need-test.false))
     ∙ c.loop-need.invariant

@@ -7,4 +7,4 @@ use Rattle.pol_rules.proofs.needs.first_unmet.Given as goal
 -- the first that is not met is the first of those that are left
 abbrev pub invariant-loop-need : goal.invariant-loop-need
 invariant-loop-need l =
-    find (is_unmet l.state.rows l.time l.command.caller) (drop l.need-index l.needs) ≡ first_unmet l.state.rows l.command l.needs
+    find (is_unmet l.asked.state.now.rows l.time l.asked.command.now.caller) (drop l.need-index l.needs) ≡ first_unmet l.asked.state.now.rows l.asked.command.now l.needs

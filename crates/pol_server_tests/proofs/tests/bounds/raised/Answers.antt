@@ -1,5 +1,9 @@
-use Rattle.std.proofs.Common.{◌≡◌, ◌≤◌, ◌^◌, ℕ, List, [], ◌∷◌, arith, ap, subst, sym, lit≤, ◌∙◌}
+use Rattle.std.proofs.Common.{◌≡◌, ◌≤◌, ◌^◌, ℕ, List, [], ◌∷◌, arith, ap, refl, subst, sym, lit≤, ◌∙◌}
+use Rattle.std.proofs.lemmas.Bool.{le-ltb}
+use Rattle.pol_commands.specs.declared.reply.Quantity.TheVariants as quantity
+use Rattle.pol_commands.specs.declared.reply.Refusal.TheVariants.{Limit}
 use Rattle.pol_state.specs.Applied.{applied, HasRoom}
+use Rattle.pol_state.specs.Bounds.{above, first_refusal, over_limit, refuse_if}
 use Rattle.pol_state.specs.Rows.{fresh_state, Room}
 use Rattle.pol_state.specs.Sound.{IsSound}
 use Rattle.pol_content.specs.declared.change.Change.{Change}
@@ -7,17 +11,23 @@ use Rattle.pol_content.specs.declared.change.Change.TheVariants.{NextSerial}
 use Rattle.pol_state.proofs.FreshLemmas.{fresh-sound}
 use Rattle.pol_server_tests.proofs.tests.bounds.raised.Goals as goal
 
+-- the fresh state with another next serial is within each bound where that is
+serial-limit : (secret : List ℕ) (serial charged : ℕ) → over_limit (applied (NextSerial serial ∷ []) 0 charged (fresh_state secret)) ≡ first_refusal (above quantity.NextSerial (2 ^ 62) serial ∷ [])
+unfolding fresh_state over_limit
+serial-limit secret serial charged = refl
+
 raised-sound : (secret : List ℕ) (serial charged : ℕ) → serial ≤ 2 ^ 62 → charged ≤ 2 ^ 30 → IsSound (applied (NextSerial serial ∷ []) 0 charged (fresh_state secret))
 unfolding fresh_state
 raised-sound secret serial charged bound within = record {
-  access = (fresh-sound secret).access;
-  content = (fresh-sound secret).content;
-  ties = (fresh-sound secret).ties;
-  tokens = record { sessions_rise = (fresh-sound secret).tokens.sessions_rise; sessions = tt };
-  time_bound = lit≤ tt;
-  next_id_bound = lit≤ tt;
-  next_serial_bound = bound;
-  charged_bound = omega (arith, within);
+  orderly = record {
+    access = (fresh-sound secret).orderly.access;
+    content = (fresh-sound secret).orderly.content;
+    ties = (fresh-sound secret).orderly.ties;
+    tokens = record { sessions_rise = (fresh-sound secret).orderly.tokens.sessions_rise; sessions = tt };
+    time_bound = lit≤ tt;
+    charged_bound = omega (arith, within);
+  };
+  within = serial-limit secret serial charged ∙ ap (λ over. first_refusal (refuse_if over (Limit quantity.NextSerial (2 ^ 62)) ∷ [])) (le-ltb (2 ^ 62) serial bound);
 }
 
 no-room : (serial : ℕ) (room : Room) → HasRoom (NextSerial serial ∷ []) room

@@ -1,0 +1,311 @@
+-- The bounds of the rows to which changes lead, judged on the changes.
+use Rattle.std.proofs.Common.{◌≡◌, ℕ, ◌+◌, ◌≤◌, ◌^◌, ◌==◌, Bool, true, false, cond, ◌||◌, nat_lt, List, [], ◌∷◌, ◌++◌, map, filter, length, Option, None, Some, is_some, refl, sym, ap, ◌∙◌, inl, inr, true≢false, arith}
+use Rattle.std.specs.List.{list_any, AllByRecursion}
+use denote.Enum.Bare.{sameb}
+use Rattle.std.specs.Option.{option_or}
+use Rattle.std.proofs.lemmas.Bool.{cases_Bool, eqb-true, le-ltb, ltb-false}
+use Rattle.std.proofs.lemmas.List.Folds.{list_any-append}
+use Rattle.pol_access.specs.Access.{catalog_role_id, principal_id, principal_role_id}
+use Rattle.pol_tables.proofs.CountLemmas.{any-changed, any-none}
+use Rattle.pol_tables.proofs.ListLemmas.{or_false}
+use Rattle.pol_tables.specs.Changes.{table_changes}
+use Rattle.pol_tables.proofs.TableLemmas.{is_some-row_of}
+use Rattle.pol_tables.specs.Table.{knows, row_of, rows_with, rows_without}
+use Rattle.pol_content.specs.Content.{catalog_id, namespace_id}
+use Rattle.pol_access.specs.Sound.{IsSoundAccess}
+use Rattle.pol_content.specs.Sound.{IsSoundContent}
+use Rattle.pol_content.specs.contracts.change.RowKind.{the_type}
+use Rattle.pol_content.specs.contracts.rows.CatalogRow as catalog
+use Rattle.pol_content.specs.contracts.rows.NamespaceRow as namespace
+use Rattle.pol_content.specs.declared.change.Change.{Change}
+use Rattle.pol_content.specs.declared.change.Change.TheVariants.{Time, NextId, NextSerial, PutCatalog, DropCatalog, PutNamespace, DropNamespace}
+use Rattle.pol_content.specs.declared.change.RowKind.{RowKind}
+use Rattle.pol_content.specs.declared.change.RowKind.TheVariants as kind
+use Rattle.pol_content.specs.declared.rows.CatalogRow.{CatalogRow}
+use Rattle.pol_content.specs.declared.rows.NamespaceRow.{NamespaceRow}
+use Rattle.pol_commands.specs.declared.reply.Quantity.{Quantity}
+use Rattle.pol_commands.specs.declared.reply.Quantity.TheVariants as quantity
+use Rattle.pol_commands.specs.declared.reply.Refusal.{Refusal}
+use Rattle.pol_commands.specs.declared.reply.Refusal.TheVariants.{Limit}
+use Rattle.pol_state.specs.Applied.{applied, changed}
+use Rattle.pol_state.specs.Bounds.{above, allowed_count, any_above, catalog_properties, first_refusal, namespace_properties, over_limit, refuse_if}
+use Rattle.pol_state.specs.Changes.{changes_between, headed, id_change, in_turn, row_changes, serial_change}
+use Rattle.pol_state.specs.Rows.{Rows}
+use Rattle.pol_state.specs.Sound.{IsOrderly, IsSound}
+use Rattle.pol_state.proofs.BoundsLemmas.{above-within, each-within}
+use Rattle.pol_rules.specs.Counted.{allowed_put, catalog_properties_put, catalogs_put, counts_after, id_set, limits_of, limits_put, namespace_properties_put, namespaces_put, number_of, serial_set}
+use Rattle.pol_rules.proofs.CountedLemmas.{count-catalogs, count-principals, count-principal_roles, count-catalog_roles, count-members, count-joins, count-grants, count-namespaces, filter-alone, of_kind, Fails, filter-quiet}
+use Rattle.pol_rules.proofs.RulesLemmas.{first-joined, refused-not}
+
+-- whether any passes a test is told by those that do
+any-filtered : {X : Type 0} (test : X → Bool) (xs : List X) → list_any test (filter test xs) ≡ list_any test xs
+any-filtered test [] = refl
+any-filtered test (x ∷ xs) = by (test x) refl (any-filtered test xs)
+  where
+    by : (b : Bool) → test x ≡ b → list_any test (filter test xs) ≡ list_any test xs → list_any test (cond b (x ∷ filter test xs) (filter test xs)) ≡ (b || list_any test xs)
+    by true is rest = ap (λ b. b || list_any test (filter test xs)) is
+    by false is rest = rest
+
+any-alone : {X : Type 0} (test : X → Bool) (xs ys : List X) → filter test xs ≡ filter test ys → list_any test xs ≡ list_any test ys
+any-alone test xs ys is = sym (any-filtered test xs) ∙ ap (list_any test) is ∙ any-filtered test ys
+
+-- a test of the catalogs that are put
+module _ (bound : ℕ) (number : CatalogRow → ℕ) where
+  abbrev catalogs_above : Change → Bool
+  catalogs_above change = nat_lt bound (number_of number (catalogs_put change))
+
+  catalogs_zero : nat_lt bound 0 ≡ false
+  catalogs_zero = le-ltb bound 0 (omega arith)
+
+  catalogs-fail : (of : RowKind) → sameb the_type of kind.Catalog ≡ false → Fails catalogs_above of
+  unfolding catalogs_put
+  catalogs-fail kind.Principal apart = (λ row. catalogs_zero, λ gone. catalogs_zero)
+  catalogs-fail kind.PrincipalRole apart = (λ row. catalogs_zero, λ gone. catalogs_zero)
+  catalogs-fail kind.Catalog apart = absurd (true≢false apart)
+  catalogs-fail kind.CatalogRole apart = (λ row. catalogs_zero, λ gone. catalogs_zero)
+  catalogs-fail kind.Namespace apart = (λ row. catalogs_zero, λ gone. catalogs_zero)
+  catalogs-fail kind.Member apart = (λ row. catalogs_zero, λ gone. catalogs_zero)
+  catalogs-fail kind.Join apart = (λ row. catalogs_zero, λ gone. catalogs_zero)
+  catalogs-fail kind.Grant apart = (λ row. catalogs_zero, λ gone. catalogs_zero)
+  catalogs-fail kind.Session apart = λ row. catalogs_zero
+
+  catalogs-alone : (s t : Rows) → filter catalogs_above (changes_between s t) ≡ filter catalogs_above (of_kind kind.Catalog (row_changes s t))
+  unfolding catalogs_put
+  catalogs-alone s t =
+      filter-alone s t catalogs_above kind.Catalog catalogs-fail (λ time. catalogs_zero) (λ id. catalogs_zero) (λ serial. catalogs_zero)
+
+  catalogs-put : (row : CatalogRow) → catalogs_above (PutCatalog row) ≡ nat_lt bound (number row)
+  unfolding catalogs_put rows_with
+  catalogs-put row = refl
+
+  catalogs-drop : (id : ℕ) → catalogs_above (DropCatalog id) ≡ false
+  unfolding catalogs_put rows_without
+  catalogs-drop id = catalogs_zero
+
+  pub any-catalogs : (s t : Rows) → list_any (λ row. nat_lt bound (number row)) s.content.catalogs ≡ false → list_any catalogs_above (changes_between s t) ≡ list_any (λ row. nat_lt bound (number row)) t.content.catalogs
+  any-catalogs s t none =
+      any-alone catalogs_above (changes_between s t) (of_kind kind.Catalog (row_changes s t)) (catalogs-alone s t)
+      ∙ any-changed catalog_id catalog.the_row.coded PutCatalog DropCatalog (λ row. nat_lt bound (number row)) catalogs_above s.content.catalogs t.content.catalogs none catalogs-put catalogs-drop
+
+-- a test of the namespaces that are put
+module _ (bound : ℕ) (number : NamespaceRow → ℕ) where
+  abbrev namespaces_above : Change → Bool
+  namespaces_above change = nat_lt bound (number_of number (namespaces_put change))
+
+  namespaces_zero : nat_lt bound 0 ≡ false
+  namespaces_zero = le-ltb bound 0 (omega arith)
+
+  namespaces-fail : (of : RowKind) → sameb the_type of kind.Namespace ≡ false → Fails namespaces_above of
+  unfolding namespaces_put
+  namespaces-fail kind.Principal apart = (λ row. namespaces_zero, λ gone. namespaces_zero)
+  namespaces-fail kind.PrincipalRole apart = (λ row. namespaces_zero, λ gone. namespaces_zero)
+  namespaces-fail kind.Catalog apart = (λ row. namespaces_zero, λ gone. namespaces_zero)
+  namespaces-fail kind.CatalogRole apart = (λ row. namespaces_zero, λ gone. namespaces_zero)
+  namespaces-fail kind.Namespace apart = absurd (true≢false apart)
+  namespaces-fail kind.Member apart = (λ row. namespaces_zero, λ gone. namespaces_zero)
+  namespaces-fail kind.Join apart = (λ row. namespaces_zero, λ gone. namespaces_zero)
+  namespaces-fail kind.Grant apart = (λ row. namespaces_zero, λ gone. namespaces_zero)
+  namespaces-fail kind.Session apart = λ row. namespaces_zero
+
+  namespaces-alone : (s t : Rows) → filter namespaces_above (changes_between s t) ≡ filter namespaces_above (of_kind kind.Namespace (row_changes s t))
+  unfolding namespaces_put
+  namespaces-alone s t =
+      filter-alone s t namespaces_above kind.Namespace namespaces-fail (λ time. namespaces_zero) (λ id. namespaces_zero) (λ serial. namespaces_zero)
+
+  namespaces-put : (row : NamespaceRow) → namespaces_above (PutNamespace row) ≡ nat_lt bound (number row)
+  unfolding namespaces_put rows_with
+  namespaces-put row = refl
+
+  namespaces-drop : (id : ℕ) → namespaces_above (DropNamespace id) ≡ false
+  unfolding namespaces_put rows_without
+  namespaces-drop id = namespaces_zero
+
+  pub any-namespaces : (s t : Rows) → list_any (λ row. nat_lt bound (number row)) s.content.namespaces ≡ false → list_any namespaces_above (changes_between s t) ≡ list_any (λ row. nat_lt bound (number row)) t.content.namespaces
+  any-namespaces s t none =
+      any-alone namespaces_above (changes_between s t) (of_kind kind.Namespace (row_changes s t)) (namespaces-alone s t)
+      ∙ any-changed namespace_id namespace.the_row.coded PutNamespace DropNamespace (λ row. nat_lt bound (number row)) namespaces_above s.content.namespaces t.content.namespaces none namespaces-put namespaces-drop
+
+-- next_ids that are set
+module _ (bound : ℕ) where
+  abbrev next_id_above : Change → Bool
+  next_id_above change = nat_lt bound (id_set change)
+
+  next_id_zero : nat_lt bound 0 ≡ false
+  next_id_zero = le-ltb bound 0 (omega arith)
+
+  next_id-fail : (of : RowKind) → Fails next_id_above of
+  unfolding id_set
+  next_id-fail kind.Principal = (λ row. next_id_zero, λ gone. next_id_zero)
+  next_id-fail kind.PrincipalRole = (λ row. next_id_zero, λ gone. next_id_zero)
+  next_id-fail kind.Catalog = (λ row. next_id_zero, λ gone. next_id_zero)
+  next_id-fail kind.CatalogRole = (λ row. next_id_zero, λ gone. next_id_zero)
+  next_id-fail kind.Namespace = (λ row. next_id_zero, λ gone. next_id_zero)
+  next_id-fail kind.Member = (λ row. next_id_zero, λ gone. next_id_zero)
+  next_id-fail kind.Join = (λ row. next_id_zero, λ gone. next_id_zero)
+  next_id-fail kind.Grant = (λ row. next_id_zero, λ gone. next_id_zero)
+  next_id-fail kind.Session = λ row. next_id_zero
+
+  next_id-quiet : (s t : Rows) → list_any next_id_above (in_turn (row_changes s t)) ≡ false
+  next_id-quiet s t = any-alone next_id_above (in_turn (row_changes s t)) [] (filter-quiet s t next_id_above next_id-fail)
+
+  id-next_id : (old new : ℕ) → nat_lt bound old ≡ false → list_any next_id_above (cond (old == new) [] (NextId new ∷ [])) ≡ nat_lt bound new
+  unfolding id_set
+  id-next_id old new none = by (old == new) refl
+    where
+      by : (b : Bool) → (old == new) ≡ b → list_any next_id_above (cond b [] (NextId new ∷ [])) ≡ nat_lt bound new
+      by true is = sym none ∙ ap (nat_lt bound) (eqb-true old new is)
+      by false is = or_false (nat_lt bound new)
+
+  serial-next_id : (old new : ℕ) → nat_lt bound old ≡ false → list_any next_id_above (cond (old == new) [] (NextSerial new ∷ [])) ≡ false
+  unfolding id_set
+  serial-next_id old new none = by (old == new) refl
+    where
+      by : (b : Bool) → (old == new) ≡ b → list_any next_id_above (cond b [] (NextSerial new ∷ [])) ≡ false
+      by true is = refl
+      by false is = ap (λ b. b || false) next_id_zero
+
+  time-next_id : (time : ℕ) → next_id_above (Time time) ≡ false
+  unfolding id_set
+  time-next_id time = next_id_zero
+
+  pub any-next_id : (s t : Rows) → nat_lt bound s.next_id ≡ false → nat_lt bound s.next_serial ≡ false → (changes_between s t ≡ [] → t.next_id ≡ s.next_id) → list_any next_id_above (changes_between s t) ≡ nat_lt bound t.next_id
+  unfolding changes_between
+  any-next_id s t ids serials kept = by (in_turn (row_changes s t)) (next_id-quiet s t) kept
+    where
+      counters : List Change
+      counters = id_change s t ++ serial_change s t
+
+      by : (rows : List Change) → list_any next_id_above rows ≡ false → (headed t.time counters rows ≡ [] → t.next_id ≡ s.next_id) → list_any next_id_above (headed t.time counters rows) ≡ nat_lt bound t.next_id
+      by [] quiet kept = sym (ap (nat_lt bound) (kept refl) ∙ ids)
+      by (change ∷ changes) quiet kept =
+          list_any-append next_id_above (Time t.time ∷ counters) (change ∷ changes)
+          ∙ (λ i. (time-next_id t.time i || list_any-append next_id_above (id_change s t) (serial_change s t) i) || quiet i)
+          ∙ (λ i. (id-next_id s.next_id t.next_id ids i || serial-next_id s.next_serial t.next_serial serials i) || false)
+          ∙ ap (λ b. b || false) (or_false (nat_lt bound t.next_id)) ∙ or_false (nat_lt bound t.next_id)
+
+-- next_serials that are set
+module _ (bound : ℕ) where
+  abbrev next_serial_above : Change → Bool
+  next_serial_above change = nat_lt bound (serial_set change)
+
+  next_serial_zero : nat_lt bound 0 ≡ false
+  next_serial_zero = le-ltb bound 0 (omega arith)
+
+  next_serial-fail : (of : RowKind) → Fails next_serial_above of
+  unfolding serial_set
+  next_serial-fail kind.Principal = (λ row. next_serial_zero, λ gone. next_serial_zero)
+  next_serial-fail kind.PrincipalRole = (λ row. next_serial_zero, λ gone. next_serial_zero)
+  next_serial-fail kind.Catalog = (λ row. next_serial_zero, λ gone. next_serial_zero)
+  next_serial-fail kind.CatalogRole = (λ row. next_serial_zero, λ gone. next_serial_zero)
+  next_serial-fail kind.Namespace = (λ row. next_serial_zero, λ gone. next_serial_zero)
+  next_serial-fail kind.Member = (λ row. next_serial_zero, λ gone. next_serial_zero)
+  next_serial-fail kind.Join = (λ row. next_serial_zero, λ gone. next_serial_zero)
+  next_serial-fail kind.Grant = (λ row. next_serial_zero, λ gone. next_serial_zero)
+  next_serial-fail kind.Session = λ row. next_serial_zero
+
+  next_serial-quiet : (s t : Rows) → list_any next_serial_above (in_turn (row_changes s t)) ≡ false
+  next_serial-quiet s t = any-alone next_serial_above (in_turn (row_changes s t)) [] (filter-quiet s t next_serial_above next_serial-fail)
+
+  id-next_serial : (old new : ℕ) → nat_lt bound old ≡ false → list_any next_serial_above (cond (old == new) [] (NextId new ∷ [])) ≡ false
+  unfolding serial_set
+  id-next_serial old new none = by (old == new) refl
+    where
+      by : (b : Bool) → (old == new) ≡ b → list_any next_serial_above (cond b [] (NextId new ∷ [])) ≡ false
+      by true is = refl
+      by false is = ap (λ b. b || false) next_serial_zero
+
+  serial-next_serial : (old new : ℕ) → nat_lt bound old ≡ false → list_any next_serial_above (cond (old == new) [] (NextSerial new ∷ [])) ≡ nat_lt bound new
+  unfolding serial_set
+  serial-next_serial old new none = by (old == new) refl
+    where
+      by : (b : Bool) → (old == new) ≡ b → list_any next_serial_above (cond b [] (NextSerial new ∷ [])) ≡ nat_lt bound new
+      by true is = sym none ∙ ap (nat_lt bound) (eqb-true old new is)
+      by false is = or_false (nat_lt bound new)
+
+  time-next_serial : (time : ℕ) → next_serial_above (Time time) ≡ false
+  unfolding serial_set
+  time-next_serial time = next_serial_zero
+
+  pub any-next_serial : (s t : Rows) → nat_lt bound s.next_id ≡ false → nat_lt bound s.next_serial ≡ false → (changes_between s t ≡ [] → t.next_serial ≡ s.next_serial) → list_any next_serial_above (changes_between s t) ≡ nat_lt bound t.next_serial
+  unfolding changes_between
+  any-next_serial s t ids serials kept = by (in_turn (row_changes s t)) (next_serial-quiet s t) kept
+    where
+      counters : List Change
+      counters = id_change s t ++ serial_change s t
+
+      by : (rows : List Change) → list_any next_serial_above rows ≡ false → (headed t.time counters rows ≡ [] → t.next_serial ≡ s.next_serial) → list_any next_serial_above (headed t.time counters rows) ≡ nat_lt bound t.next_serial
+      by [] quiet kept = sym (ap (nat_lt bound) (kept refl) ∙ serials)
+      by (change ∷ changes) quiet kept =
+          list_any-append next_serial_above (Time t.time ∷ counters) (change ∷ changes)
+          ∙ (λ i. (time-next_serial t.time i || list_any-append next_serial_above (id_change s t) (serial_change s t) i) || quiet i)
+          ∙ (λ i. (id-next_serial s.next_id t.next_id ids i || serial-next_serial s.next_serial t.next_serial serials i) || false)
+          ∙ or_false (nat_lt bound t.next_serial)
+
+-- what a state within its bounds has
+pub record IsFew (s : Rows) : Type 0 where
+  pub catalogs : length s.content.catalogs ≤ 100000
+  pub principals : length s.access.principals ≤ 100000
+  pub principal_roles : length s.access.principal_roles ≤ 100000
+  pub catalog_roles : length s.access.catalog_roles ≤ 100000
+  pub members : length s.access.members ≤ 100000
+  pub joins : length s.access.joins ≤ 100000
+  pub grants : length s.access.grants ≤ 100000
+  pub namespaces : length s.content.namespaces ≤ 100000
+
+pub few_rows : (s : Rows) → IsSound s → IsFew s
+few_rows s sound =
+    let passes = each-within s sound in
+    let catalogs = above-within quantity.Catalogs 1000 (length s.content.catalogs) passes.0 in
+    let principals = above-within quantity.Principals 10000 (length s.access.principals) passes.1.0 in
+    let principal_roles = above-within quantity.PrincipalRoles 10000 (length s.access.principal_roles) passes.1.1.0 in
+    let catalog_roles = above-within quantity.CatalogRoles 10000 (length s.access.catalog_roles) passes.1.1.1.0 in
+    record {
+      catalogs = omega (arith, catalogs);
+      principals = omega (arith, principals);
+      principal_roles = omega (arith, principal_roles);
+      catalog_roles = omega (arith, catalog_roles);
+      members = above-within quantity.Members 100000 (length s.access.members) passes.1.1.1.1.0;
+      joins = above-within quantity.Joins 100000 (length s.access.joins) passes.1.1.1.1.1.0;
+      grants = above-within quantity.Grants 100000 (length s.access.grants) passes.1.1.1.1.1.1.0;
+      namespaces = above-within quantity.Namespaces 100000 (length s.content.namespaces) passes.1.1.1.1.1.1.1.0;
+    }
+
+module _ (s t : Rows) (sound : IsSound s) (new : IsOrderly t) (charge : ℕ) (leads : applied (changes_between s t) t.time charge s ≡ t) where
+  counted : {A : Type 0} (count : (IsSoundAccess s.next_id s.access) → (IsSoundAccess t.next_id t.access) → (IsSoundContent s.next_id s.content) → (IsSoundContent t.next_id t.content) → A) → A
+  counted count = count sound.orderly.access new.access sound.orderly.content new.content
+
+  kept : changes_between s t ≡ [] → t ≡ applied [] t.time charge s
+  kept none = sym leads ∙ ap (λ changes. applied changes t.time charge s) none
+
+  limits-between : over_limit t ≡ first_refusal (limits_of (counts_after s (changes_between s t)) ++ limits_put (changes_between s t))
+  unfolding over_limit
+  limits-between =
+      let passes = each-within s sound in
+      let ids = refused-not (nat_lt (2 ^ 62) s.next_id) (Limit quantity.NextId (2 ^ 62)) passes.1.1.1.1.1.1.1.1.1.1.1.0 in
+      let serials = refused-not (nat_lt (2 ^ 62) s.next_serial) (Limit quantity.NextSerial (2 ^ 62)) passes.1.1.1.1.1.1.1.1.1.1.1.1.0 in
+      λ i. first_refusal (
+      above quantity.Catalogs 1000 (sym (counted (count-catalogs s t)) i)
+      ∷ above quantity.Principals 10000 (sym (counted (count-principals s t)) i)
+      ∷ above quantity.PrincipalRoles 10000 (sym (counted (count-principal_roles s t)) i)
+      ∷ above quantity.CatalogRoles 10000 (sym (counted (count-catalog_roles s t)) i)
+      ∷ above quantity.Members 100000 (sym (counted (count-members s t)) i)
+      ∷ above quantity.Joins 100000 (sym (counted (count-joins s t)) i)
+      ∷ above quantity.Grants 100000 (sym (counted (count-grants s t)) i)
+      ∷ above quantity.Namespaces 100000 (sym (counted (count-namespaces s t)) i)
+      ∷ refuse_if (sym (any-catalogs 100 allowed_count s t (refused-not (list_any (λ row. nat_lt 100 (allowed_count row)) s.content.catalogs) (Limit quantity.AllowedLocations 100) passes.1.1.1.1.1.1.1.1.0)) i) (Limit quantity.AllowedLocations 100)
+      ∷ refuse_if (sym (any-catalogs 1000 catalog_properties s t (refused-not (list_any (λ row. nat_lt 1000 (catalog_properties row)) s.content.catalogs) (Limit quantity.Properties 1000) passes.1.1.1.1.1.1.1.1.1.0)) i) (Limit quantity.Properties 1000)
+      ∷ refuse_if (sym (any-namespaces 1000 namespace_properties s t (refused-not (list_any (λ row. nat_lt 1000 (namespace_properties row)) s.content.namespaces) (Limit quantity.Properties 1000) passes.1.1.1.1.1.1.1.1.1.1.0)) i) (Limit quantity.Properties 1000)
+      ∷ refuse_if (sym (any-next_id (2 ^ 62) s t ids serials (λ none. ap (λ (rows : Rows). rows.next_id) (kept none))) i) (Limit quantity.NextId (2 ^ 62))
+      ∷ refuse_if (sym (any-next_serial (2 ^ 62) s t ids serials (λ none. ap (λ (rows : Rows). rows.next_serial) (kept none))) i) (Limit quantity.NextSerial (2 ^ 62))
+      ∷ [])
+
+-- they are judged on the changes, how many rows there are first
+pub limits-after : (s : Rows) → IsSound s → (after : Rows) (charge : ℕ) (changes : List Change) → IsOrderly after → changes ≡ changes_between s after → applied changes after.time charge s ≡ after → over_limit after ≡ option_or (first_refusal (limits_of (counts_after s changes))) (first_refusal (limits_put changes))
+limits-after s sound after charge changes orderly is leads =
+    limits-between s after sound orderly charge (ap (λ made. applied made after.time charge s) (sym is) ∙ leads)
+    ∙ ap (λ made. first_refusal (limits_of (counts_after s made) ++ limits_put made)) (sym is)
+    ∙ first-joined (limits_of (counts_after s changes)) (limits_put changes)
+
+-- an id is known exactly where its row is found
+pub known_row : {R : Type 0} (key : R → ℕ) (id : ℕ) (rows : List R) (found : Option R) → found ≡ row_of key id rows → knows key id rows ≡ is_some found
+known_row key id rows found is = sym (is_some-row_of key id rows) ∙ ap is_some (sym is)

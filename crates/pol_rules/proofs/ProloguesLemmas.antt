@@ -1,0 +1,25 @@
+-- What stops the rules that actions of a kind begin with stops the action.
+use Rattle.std.proofs.Common.{◌≡◌, ℕ, List, Option, Some, Result, Err, refl}
+use Rattle.std.specs.Bool.{⊤}
+use Rattle.std.specs.Result.{IsErrAnd}
+use Rattle.pol_tables.specs.Table.{row_of}
+use Rattle.pol_content.specs.Content.{catalog_id, catalog_named}
+use Rattle.pol_content.specs.declared.rows.CatalogRow.{CatalogRow}
+use Rattle.pol_commands.specs.declared.command.Command.{Command}
+use Rattle.pol_commands.specs.declared.reply.Answer.{Answer}
+use Rattle.pol_commands.specs.declared.reply.Refusal.{Refusal}
+use Rattle.pol_state.specs.Rows.{Rows}
+use Rattle.pol_rules.specs.AccessRules.{in_catalog, in_realm}
+use Rattle.pol_rules.specs.Judged.{Does, Enters}
+use Rattle.pol_rules.specs.declared.rules.Acted.{Acted}
+use Rattle.pol_rules.specs.declared.rules.Undone.{Undone}
+use Rattle.pol_rules.proofs.JudgedLemmas.{entered-stopped}
+
+module _ (s : Rows) (command : Command) (rules : List (Option Refusal)) (after : Rows) (answer : Answer) (why : Undone) (result : Result Acted Undone) (told : IsErrAnd result (λ one. one ≡ why)) where
+  pub in_realm_stops : Enters {T = Unit {0}} (in_realm s command) (λ _. ⊤) (Err why) → Does s command (record { rules = in_realm s command rules; after = after; answer = answer }) result
+  in_realm_stops entered =
+      entered-stopped {T = Unit {0}} (λ _. ⊤) (in_realm s command) s command (record { rules = in_realm s command rules; after = after; answer = answer }) rules why result refl (λ passes. passes) told entered
+
+  pub in_catalog_stops : (name : List ℕ) → Enters {T = CatalogRow} (in_catalog s command name) (λ row. (catalog_named name s.content ≡ Some row) × (row_of catalog_id row.id s.content.catalogs ≡ Some row)) (Err why) → Does s command (record { rules = in_catalog s command name rules; after = after; answer = answer }) result
+  in_catalog_stops name entered =
+      entered-stopped {T = CatalogRow} (λ row. (catalog_named name s.content ≡ Some row) × (row_of catalog_id row.id s.content.catalogs ≡ Some row)) (in_catalog s command name) s command (record { rules = in_catalog s command name rules; after = after; answer = answer }) rules why result refl (λ passes. passes) told entered

@@ -1,0 +1,364 @@
+//! The bounds of a state, judged on the changes that lead from it.
+ghost use Rattle.std.specs.Prelude.{◌≡◌, ℕ, ◌≤◌, nat_lt};
+ghost use Rattle.std.specs.List.{list_any};
+ghost use Rattle.std.specs.Bool.{⊤};
+ghost use Rattle.pol_content.specs.Change.{puts};
+ghost use Rattle.pol_rules.specs.Counted.{count_after, counts_after, kind_taken, limits_of, limits_put, numbers_of, own_of, takes, where_known};
+ghost use Rattle.pol_rules.specs.Judged.{Sees};
+ghost use Rattle.pol_commands.specs.declared.reply.Refusal.TheVariants.{Limit};
+ghost use Rattle.pol_state.specs.Applied.{applied};
+ghost use Rattle.pol_state.specs.Bounds.{any_above, first_refusal, over_limit, refuse_if};
+ghost use Rattle.pol_state.specs.Changes.{changes_between};
+ghost use Rattle.pol_state.specs.Rows.{Rows};
+ghost use Rattle.pol_state.specs.Sound.{IsOrderly, IsSound};
+
+use crate::rules::within;
+use pol_commands::{Quantity, Refusal};
+use pol_content::{Change, RowKind};
+use pol_state::State;
+use pol_types::Listed;
+
+/// How many catalogues there are at most.
+const CATALOGS: u64 = 1_000;
+
+/// How many principals there are at most.
+const PRINCIPALS: u64 = 10_000;
+
+/// How many principal roles there are at most.
+const PRINCIPAL_ROLES: u64 = 10_000;
+
+/// How many roles the catalogues have at most, taken together.
+const CATALOG_ROLES: u64 = 10_000;
+
+/// How many members there are at most.
+const MEMBERS: u64 = 100_000;
+
+/// How many joins there are at most.
+const JOINS: u64 = 100_000;
+
+/// How many grants there are at most.
+const GRANTS: u64 = 100_000;
+
+/// How many namespaces there are at most.
+const NAMESPACES: u64 = 100_000;
+
+/// How many locations a catalogue allows at most beside its base.
+const ALLOWED_LOCATIONS: u64 = 100;
+
+/// How many properties a catalogue has at most, and a namespace.
+const PROPERTIES: u64 = 1_000;
+
+/// What the next id and the next serial come to at most.
+const COUNTER_BOUND: u64 = 1 << 62;
+
+/// How many rows of each kind there are.
+#[derive(Clone, Copy)]
+struct Counts {
+    catalogs: u64,
+    principals: u64,
+    principal_roles: u64,
+    catalog_roles: u64,
+    members: u64,
+    joins: u64,
+    grants: u64,
+    namespaces: u64,
+}
+
+/// The numbers of a change by itself: of locations that a catalogue allows, of properties, and of the counters.
+#[derive(Clone, Copy)]
+struct Numbers {
+    allowed: u64,
+    catalog_properties: u64,
+    namespace_properties: u64,
+    next_id: u64,
+    next_serial: u64,
+}
+
+/// The numbers of a change that has none.
+const NOTHING: Numbers = Numbers {
+    allowed: 0,
+    catalog_properties: 0,
+    namespace_properties: 0,
+    next_id: 0,
+    next_serial: 0,
+};
+
+/// A number that a change gives a row that it puts, or sets a counter to.
+#[derive(Clone, Copy)]
+enum Own {
+    AllowedLocations,
+    CatalogProperties,
+    NamespaceProperties,
+    NextId,
+    NextSerial,
+}
+
+/// No quantity is above its bound in the orderly rows to which the changes lead.
+pub fn within_bounds(state: &State, changes: &Listed<Change>) -> Result<(), Refusal>
+    requires { IsSound state.now.rows }
+    ensures { (after : Rows) (charge : ℕ) → IsOrderly after → changes.now ≡ changes_between state.now.rows after → applied changes.now after.time charge state.now.rows ≡ after → Sees (over_limit after) (λ _. ⊤) result }
+{
+    counts_within(counts_after(state, changes))?;
+    numbers_within(changes)
+}
+
+/// There are no more rows of any kind than its bound allows.
+fn counts_within(counts: Counts) -> Result<(), Refusal>
+    ensures { Sees (first_refusal (limits_of counts)) (λ _. ⊤) result }
+{
+    within(Quantity::Catalogs, CATALOGS, counts.catalogs)?;
+    within(Quantity::Principals, PRINCIPALS, counts.principals)?;
+    within(
+        Quantity::PrincipalRoles,
+        PRINCIPAL_ROLES,
+        counts.principal_roles,
+    )?;
+    within(Quantity::CatalogRoles, CATALOG_ROLES, counts.catalog_roles)?;
+    within(Quantity::Members, MEMBERS, counts.members)?;
+    within(Quantity::Joins, JOINS, counts.joins)?;
+    within(Quantity::Grants, GRANTS, counts.grants)?;
+    within(Quantity::Namespaces, NAMESPACES, counts.namespaces)
+}
+
+/// No change gives a row, or a counter, a number above the bound of its quantity.
+fn numbers_within(changes: &Listed<Change>) -> Result<(), Refusal>
+    ensures { Sees (first_refusal (limits_put changes.now)) (λ _. ⊤) result }
+{
+    own_within(
+        changes,
+        Own::AllowedLocations,
+        Quantity::AllowedLocations,
+        ALLOWED_LOCATIONS,
+    )?;
+    own_within(
+        changes,
+        Own::CatalogProperties,
+        Quantity::Properties,
+        PROPERTIES,
+    )?;
+    own_within(
+        changes,
+        Own::NamespaceProperties,
+        Quantity::Properties,
+        PROPERTIES,
+    )?;
+    own_within(changes, Own::NextId, Quantity::NextId, COUNTER_BOUND)?;
+    own_within(
+        changes,
+        Own::NextSerial,
+        Quantity::NextSerial,
+        COUNTER_BOUND,
+    )
+}
+
+/// How many rows of each kind there are once the changes are made.
+#[tactic(auto, using(crate::proofs::BoundsLemmas::few_rows))]
+fn counts_after(state: &State, changes: &Listed<Change>) -> Counts
+    requires { IsSound state.now.rows }
+    ensures { result ≡ counts_after state.now.rows changes.now }
+{
+    let access = state.access();
+    let content = state.content();
+    let changes = changes.as_slice();
+    Counts {
+        catalogs: count_after(state, changes, RowKind::Catalog, content.catalogs().len()),
+        principals: count_after(
+            state,
+            changes,
+            RowKind::Principal,
+            access.principals().len(),
+        ),
+        principal_roles: count_after(
+            state,
+            changes,
+            RowKind::PrincipalRole,
+            access.principal_roles().len(),
+        ),
+        catalog_roles: count_after(
+            state,
+            changes,
+            RowKind::CatalogRole,
+            access.catalog_roles().len(),
+        ),
+        members: count_after(state, changes, RowKind::Member, access.members().len()),
+        joins: count_after(state, changes, RowKind::Join, access.joins().len()),
+        grants: count_after(state, changes, RowKind::Grant, access.grants().len()),
+        namespaces: count_after(
+            state,
+            changes,
+            RowKind::Namespace,
+            content.namespaces().len(),
+        ),
+    }
+}
+
+/// How many rows of the kind there are once the changes are made, of which there were so many.
+fn count_after(state: &State, changes: &[Change], kind: RowKind, before: usize) -> u64
+    requires { before ≤ 100000 }
+    ensures { result ≡ count_after kind state.now.rows changes.now before }
+{
+    let put = changes.iter().filter(|change| puts(change, kind)).count();
+    let taken = changes
+        .iter()
+        .filter(|change| takes(state, change, kind))
+        .count();
+    (before as u64 + put as u64).saturating_sub(taken as u64)
+}
+
+/// Whether the change puts a row of the kind.
+fn puts(change: &Change, kind: RowKind) -> bool
+    ensures { result ≡ puts kind change.now }
+{
+    match change.kind_put() {
+        Some(put) => put == kind,
+        None => false,
+    }
+}
+
+/// Whether the change takes a row of the kind away, or puts another in the place of one.
+fn takes(state: &State, change: &Change, kind: RowKind) -> bool
+    ensures { result ≡ takes kind state.now.rows change.now }
+{
+    match kind_taken(state, change) {
+        Some(taken) => taken == kind,
+        None => false,
+    }
+}
+
+/// The kind of the row of the state that the change takes away, or puts another in the place of.
+#[tactic(auto, using(crate::proofs::BoundsLemmas::known_row))]
+fn kind_taken(state: &State, change: &Change) -> Option<RowKind>
+    ensures { result ≡ kind_taken state.now.rows change.now }
+{
+    let access = state.access();
+    let content = state.content();
+    match change {
+        Change::PutPrincipal(row) => where_known(
+            RowKind::Principal,
+            access.principal(row.id).is_some(),
+        ),
+        Change::PutPrincipalRole(row) => where_known(
+            RowKind::PrincipalRole,
+            access.principal_role(row.id).is_some(),
+        ),
+        Change::PutCatalog(row) => where_known(
+            RowKind::Catalog,
+            content.catalog_of(row.id).is_some(),
+        ),
+        Change::PutCatalogRole(row) => where_known(
+            RowKind::CatalogRole,
+            access.catalog_role(row.id).is_some(),
+        ),
+        Change::PutNamespace(row) => where_known(
+            RowKind::Namespace,
+            content.namespace_of(row.id).is_some(),
+        ),
+        Change::DropPrincipal(_) => Some(RowKind::Principal),
+        Change::DropPrincipalRole(_) => Some(RowKind::PrincipalRole),
+        Change::DropCatalog(_) => Some(RowKind::Catalog),
+        Change::DropCatalogRole(_) => Some(RowKind::CatalogRole),
+        Change::DropNamespace(_) => Some(RowKind::Namespace),
+        Change::DropMember(_) => Some(RowKind::Member),
+        Change::DropJoin(_) => Some(RowKind::Join),
+        Change::DropGrant(_) => Some(RowKind::Grant),
+        Change::Time(_)
+        | Change::NextId(_)
+        | Change::NextSerial(_)
+        | Change::PutMember(_)
+        | Change::PutJoin(_)
+        | Change::PutGrant(_)
+        | Change::PutSession(_) => None,
+    }
+}
+
+/// The kind, where a row of it is known.
+fn where_known(kind: RowKind, known: bool) -> Option<RowKind>
+    ensures { result ≡ where_known kind known }
+{
+    if known { Some(kind) } else { None }
+}
+
+/// No change gives a row, or a counter, such a number above the bound of its quantity.
+fn own_within(
+    changes: &Listed<Change>,
+    own: Own,
+    quantity: Quantity,
+    bound: u64,
+) -> Result<(), Refusal>
+    ensures { Sees (any_above quantity bound (own_of own) changes.now) (λ _. ⊤) result }
+{
+    unless(has_above(changes, own, bound), quantity, bound)
+}
+
+/// Whether a change gives a row, or a counter, a number above the bound.
+fn has_above(changes: &Listed<Change>, own: Own, bound: u64) -> bool
+    ensures { result ≡ list_any (λ change. nat_lt bound (own_of own change)) changes.now }
+{
+    changes.iter().any(|change| own_of(change, own) > bound)
+}
+
+/// The number that the change gives a row, or a counter.
+fn own_of(change: &Change, own: Own) -> u64
+    ensures { result ≡ own_of own change.now }
+{
+    let numbers = numbers_of(change);
+    match own {
+        Own::AllowedLocations => numbers.allowed,
+        Own::CatalogProperties => numbers.catalog_properties,
+        Own::NamespaceProperties => numbers.namespace_properties,
+        Own::NextId => numbers.next_id,
+        Own::NextSerial => numbers.next_serial,
+    }
+}
+
+/// Refuses where a number of the quantity is above its bound.
+fn unless(above: bool, quantity: Quantity, bound: u64) -> Result<(), Refusal>
+    ensures { Sees (refuse_if above (Limit quantity bound)) (λ _. ⊤) result }
+{
+    if above {
+        return Err(Refusal::Limit { quantity, bound });
+    }
+    Ok(())
+}
+
+/// The numbers of a change by itself: what a row has that it puts, and the counters that it sets.
+#[tactic(auto, unfolding(crate::specs::Counted::catalogs_put, crate::specs::Counted::namespaces_put, crate::specs::Counted::id_set, crate::specs::Counted::serial_set, pol_tables::specs::Table::rows_with, pol_tables::specs::Table::rows_without))]
+fn numbers_of(change: &Change) -> Numbers
+    ensures { result ≡ numbers_of change.now }
+{
+    match change {
+        Change::NextId(id) => Numbers {
+            next_id: *id,
+            ..NOTHING
+        },
+        Change::NextSerial(serial) => Numbers {
+            next_serial: *serial,
+            ..NOTHING
+        },
+        Change::PutCatalog(row) => Numbers {
+            allowed: row.allowed.len() as u64,
+            catalog_properties: row.properties.len() as u64,
+            ..NOTHING
+        },
+        Change::PutNamespace(row) => Numbers {
+            namespace_properties: row.properties.len() as u64,
+            ..NOTHING
+        },
+        Change::Time(_)
+        | Change::PutPrincipal(_)
+        | Change::DropPrincipal(_)
+        | Change::PutPrincipalRole(_)
+        | Change::DropPrincipalRole(_)
+        | Change::DropCatalog(_)
+        | Change::PutCatalogRole(_)
+        | Change::DropCatalogRole(_)
+        | Change::DropNamespace(_)
+        | Change::PutMember(_)
+        | Change::DropMember(_)
+        | Change::PutJoin(_)
+        | Change::DropJoin(_)
+        | Change::PutGrant(_)
+        | Change::DropGrant(_)
+        | Change::PutSession(_) => NOTHING,
+    }
+}

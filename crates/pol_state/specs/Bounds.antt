@@ -1,0 +1,64 @@
+-- The bounds of a state: one table, by which commands are refused and states are sound.
+use Rattle.std.specs.Prelude.{◌≡◌, ℕ, ◌^◌, Bool, nat_lt, List, [], ◌∷◌, length, Option, Some, None, if◌then◌else◌}
+use Rattle.std.specs.List.{list_any, AllByRecursion}
+use Rattle.pol_content.specs.declared.rows.CatalogRow.{CatalogRow}
+use Rattle.pol_content.specs.declared.rows.NamespaceRow.{NamespaceRow}
+use Rattle.pol_commands.specs.declared.reply.Quantity.{Quantity}
+use Rattle.pol_commands.specs.declared.reply.Quantity.TheVariants as quantity
+use Rattle.pol_commands.specs.declared.reply.Refusal.{Refusal}
+use Rattle.pol_commands.specs.declared.reply.Refusal.TheVariants.{Limit}
+use Rattle.pol_state.specs.Rows.{Rows}
+
+-- a rule that refuses where the test holds
+abbrev pub refuse_if : Bool → Refusal → Option Refusal
+refuse_if test why = if test then Some why else None
+
+-- the first of the rules that fails
+abbrev pub first_refusal : List (Option Refusal) → Option Refusal
+first_refusal [] = None
+first_refusal (None ∷ rules) = first_refusal rules
+first_refusal (Some why ∷ rules) = Some why
+
+-- each rule passes
+abbrev pub EachPasses : List (Option Refusal) → Type 0
+EachPasses rules = AllByRecursion (λ rule. rule ≡ None) rules
+
+-- a number is above the bound of a quantity
+abbrev pub above : Quantity → ℕ → ℕ → Option Refusal
+above quantity bound number = refuse_if (nat_lt bound number) (Limit quantity bound)
+
+-- a row has a number above the bound of a quantity
+abbrev pub any_above : {R : Type 0} → Quantity → ℕ → (R → ℕ) → List R → Option Refusal
+any_above quantity bound number rows = refuse_if (list_any (λ row. nat_lt bound (number row)) rows) (Limit quantity bound)
+
+-- how many allowed locations and properties rows have
+abbrev pub allowed_count : CatalogRow → ℕ
+allowed_count row = length row.allowed
+
+abbrev pub catalog_properties : CatalogRow → ℕ
+catalog_properties row = length row.properties
+
+abbrev pub namespace_properties : NamespaceRow → ℕ
+namespace_properties row = length row.properties
+
+-- the quantities of these rows that are above their bounds
+abbrev pub limits : Rows → List (Option Refusal)
+limits rows =
+    above quantity.Catalogs 1000 (length rows.content.catalogs)
+    ∷ above quantity.Principals 10000 (length rows.access.principals)
+    ∷ above quantity.PrincipalRoles 10000 (length rows.access.principal_roles)
+    ∷ above quantity.CatalogRoles 10000 (length rows.access.catalog_roles)
+    ∷ above quantity.Members 100000 (length rows.access.members)
+    ∷ above quantity.Joins 100000 (length rows.access.joins)
+    ∷ above quantity.Grants 100000 (length rows.access.grants)
+    ∷ above quantity.Namespaces 100000 (length rows.content.namespaces)
+    ∷ any_above quantity.AllowedLocations 100 allowed_count rows.content.catalogs
+    ∷ any_above quantity.Properties 1000 catalog_properties rows.content.catalogs
+    ∷ any_above quantity.Properties 1000 namespace_properties rows.content.namespaces
+    ∷ above quantity.NextId (2 ^ 62) rows.next_id
+    ∷ above quantity.NextSerial (2 ^ 62) rows.next_serial
+    ∷ []
+
+-- the first of them
+unfoldable pub over_limit : Rows → Option Refusal
+over_limit rows = first_refusal (limits rows)
