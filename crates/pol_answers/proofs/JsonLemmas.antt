@@ -98,3 +98,6 @@ endpoint_left_out texts row other = by (is_endpoint row) refl
     by : (b : Bool) → is_endpoint row ≡ b → texts ≡ texts ++ endpoints_of (row ∷ [])
     by true is = absurd (other (drop 24 row.path) (sym (take-append-drop 24 row.path) ∙ ap (λ front. front ++ drop 24 row.path) (sym ((bytes_decides prefixed (take 24 row.path)).0 is))))
     by false is = rw is (sym (append-nil texts))
+
+-- the answers of the catalogue API
+pub ruleset answers_whole = (config_whole, catalog_whole, catalogs_whole, namespace_whole, namespaces_whole, updated_whole)

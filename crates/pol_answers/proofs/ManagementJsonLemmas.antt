@@ -31,3 +31,6 @@ granted_whole privilege (on.View view) = rw (texts_whole view.namespace) refl
 
 pub grants_whole : (grants : List Grant) → has_float (grants_json grants) ≡ false
 grants_whole grants = rw (list_whole grant_json (λ grant. granted_whole _ grant.on) grants) refl
+
+-- the answers of the management API
+pub ruleset answers_whole = (principal_whole, principals_whole, role_whole, roles_whole, grants_whole)

@@ -35,7 +35,7 @@ pub fn answer_of(alloc: Global, reply: &Reply) -> Result<Answer, OutOfMemory>
 }
 
 /// The answer to a command that is done. Of what has ended or is there nothing is told.
-#[tactic(auto, using(crate::proofs::JsonLemmas::config_whole, crate::proofs::JsonLemmas::catalog_whole, crate::proofs::JsonLemmas::catalogs_whole, crate::proofs::JsonLemmas::namespace_whole, crate::proofs::JsonLemmas::namespaces_whole, crate::proofs::JsonLemmas::updated_whole, crate::proofs::ManagementJsonLemmas::principal_whole, crate::proofs::ManagementJsonLemmas::principals_whole, crate::proofs::ManagementJsonLemmas::role_whole, crate::proofs::ManagementJsonLemmas::roles_whole, crate::proofs::ManagementJsonLemmas::grants_whole))]
+#[tactic(auto, using(crate::proofs::JsonLemmas::answers_whole, crate::proofs::ManagementJsonLemmas::answers_whole))]
 fn done_answer(alloc: Global, done: &Done) -> Result<Answer, OutOfMemory>
     ensures { IfOk result (λ answer. answer ≡ spec.done_answer done.now) }
 {

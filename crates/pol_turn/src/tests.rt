@@ -47,7 +47,8 @@ impl Account {
 
     /// How many entries have each of the numbers from 0 to 4.
     fn into_counts(self) -> [usize; 5]
-        ensures { result ≡ map (λ number. count_by (λ entry. entry.number == number) self.entries.items) (0 ∷ 1 ∷ 2 ∷ 3 ∷ 4 ∷ []) }
+        ensures { result ≡ map (λ number. count_by (λ entry. entry.number == number) self.entries.items)
+            (0 ∷ 1 ∷ 2 ∷ 3 ∷ 4 ∷ []) }
     {
         let counts = [
             self.count(0),
@@ -67,7 +68,8 @@ impl Account {
 /// The lock over an empty account.
 fn open(alloc: Global) -> Result<(Turns<Account>, Pass<Account>), AllocError>
     ensures lock { IfOk result (λ made. made.1.lock ≡ made.0) }
-    ensures founds { IfOk result (λ made. (made.1.number ≡ 0) × (made.1.made ≡ 1) × (made.1.gathered ≡ []) × (made.1.has_turn ≡ false)) }
+    ensures founds { IfOk result (λ made. (made.1.number ≡ 0) × (made.1.made ≡ 1)
+        × (made.1.gathered ≡ []) × (made.1.has_turn ≡ false)) }
 {
     let account = Account {
         opening: 7,
@@ -92,7 +94,8 @@ fn enter<R: Wait>(
     requires lock { pass.old.lock ≡ turns.now }
     requires free { pass.old.has_turn ≡ false }
     ensures pass { pass.new ≡ record pass.old { front = pass.new.front; own = pass.new.own } }
-    ensures entered { OnOk result (pass.new.own ≡ pass.old.own ++ record { number = pass.old.number; amount = amount } ∷ []) }
+    ensures entered { OnOk result (pass.new.own
+        ≡ pass.old.own ++ record { number = pass.old.number; amount = amount } ∷ []) }
 {
     let number = pass.number();
     let Held { value: mut account } = turns.take(rt, pass);
@@ -148,8 +151,10 @@ fn enter_two<R: Wait>(
     requires lock { founder.lock ≡ turns }
     requires founds { (founder.number ≡ 0) × (founder.made ≡ 1) × (founder.gathered ≡ []) × (founder.has_turn ≡ false) }
     ensures founder { IfOk result (λ account. items_by (λ entry. entry.number) 0 account.entries.items ≡ founder.own) }
-    ensures first { IfOk result (λ account. items_by (λ entry. entry.number) 1 account.entries.items ≡ record { number = 1; amount = 10 } ∷ []) }
-    ensures second { IfOk result (λ account. items_by (λ entry. entry.number) 2 account.entries.items ≡ record { number = 2; amount = 20 } ∷ []) }
+    ensures first { IfOk result (λ account. items_by (λ entry. entry.number) 1 account.entries.items
+        ≡ record { number = 1; amount = 10 } ∷ []) }
+    ensures second { IfOk result (λ account. items_by (λ entry. entry.number) 2 account.entries.items
+        ≡ record { number = 2; amount = 20 } ∷ []) }
     ensures opening { IfOk result (λ account. Some account.opening ≡ turns.fixed) }
 {
     let mut first = turns.split(&mut founder);
@@ -190,7 +195,8 @@ fn enter_in_threads<R: Threads + Wait + Sync>(
     founder: &mut Pass<Account>,
 )
     requires lock { founder.old.lock ≡ turns.now }
-    requires founds { (founder.old.number ≡ 0) × (founder.old.made ≡ 1) × (founder.old.gathered ≡ []) × (founder.old.has_turn ≡ false) }
+    requires founds { (founder.old.number ≡ 0) × (founder.old.made ≡ 1)
+        × (founder.old.gathered ≡ []) × (founder.old.has_turn ≡ false) }
     ensures founds { (founder.new.lock ≡ turns.now) × (founder.new.number ≡ 0) }
     ensures joined { length founder.new.gathered + 1 ≡ founder.new.made }
 {
