@@ -18,55 +18,55 @@ use std::alloc::{AllocError, Global};
 /// What the path of each row of the catalogue API behind a prefix begins with.
 const PREFIXED: &str = "/api/catalog/v1/{prefix}";
 
-/// What stands in lists of answers.
-pub(crate) trait Shown {
+/// What answers have as JSON.
+pub(crate) trait ToJson {
     ghost use Rattle.serde_json.specs.Data.{Data};
 
-    /// What is shown of a value.
+    /// What stands for a value.
     ghost json: { Self → Data };
 
     /// The JSON of a value.
-    fn shown(&self, alloc: Global) -> Result<Value, OutOfMemory>
+    fn to_json(&self, alloc: Global) -> Result<Value, OutOfMemory>
         ensures { IfOk result (λ value. view value ≡ json self.now) };
 }
 
-impl Shown for Text {
+impl ToJson for Text {
     ghost json = { string };
 
-    fn shown(&self, alloc: Global) -> Result<Value, OutOfMemory> {
+    fn to_json(&self, alloc: Global) -> Result<Value, OutOfMemory> {
         Ok(Value::try_from_str(alloc, self.as_str())?)
     }
 }
 
-impl Shown for Name {
+impl ToJson for Name {
     ghost json = { string };
 
-    fn shown(&self, alloc: Global) -> Result<Value, OutOfMemory> {
+    fn to_json(&self, alloc: Global) -> Result<Value, OutOfMemory> {
         Ok(Value::try_from_str(alloc, self.as_str())?)
     }
 }
 
-impl Shown for Namespace {
+impl ToJson for Namespace {
     ghost json = { spec.texts_json };
 
-    fn shown(&self, alloc: Global) -> Result<Value, OutOfMemory> {
+    fn to_json(&self, alloc: Global) -> Result<Value, OutOfMemory> {
         list(alloc, self.levels())
     }
 }
 
-impl Shown for Location {
+impl ToJson for Location {
     ghost json = { spec.location_json };
 
-    fn shown(&self, alloc: Global) -> Result<Value, OutOfMemory> {
+    fn to_json(&self, alloc: Global) -> Result<Value, OutOfMemory> {
         Ok(Value::from(self.text(alloc)?))
     }
 }
 
 #[tactic(auto, unfolding(crate::specs::Json::catalog_json))]
-impl Shown for CatalogRow {
+impl ToJson for CatalogRow {
     ghost json = { spec.catalog_json };
 
-    fn shown(&self, alloc: Global) -> Result<Value, OutOfMemory> {
+    fn to_json(&self, alloc: Global) -> Result<Value, OutOfMemory> {
         let allowed = list(alloc, self.allowed.as_slice())?;
         let properties = catalog_properties(alloc, self)?;
         Ok(catalog_object(alloc, &self.name, properties, allowed)?)
@@ -96,7 +96,7 @@ fn catalog_properties(alloc: Global, row: &CatalogRow) -> Result<Map<String, Val
     ensures { IfOk result (λ members. members_view members.entries ≡ spec.catalog_members row.now) }
 {
     let mut members = property_members(alloc, &row.properties)?;
-    let base = row.base.shown(alloc)?;
+    let base = row.base.to_json(alloc)?;
     put(&mut members, alloc, BASE_KEY, base)?;
     Ok(members)
 }
@@ -132,17 +132,17 @@ fn put_property(
     ensures { OnOk result (members_view members.new.entries
         ≡ spec.with_property (members_view members.old.entries) pair.now) }
 {
-    let value = pair.value.shown(alloc)?;
+    let value = pair.value.to_json(alloc)?;
     Ok(put(members, alloc, pair.key.as_str(), value)?)
 }
 
 /// A list.
-pub(crate) fn list<T: Shown>(alloc: Global, items: &[T]) -> Result<Value, OutOfMemory>
+pub(crate) fn list<T: ToJson>(alloc: Global, items: &[T]) -> Result<Value, OutOfMemory>
     ensures { IfOk result (λ value. view value ≡ spec.list_json T.json items.now) }
 {
     let mut values = Vec::with_capacity(alloc, items.len())?;
     for item in items {
-        values.push(item.shown(alloc)?)?;
+        values.push(item.to_json(alloc)?)?;
     }
     Ok(Value::from(values))
 }
@@ -232,7 +232,7 @@ pub(crate) fn namespace_json(
 ) -> Result<Value, OutOfMemory>
     ensures { IfOk result (λ json. view json ≡ spec.namespace_json namespace.now properties.now) }
 {
-    let levels = namespace.shown(alloc)?;
+    let levels = namespace.to_json(alloc)?;
     let members = property_members(alloc, properties)?;
     Ok(json!(in alloc; {"namespace": levels, "properties": members})?)
 }

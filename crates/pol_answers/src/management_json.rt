@@ -4,7 +4,7 @@ ghost use Rattle.serde_json.specs.View.{view};
 ghost use Rattle.pol_commands.specs.declared.grants.GrantedOn.TheVariants as on;
 ghost use Rattle.pol_answers.specs.ManagementJson as spec;
 
-use crate::json::{Shown, list};
+use crate::json::{ToJson, list};
 use pol_access::PrincipalRow;
 use pol_commands::{Grant, GrantedOn};
 use pol_names::{Identifier, Namespace, Plain};
@@ -12,10 +12,10 @@ use pol_types::{Listed, OutOfMemory};
 use serde_json::{Value, json};
 use std::alloc::{AllocError, Global};
 
-impl Shown for PrincipalRow {
+impl ToJson for PrincipalRow {
     ghost json = { spec.principal_json };
 
-    fn shown(&self, alloc: Global) -> Result<Value, OutOfMemory> {
+    fn to_json(&self, alloc: Global) -> Result<Value, OutOfMemory> {
         Ok(principal_object(alloc, self.client_id.as_str(), self.name.as_str())?)
     }
 }
@@ -55,10 +55,10 @@ pub(crate) fn credentials_json(
 }
 
 /// The name of a role, which is shown as the role.
-impl Shown for Plain {
+impl ToJson for Plain {
     ghost json = { spec.role_json };
 
-    fn shown(&self, alloc: Global) -> Result<Value, OutOfMemory> {
+    fn to_json(&self, alloc: Global) -> Result<Value, OutOfMemory> {
         Ok(json!(in alloc; {"name": self.as_str()})?)
     }
 }
@@ -71,10 +71,10 @@ pub(crate) fn roles_json(alloc: Global, names: &Listed<Plain>) -> Result<Value, 
     Ok(json!(in alloc; {"roles": roles})?)
 }
 
-impl Shown for Grant {
+impl ToJson for Grant {
     ghost json = { spec.grant_json };
 
-    fn shown(&self, alloc: Global) -> Result<Value, OutOfMemory> {
+    fn to_json(&self, alloc: Global) -> Result<Value, OutOfMemory> {
         let privilege = self.privilege.as_str();
         match &self.on {
             GrantedOn::Catalog => Ok(json!(in alloc; {"privilege": privilege, "type": "catalog"})?),
@@ -93,7 +93,7 @@ fn namespace_grant(
 ) -> Result<Value, OutOfMemory>
     ensures { IfOk result (λ json. view json ≡ spec.granted_json privilege.now (on.Namespace namespace.now)) }
 {
-    let levels = namespace.shown(alloc)?;
+    let levels = namespace.to_json(alloc)?;
     Ok(json!(in alloc; {"namespace": levels, "privilege": privilege, "type": "namespace"})?)
 }
 
@@ -101,8 +101,8 @@ fn namespace_grant(
 fn table_grant(alloc: Global, privilege: &str, table: &Identifier) -> Result<Value, OutOfMemory>
     ensures { IfOk result (λ json. view json ≡ spec.granted_json privilege.now (on.Table table.now)) }
 {
-    let levels = table.namespace.shown(alloc)?;
-    let name = table.name.shown(alloc)?;
+    let levels = table.namespace.to_json(alloc)?;
+    let name = table.name.to_json(alloc)?;
     Ok(json!(in alloc; {
         "namespace": levels,
         "privilege": privilege,
@@ -115,8 +115,8 @@ fn table_grant(alloc: Global, privilege: &str, table: &Identifier) -> Result<Val
 fn view_grant(alloc: Global, privilege: &str, named: &Identifier) -> Result<Value, OutOfMemory>
     ensures { IfOk result (λ json. view json ≡ spec.granted_json privilege.now (on.View named.now)) }
 {
-    let levels = named.namespace.shown(alloc)?;
-    let name = named.name.shown(alloc)?;
+    let levels = named.namespace.to_json(alloc)?;
+    let name = named.name.to_json(alloc)?;
     Ok(json!(in alloc; {
         "namespace": levels,
         "privilege": privilege,

@@ -7,7 +7,7 @@ ghost use Rattle.pol_answers.specs.Texts as spec;
 
 use crate::error_body::{answer_with, error_answer, json_answer, text_of, token_error};
 use crate::json::{
-    Shown, catalogs_json, config_json, namespace_json, namespaces_json, updated_json,
+    ToJson, catalogs_json, config_json, namespace_json, namespaces_json, updated_json,
 };
 use crate::management_json::{credentials_json, grants_json, principals_json, roles_json};
 use crate::refusals::{
@@ -47,8 +47,8 @@ fn done_answer(alloc: Global, done: &Done) -> Result<Answer, OutOfMemory>
         } => session_answer(alloc, *serial, *word_a, *word_b),
         Done::ConfigTold { catalog } => json_answer(alloc, 200, config_json(alloc, catalog)?),
         Done::CatalogsListed(rows) => json_answer(alloc, 200, catalogs_json(alloc, rows)?),
-        Done::CatalogCreated(row) => json_answer(alloc, 201, row.shown(alloc)?),
-        Done::CatalogLoaded(row) => json_answer(alloc, 200, row.shown(alloc)?),
+        Done::CatalogCreated(row) => json_answer(alloc, 201, row.to_json(alloc)?),
+        Done::CatalogLoaded(row) => json_answer(alloc, 200, row.to_json(alloc)?),
         Done::NamespacesListed(namespaces) => {
             json_answer(alloc, 200, namespaces_json(alloc, namespaces)?)
         }
@@ -71,14 +71,14 @@ fn done_answer(alloc: Global, done: &Done) -> Result<Answer, OutOfMemory>
             client_id,
             secret,
         } => credentials_answer(alloc, 201, client_id, secret, name),
-        Done::PrincipalLoaded(row) => json_answer(alloc, 200, row.shown(alloc)?),
+        Done::PrincipalLoaded(row) => json_answer(alloc, 200, row.to_json(alloc)?),
         Done::SecretRotated {
             name,
             client_id,
             secret,
         } => credentials_answer(alloc, 200, client_id, secret, name),
         Done::RolesListed(names) => json_answer(alloc, 200, roles_json(alloc, names)?),
-        Done::RoleLoaded { name } => json_answer(alloc, 200, name.shown(alloc)?),
+        Done::RoleLoaded { name } => json_answer(alloc, 200, name.to_json(alloc)?),
         Done::GrantsListed(grants) => json_answer(alloc, 200, grants_json(alloc, grants)?),
         Done::RoleCreated
         | Done::MemberAdded

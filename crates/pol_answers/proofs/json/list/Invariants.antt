@@ -3,4 +3,4 @@ use Rattle.serde_json.specs.View.{view}
 use Rattle.pol_answers.proofs.json.list.Given as goal
 
 abbrev pub invariant-loop-item : goal.invariant-loop-item
-invariant-loop-item g l = map view l.values.items ≡ map g.T.Shown.json (take l.item-index l.items)
+invariant-loop-item g l = map view l.values.items ≡ map g.T.ToJson.json (take l.item-index l.items)
