@@ -5,7 +5,7 @@ use Rattle.pol_commands.specs.declared.reply.OptionName.TheVariants as option
 use Rattle.pol_commands.specs.declared.reply.Quantity.{Quantity}
 use Rattle.pol_commands.specs.declared.reply.Quantity.TheVariants.{Catalogs, Principals, PrincipalRoles, CatalogRoles, Members, Joins, Grants, Namespaces, AllowedLocations, Properties, NextId, NextSerial}
 use Rattle.pol_commands.specs.declared.reply.Refusal.{Refusal}
-use Rattle.pol_commands.specs.declared.reply.Refusal.TheVariants.{RunFull}
+use Rattle.pol_commands.specs.declared.reply.Refusal.TheVariants.{RunFull, InvalidClient, InvalidScope, Unauthenticated, NoCatalogue, Forbidden, NoNamespace, NoTable, NoView, NoSuchRole, NameTaken, NotEmpty, KeyTwice, BadLocation, Unsupported, Limit, Reserved}
 use Rattle.pol_commands.specs.declared.reply.Reply.{Reply}
 use Rattle.pol_commands.specs.declared.reply.Reply.TheVariants.{Answered, Refused}
 
@@ -31,7 +31,22 @@ quantity_text NextSerial = codes "next_serial"
 -- whether a refusal is that the run is full
 abbrev pub is_full : Refusal → Bool
 is_full (RunFull charged charge) = true
-is_full other = false
+is_full InvalidClient = false
+is_full InvalidScope = false
+is_full Unauthenticated = false
+is_full (NoCatalogue name) = false
+is_full (Forbidden privilege securable) = false
+is_full (NoNamespace namespace) = false
+is_full (NoTable identifier) = false
+is_full (NoView identifier) = false
+is_full (NoSuchRole name) = false
+is_full (NameTaken name) = false
+is_full (NotEmpty name) = false
+is_full (KeyTwice key) = false
+is_full (BadLocation place why) = false
+is_full (Unsupported name) = false
+is_full (Limit quantity bound) = false
+is_full (Reserved name) = false
 
 -- whether a reply is that refusal
 abbrev pub is_run_full : Reply → Bool
