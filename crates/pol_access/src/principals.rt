@@ -3,14 +3,14 @@ ghost use Rattle.std.specs.List.{AllByRecursion};
 ghost use Rattle.std.specs.Slice.Iter.{iter_rest};
 ghost use Rattle.pol_access.specs.Access.{principal_id};
 ghost use Rattle.pol_access.specs.Names.{client_number, has_client_id, has_name, text_number};
-ghost use Rattle.pol_tables.specs.Index.{is_noted, number_noted};
+ghost use Rattle.pol_tables.specs.Index.{is_noted, entry_number};
 ghost use Rattle.pol_tables.specs.Named.{Finds, FindsOr, IsMissed, IsMissedFirst, named_row};
 ghost use Rattle.pol_tables.specs.Table.{row_of, rows_with, rows_without, IdsDiffer};
-ghost use Rattle.pol_tables.specs.declared.index.Noted.{Noted};
+ghost use Rattle.pol_tables.specs.declared.index.IndexEntry.{IndexEntry};
 
 use crate::PrincipalRow;
 use crate::names::{PrincipalName, text_number};
-use pol_tables::{Index, NamedTable, Noted};
+use pol_tables::{Index, IndexEntry, NamedTable};
 use pol_types::OutOfMemory;
 use std::alloc::{AllocError, Global};
 use std::marker::Model;
@@ -104,7 +104,7 @@ impl Principals {
         ensures room { self.old.room ≤ self.new.room + 1 }
     {
         forget_client(&self.table, &mut self.clients, row.id);
-        self.clients.note(Noted {
+        self.clients.note(IndexEntry {
             number: text_number(row.client_id.as_str()),
             id: row.id,
         });
@@ -139,8 +139,8 @@ fn first_client<'a>(
 ) -> Option<&'a PrincipalRow>
     ensures found { FindsOr principal_id (has_client_id client_id.now)
         (IsMissedFirst principal_id (has_client_id client_id.now) table.now.rows
-        (row_of number_noted (text_number client_id.now) clients.now.firsts)) table.now.rows (option_copied result) }
-    ensures differ { IdsDiffer number_noted clients.now.firsts }
+        (row_of entry_number (text_number client_id.now) clients.now.firsts)) table.now.rows (option_copied result) }
+    ensures differ { IdsDiffer entry_number clients.now.firsts }
 {
     match clients.first(text_number(client_id)) {
         Some(noted) => client_by(table, client_id, noted.id),
@@ -151,7 +151,7 @@ fn first_client<'a>(
 /// The row of one of the other ids, where it has the client id.
 fn other_client<'a>(
     table: &'a NamedTable<PrincipalRow>,
-    others: &[Noted],
+    others: &[IndexEntry],
     client_id: &str,
 ) -> Option<&'a PrincipalRow>
     ensures { FindsOr principal_id (has_client_id client_id.now)
@@ -186,11 +186,11 @@ fn client_by<'a>(
 
 /// Forgets the client id of the row of this id.
 fn forget_client(table: &NamedTable<PrincipalRow>, clients: &mut Index, id: u64)
-    ensures others { (noted : Noted) → noted.id ≢ id → is_noted noted clients.new ≡ is_noted noted clients.old }
+    ensures others { (noted : IndexEntry) → noted.id ≢ id → is_noted noted clients.new ≡ is_noted noted clients.old }
     ensures room { clients.old.room ≤ clients.new.room }
 {
     if let Some(row) = table.find(id) {
-        clients.forget(&Noted {
+        clients.forget(&IndexEntry {
             number: text_number(row.client_id.as_str()),
             id,
         });

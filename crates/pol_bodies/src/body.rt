@@ -1,6 +1,6 @@
 //! Bodies as requests read them.
 ghost use Rattle.pol_readers.specs.Shape.{body};
-ghost use Rattle.pol_requests.specs.Refused.{Gives};
+ghost use Rattle.pol_requests.specs.Refused.{Meets};
 ghost use Rattle.pol_bodies.specs.Body as spec;
 
 use pol_readers::{Form, ReadError, read_body};
@@ -11,7 +11,7 @@ use std::alloc::Global;
 /// What a body is read as. Its first bad field is told by its path.
 #[tactic(auto, using(crate::proofs::UnreadLemmas::read_body, crate::proofs::UnreadLemmas::unread_body))]
 pub fn body_of<F: Form>(alloc: Global, bytes: &[u8]) -> Result<F, Unplanned>
-    ensures { Gives (spec.body_of (body F.shape bytes.now)) result }
+    ensures { Meets (spec.body_of (body F.shape bytes.now)) result }
 {
     match read_body(alloc, bytes) {
         Ok(read) => Ok(read),

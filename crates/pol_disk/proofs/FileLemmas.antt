@@ -1,18 +1,9 @@
 -- Lemmas on the calls of a file.
-use Rattle.std.proofs.Common.{◌≡◌, inl, inr, ⊎_elim, ℕ, ◌+◌, ◌-◌, ◌≤◌, min, List, ◌++◌, length, take, drop, Option, Some, None, IfSome, refl, sym, ap, ◌∙◌, subst, arith, length-drop}
+use Rattle.std.proofs.Common.{◌≡◌, inl, inr, ⊎_elim, ℕ, ◌+◌, ◌-◌, ◌≤◌, min, List, ◌++◌, length, take, drop, Option, Some, None, IfSome, sym, ap, ◌∙◌, subst, arith, length-drop}
 use Rattle.std.proofs.lemmas.List.{length-take, take_at, drop-drop}
 use Rattle.std.proofs.lemmas.Slice.{drop-append-drop}
 use Rattle.std.proofs.Math.Seq.{take-add}
 use Rattle.pol_disk.specs.FileCalls.{OnlyLooks, GivesSome}
-
-pub looks_not : {F : Type 0} (seen : F → Option (List ℕ)) (size : F → Option ℕ) (may_leave : F → List ℕ → Type 0) (clock : F → ℕ) (left_since : F → ℕ → List ℕ → Type 0) (a : F)
-    → OnlyLooks seen size may_leave clock left_since a a
-looks_not seen size may_leave clock left_since a = record {
-  seen_same = refl;
-  size_same = refl;
-  fewer = λ image left. left;
-  time = record { later = omega arith; nothing_else = λ t image within left. inl left; keeps = λ t image within left. left };
-}
 
 -- two looks, one after the other
 pub looks_twice : {F : Type 0} (seen : F → Option (List ℕ)) (size : F → Option ℕ) (may_leave : F → List ℕ → Type 0) (clock : F → ℕ) (left_since : F → ℕ → List ℕ → Type 0) (a b c : F)
@@ -37,12 +28,6 @@ pub record HasRead (seen : Option (List ℕ)) (size : Option ℕ) (at count : �
   pub within : count ≤ length first
   pub no_more : IfSome size (λ size. count ≤ size - at)
   pub bytes : IfSome seen (λ bytes. now ≡ take count (drop at bytes) ++ drop count first)
-
-pub has_read_none : (seen : Option (List ℕ)) (size : Option ℕ) (at : ℕ) (first : List ℕ) → HasRead seen size at 0 first first
-has_read_none None None at first = record { within = omega arith; no_more = tt; bytes = tt }
-has_read_none None (Some size) at first = record { within = omega arith; no_more = omega arith; bytes = tt }
-has_read_none (Some bytes) None at first = record { within = omega arith; no_more = tt; bytes = refl }
-has_read_none (Some bytes) (Some size) at first = record { within = omega arith; no_more = omega arith; bytes = refl }
 
 -- one read more, behind what was read
 more_bytes : (bytes : List ℕ) (at count more : ℕ) (first old new : List ℕ) → count ≤ length bytes - at

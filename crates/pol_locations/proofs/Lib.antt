@@ -1,4 +1,3 @@
-pub mod Joins
 pub mod Lengths
 pub mod Members
 pub mod Prefixes

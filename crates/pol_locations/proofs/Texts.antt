@@ -10,7 +10,7 @@ use Rattle.std.proofs.lemmas.List.Splits.{join_with_byte-slice_split}
 use Rattle.pol_locations.specs.Location.{IsLocation, IsLocationRefusal, IsParseRefusal, IsSegment, is_segment_byte, location_refusal, location_text, parse_refusal, parts, scheme, segments_of, trimmed}
 use Rattle.pol_locations.specs.declared.refused.LocationRefused.{LocationRefused}
 use Rattle.pol_locations.specs.declared.refused.LocationRefused.TheVariants.{BadScheme, EmptySegment, DotSegment, ControlByte, TooLong, OutOfMemory}
-use Rattle.pol_locations.proofs.Joins.{slice_split-join_with_byte}
+use Rattle.pol_types.proofs.Joins.{slice_split-join_with_byte}
 use Rattle.pol_locations.proofs.Segments.{IsLocation-from_refusal, location_refusal-IsLocation}
 
 -- a byte in front of a text stays

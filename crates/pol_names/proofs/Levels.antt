@@ -15,7 +15,7 @@ use Rattle.pol_names.specs.declared.name.NameRefused.TheVariants.{Empty, Long, C
 use Rattle.pol_names.specs.declared.namespace.NamespaceRefused.{NamespaceRefused}
 use Rattle.pol_names.specs.declared.namespace.NamespaceRefused.TheVariants.{TooDeep}
 use Rattle.pol_names.proofs.Refusals.{IsName-from_refusal, name_refusal-IsName}
-use Rattle.pol_names.proofs.Joins.{slice_split-join_with_byte}
+use Rattle.pol_types.proofs.Joins.{slice_split-join_with_byte}
 
 -- levels that are names refuse nothing, so the first that is none stands behind them
 pub level_refusal-append : (place : ℕ) (names levels : List (List ℕ)) → All IsName names → level_refusal place (names ++ levels) ≡ level_refusal (place + length names) levels

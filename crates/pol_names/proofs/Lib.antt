@@ -1,3 +1,2 @@
-pub mod Joins
 pub mod Levels
 pub mod Refusals

@@ -5,10 +5,10 @@ use Rattle.pol_requests.specs.declared.refused.Unplanned.{Unplanned}
 use Rattle.pol_requests.specs.declared.refused.Unplanned.TheVariants.{Refused, OutOfMemory}
 
 -- what the code answers for an expected result: just that, or that memory was wanting
-abbrev pub Gives : {A : Type 0} → Result A RouteRefused → Result A Unplanned → Type 0
-Gives expected (Ok found) = expected ≡ Ok found
-Gives expected (Err (Refused why)) = expected ≡ Err why
-Gives expected (Err OutOfMemory) = ⊤
+abbrev pub Meets : {A : Type 0} → Result A RouteRefused → Result A Unplanned → Type 0
+Meets expected (Ok found) = expected ≡ Ok found
+Meets expected (Err (Refused why)) = expected ≡ Err why
+Meets expected (Err OutOfMemory) = ⊤
 
 -- the refusal is the expected one, or memory was wanting for it
 abbrev pub IsRefused : RouteRefused → Unplanned → Type 0

@@ -1,6 +1,6 @@
 //! What management requests ask for (Apache Polaris Management Service), by their paths and bodies.
 ghost use Rattle.std.specs.Prelude.{◌≡◌};
-ghost use Rattle.pol_requests.specs.Refused.{Gives};
+ghost use Rattle.pol_requests.specs.Refused.{Meets};
 ghost use Rattle.pol_requests.specs.declared.endpoint.Endpoint.TheVariants.{Catalog as OfCatalog, CatalogRole as OfCatalogRole, Principal as OfPrincipal, PrincipalRole as OfPrincipalRole};
 ghost use Rattle.pol_routes.specs.Request.{request_of};
 ghost use Rattle.pol_routes.specs.Requests as spec;
@@ -23,7 +23,7 @@ pub(crate) fn catalog_action(
     asked: CatalogRequest,
     message: &Routed<'_>,
 ) -> Result<Action, Unplanned>
-    ensures { Gives (spec.action_of (request_of message.now) (OfCatalog asked)) result }
+    ensures { Meets (spec.action_of (request_of message.now) (OfCatalog asked)) result }
 {
     match asked {
         CatalogRequest::ListCatalogs => Ok(Action::ListCatalogs),
@@ -60,7 +60,7 @@ pub(crate) fn principal_action(
     asked: PrincipalRequest,
     message: &Routed<'_>,
 ) -> Result<Action, Unplanned>
-    ensures { Gives (spec.action_of (request_of message.now) (OfPrincipal asked)) result }
+    ensures { Meets (spec.action_of (request_of message.now) (OfPrincipal asked)) result }
 {
     match asked {
         PrincipalRequest::ListPrincipals => Ok(Action::ListPrincipals),
@@ -100,7 +100,7 @@ pub(crate) fn principal_role_action(
     asked: PrincipalRoleRequest,
     message: &Routed<'_>,
 ) -> Result<Action, Unplanned>
-    ensures { Gives (spec.action_of (request_of message.now) (OfPrincipalRole asked)) result }
+    ensures { Meets (spec.action_of (request_of message.now) (OfPrincipalRole asked)) result }
 {
     match asked {
         PrincipalRoleRequest::ListPrincipalRoles => Ok(Action::ListPrincipalRoles),
@@ -137,7 +137,7 @@ pub(crate) fn catalog_role_action(
     asked: CatalogRoleRequest,
     message: &Routed<'_>,
 ) -> Result<Action, Unplanned>
-    ensures { Gives (spec.action_of (request_of message.now) (OfCatalogRole asked)) result }
+    ensures { Meets (spec.action_of (request_of message.now) (OfCatalogRole asked)) result }
 {
     let catalog = message.plain(alloc, CATALOG)?;
     on_catalog_roles(alloc, asked, message, catalog)
@@ -151,7 +151,7 @@ fn on_catalog_roles(
     message: &Routed<'_>,
     catalog: Plain,
 ) -> Result<Action, Unplanned>
-    ensures { Gives (spec.on_catalog_roles (request_of message.now) catalog asked) result }
+    ensures { Meets (spec.on_catalog_roles (request_of message.now) catalog asked) result }
 {
     match asked {
         CatalogRoleRequest::ListCatalogRoles => Ok(Action::ListCatalogRoles { catalog }),

@@ -2,7 +2,7 @@
 ghost use Rattle.std.specs.Prelude.{◌≡◌, IsUtf8};
 ghost use Rattle.pol_http.specs.Message.{Message};
 ghost use Rattle.pol_http.specs.Next.{IsMessageAt, LiesWithin};
-ghost use Rattle.pol_requests.specs.Refused.{Gives};
+ghost use Rattle.pol_requests.specs.Refused.{Meets};
 ghost use Rattle.pol_routes.specs.Plan as spec;
 ghost use Rattle.pol_routes.specs.Request.{request_of};
 ghost use Rattle.pol_routes.specs.Route as route;
@@ -46,7 +46,7 @@ pub fn plan(
 ) -> Result<Planned, Unplanned>
     requires { LiesWithin bytes.now head.now body body.end }
     ensures { (message : Message) → IsMessageAt bytes.now head.now body body.end message
-        → Gives (spec.plan_of message) result }
+        → Meets (spec.plan_of message) result }
 {
     let target = head.target.of(bytes);
     let row = row_of(routes, head.method.of(bytes), target)?;
@@ -79,7 +79,7 @@ fn served_plan(
     caller: Caller,
     message: &Routed<'_>,
 ) -> Result<Planned, Unplanned>
-    ensures { Gives (spec.served_plan charge caller (request_of message.now) service) result }
+    ensures { Meets (spec.served_plan charge caller (request_of message.now) service) result }
 {
     match service {
         Service::Built { endpoint, words } => Ok(Planned {

@@ -3,7 +3,7 @@ ghost use Rattle.std.specs.Prelude.{◌≡◌, None, Some, option_map, IfOk};
 ghost use Rattle.std.specs.List.{last_or};
 ghost use Rattle.std.specs.Str.{bytes_eq};
 ghost use Rattle.form_urlencoded.specs.Form.{decode, parse};
-ghost use Rattle.pol_requests.specs.Refused.{Gives};
+ghost use Rattle.pol_requests.specs.Refused.{Meets};
 ghost use Rattle.pol_routes.specs.Form.{values_of};
 ghost use Rattle.pol_routes.specs.Query as spec;
 
@@ -16,7 +16,7 @@ use std::alloc::Global;
 /// The value of a key of a query, if it is there: the last one where there are several. It is unreadable, by the name
 /// of its key, where it isn't UTF-8 once decoded. Other keys and earlier values may be any bytes.
 pub fn query_value(alloc: Global, query: &[u8], key: &str) -> Result<Option<Text>, Unplanned>
-    ensures { Gives (spec.query_value key.now query.now) result }
+    ensures { Meets (spec.query_value key.now query.now) result }
 {
     match last_value(alloc, query, key)? {
         Some(value) => value_text(alloc, value, key),
@@ -53,7 +53,7 @@ fn has_name(alloc: Global, name: &[u8], key: &str) -> Result<bool, OutOfMemory>
 /// The text of a key's value.
 #[tactic(auto, using(pol_requests::proofs::RefusedLemmas::refused), unfolding(crate::specs::Query::readable))]
 fn value_text(alloc: Global, value: &[u8], key: &str) -> Result<Option<Text>, Unplanned>
-    ensures { Gives (spec.readable key.now (Some (decode value.now))) result }
+    ensures { Meets (spec.readable key.now (Some (decode value.now))) result }
 {
     match decoded(alloc, value)? {
         Some(text) => Ok(Some(text)),

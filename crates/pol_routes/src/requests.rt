@@ -1,6 +1,6 @@
 //! What requests ask for, by their paths, queries and bodies: those of the catalogue API (Iceberg REST OpenAPI).
 ghost use Rattle.std.specs.Prelude.{◌≡◌};
-ghost use Rattle.pol_requests.specs.Refused.{Gives};
+ghost use Rattle.pol_requests.specs.Refused.{Meets};
 ghost use Rattle.pol_requests.specs.declared.endpoint.Endpoint.TheVariants.{Content as OfContent, Namespace as OfNamespace};
 ghost use Rattle.pol_routes.specs.Request.{request_of};
 ghost use Rattle.pol_routes.specs.Requests as spec;
@@ -28,7 +28,7 @@ pub(crate) fn action_of(
     endpoint: Endpoint,
     message: &Routed<'_>,
 ) -> Result<Action, Unplanned>
-    ensures { Gives (spec.action_of (request_of message.now) endpoint) result }
+    ensures { Meets (spec.action_of (request_of message.now) endpoint) result }
 {
     match endpoint {
         Endpoint::OpenSession => open_session(alloc, message.body),
@@ -48,7 +48,7 @@ fn content_action(
     asked: ContentRequest,
     message: &Routed<'_>,
 ) -> Result<Action, Unplanned>
-    ensures { Gives (spec.action_of (request_of message.now) (OfContent asked)) result }
+    ensures { Meets (spec.action_of (request_of message.now) (OfContent asked)) result }
 {
     match asked {
         ContentRequest::GetConfig => Ok(Action::GetConfig {
@@ -77,7 +77,7 @@ fn namespace_action(
     asked: NamespaceRequest,
     message: &Routed<'_>,
 ) -> Result<Action, Unplanned>
-    ensures { Gives (spec.action_of (request_of message.now) (OfNamespace asked)) result }
+    ensures { Meets (spec.action_of (request_of message.now) (OfNamespace asked)) result }
 {
     let catalog = message.plain(alloc, PREFIX)?;
     let namespace = message.namespace(alloc)?;
@@ -93,7 +93,7 @@ fn on_namespace(
     catalog: Plain,
     namespace: Namespace,
 ) -> Result<Action, Unplanned>
-    ensures { Gives (spec.on_namespace (request_of message.now) catalog namespace asked) result }
+    ensures { Meets (spec.on_namespace (request_of message.now) catalog namespace asked) result }
 {
     match asked {
         NamespaceRequest::LoadNamespace => Ok(Action::LoadNamespace { catalog, namespace }),
@@ -114,7 +114,7 @@ fn on_namespace(
 /// The catalogue that a query names by the key `warehouse`.
 #[tactic(auto, using(pol_requests::proofs::RefusedLemmas::chained), unfolding(crate::specs::Requests::warehouse))]
 fn warehouse(alloc: Global, target: &[u8]) -> Result<Plain, Unplanned>
-    ensures { Gives (spec.warehouse target.now) result }
+    ensures { Meets (spec.warehouse target.now) result }
 {
     let value = query_value(alloc, query_of(target), "warehouse")?;
     warehouse_of(alloc, value)
@@ -123,7 +123,7 @@ fn warehouse(alloc: Global, target: &[u8]) -> Result<Plain, Unplanned>
 /// The catalogue of a warehouse, which must be there.
 #[tactic(auto, using(pol_requests::proofs::RefusedLemmas::refused), unfolding(crate::specs::Requests::warehouse_of))]
 fn warehouse_of(alloc: Global, value: Option<Text>) -> Result<Plain, Unplanned>
-    ensures { Gives (spec.warehouse_of value) result }
+    ensures { Meets (spec.warehouse_of value) result }
 {
     match value {
         Some(name) => plain_of(alloc, name.as_str(), "warehouse"),
@@ -134,7 +134,7 @@ fn warehouse_of(alloc: Global, value: Option<Text>) -> Result<Plain, Unplanned>
 /// The parent that a query names by the key `parent`, if it names one.
 #[tactic(auto, using(pol_requests::proofs::RefusedLemmas::chained), unfolding(crate::specs::Requests::parent))]
 fn parent(alloc: Global, target: &[u8]) -> Result<Option<Namespace>, Unplanned>
-    ensures { Gives (spec.parent target.now) result }
+    ensures { Meets (spec.parent target.now) result }
 {
     let value = query_value(alloc, query_of(target), "parent")?;
     parent_of(alloc, value)
@@ -143,7 +143,7 @@ fn parent(alloc: Global, target: &[u8]) -> Result<Option<Namespace>, Unplanned>
 /// The parent, where one is named. An empty one is an absent one.
 #[tactic(auto, using(pol_requests::proofs::RefusedLemmas::chained), unfolding(crate::specs::Requests::parent_of))]
 fn parent_of(alloc: Global, value: Option<Text>) -> Result<Option<Namespace>, Unplanned>
-    ensures { Gives (spec.parent_of value) result }
+    ensures { Meets (spec.parent_of value) result }
 {
     let Some(levels) = value else {
         return Ok(None);
@@ -158,7 +158,7 @@ fn parent_of(alloc: Global, value: Option<Text>) -> Result<Option<Namespace>, Un
 /// A session (RFC 6749, section 4.4.2).
 #[tactic(auto, unfolding(crate::specs::Requests::open_session))]
 fn open_session(alloc: Global, body: &[u8]) -> Result<Action, Unplanned>
-    ensures { Gives (spec.open_session body.now) result }
+    ensures { Meets (spec.open_session body.now) result }
 {
     match read_token_form(alloc, body)? {
         Some(form) => Ok(session_of(form)?),

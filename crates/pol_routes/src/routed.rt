@@ -1,5 +1,5 @@
 //! A request whose row of the table is found, and what its path names.
-ghost use Rattle.pol_requests.specs.Refused.{Gives};
+ghost use Rattle.pol_requests.specs.Refused.{Meets};
 ghost use Rattle.pol_routes.specs.Request as spec;
 
 use crate::segment::{namespace_segment, plain_segment, segment_for};
@@ -34,7 +34,7 @@ impl Routed<'_> {
     /// The plain name that the path has for a parameter.
     #[tactic(auto, unfolding(crate::specs::Request::plain))]
     pub(crate) fn plain(&self, alloc: Global, parameter: &[u8]) -> Result<Plain, Unplanned>
-        ensures { Gives (spec.plain parameter.now (spec.request_of self.now)) result }
+        ensures { Meets (spec.plain parameter.now (spec.request_of self.now)) result }
     {
         let path = path_of(self.target);
         plain_segment(alloc, segment_for(path, self.pattern, parameter))
@@ -43,7 +43,7 @@ impl Routed<'_> {
     /// The namespace that the path has.
     #[tactic(auto, unfolding(crate::specs::Request::namespace))]
     pub(crate) fn namespace(&self, alloc: Global) -> Result<Namespace, Unplanned>
-        ensures { Gives (spec.namespace (spec.request_of self.now)) result }
+        ensures { Meets (spec.namespace (spec.request_of self.now)) result }
     {
         let path = path_of(self.target);
         namespace_segment(alloc, segment_for(path, self.pattern, NAMESPACE))

@@ -1,7 +1,7 @@
 //! The segments of a path, as texts and as names (RFC 3986, sections 2.1 and 3.3).
 ghost use Rattle.std.specs.Prelude.{◌≡◌, IfOk};
 ghost use Rattle.percent_encoding.specs.Percent.{percent_decode};
-ghost use Rattle.pol_requests.specs.Refused.{Gives};
+ghost use Rattle.pol_requests.specs.Refused.{Meets};
 ghost use Rattle.pol_routes.specs.Form as form;
 ghost use Rattle.pol_routes.specs.Segment as spec;
 
@@ -49,7 +49,7 @@ fn segment_at(path: &[u8], place: usize) -> &[u8]
 /// The text of a segment. It is unreadable where a `%` isn't followed by two hexadecimal digits, and where it isn't
 /// UTF-8 once decoded.
 pub fn segment_text(alloc: Global, segment: &[u8]) -> Result<Text, Unplanned>
-    ensures { Gives (spec.segment_text segment.now) result }
+    ensures { Meets (spec.segment_text segment.now) result }
 {
     if !has_whole_escapes(segment) {
         return Err(unreadable(alloc, PATH_FIELD));
@@ -63,7 +63,7 @@ pub fn segment_text(alloc: Global, segment: &[u8]) -> Result<Text, Unplanned>
 /// The plain name that a segment is, which is unreadable where it is none.
 #[tactic(auto, using(pol_requests::proofs::RefusedLemmas::chained))]
 pub fn plain_segment(alloc: Global, segment: &[u8]) -> Result<Plain, Unplanned>
-    ensures { Gives (spec.plain_segment segment.now) result }
+    ensures { Meets (spec.plain_segment segment.now) result }
 {
     let text = segment_text(alloc, segment)?;
     plain_of(alloc, text.as_str(), PATH_FIELD)
@@ -72,7 +72,7 @@ pub fn plain_segment(alloc: Global, segment: &[u8]) -> Result<Plain, Unplanned>
 /// The name that a segment is, which is unreadable where it is none.
 #[tactic(auto, using(pol_requests::proofs::RefusedLemmas::chained))]
 pub fn name_segment(alloc: Global, segment: &[u8]) -> Result<Name, Unplanned>
-    ensures { Gives (spec.name_segment segment.now) result }
+    ensures { Meets (spec.name_segment segment.now) result }
 {
     let text = segment_text(alloc, segment)?;
     name_of(alloc, text.as_str())
@@ -82,7 +82,7 @@ pub fn name_segment(alloc: Global, segment: &[u8]) -> Result<Name, Unplanned>
 /// parameter `namespace`). It is unreadable where it is none.
 #[tactic(auto, using(pol_requests::proofs::RefusedLemmas::chained))]
 pub fn namespace_segment(alloc: Global, segment: &[u8]) -> Result<Namespace, Unplanned>
-    ensures { Gives (spec.namespace_segment segment.now) result }
+    ensures { Meets (spec.namespace_segment segment.now) result }
 {
     let text = segment_text(alloc, segment)?;
     namespace_of(alloc, text.as_str(), PATH_FIELD)
@@ -125,7 +125,7 @@ fn decoded_text(alloc: Global, written: &[u8]) -> Result<Option<Text>, OutOfMemo
 /// The plain name that the text of a field is.
 #[tactic(auto, using(pol_requests::proofs::RefusedLemmas::refused), unfolding(crate::specs::Segment::plain_of))]
 pub(crate) fn plain_of(alloc: Global, text: &str, field: &str) -> Result<Plain, Unplanned>
-    ensures { Gives (spec.plain_of field.now text.now) result }
+    ensures { Meets (spec.plain_of field.now text.now) result }
 {
     match Plain::new(alloc, text) {
         Ok(name) => Ok(name),
@@ -137,7 +137,7 @@ pub(crate) fn plain_of(alloc: Global, text: &str, field: &str) -> Result<Plain, 
 /// The name that a text is.
 #[tactic(auto, using(pol_requests::proofs::RefusedLemmas::refused), unfolding(crate::specs::Segment::name_of))]
 fn name_of(alloc: Global, text: &str) -> Result<Name, Unplanned>
-    ensures { Gives (spec.name_of text.now) result }
+    ensures { Meets (spec.name_of text.now) result }
 {
     match Name::new(alloc, text) {
         Ok(name) => Ok(name),
@@ -149,7 +149,7 @@ fn name_of(alloc: Global, text: &str) -> Result<Name, Unplanned>
 /// The namespace whose levels the text of a field has.
 #[tactic(auto, using(pol_requests::proofs::RefusedLemmas::refused), unfolding(crate::specs::Segment::namespace_of))]
 pub(crate) fn namespace_of(alloc: Global, text: &str, field: &str) -> Result<Namespace, Unplanned>
-    ensures { Gives (spec.namespace_of field.now text.now) result }
+    ensures { Meets (spec.namespace_of field.now text.now) result }
 {
     match Namespace::from_segment(alloc, text) {
         Ok(namespace) => Ok(namespace),

@@ -124,13 +124,13 @@ fn scopes_of(alloc: Global, scope: Values) -> Result<Option<Listed<Text>>, OutOf
 {
     match scope {
         Values::Missing => Ok(Some(Listed::from(Vec::new(alloc)))),
-        Values::One(text) => words_of(alloc, text.as_str()),
+        Values::One(text) => scope_words(alloc, text.as_str()),
         Values::Several => Ok(None),
     }
 }
 
 /// The words of a scope, where they are at most `SCOPE_LIMIT`.
-fn words_of(alloc: Global, scope: &str) -> Result<Option<Listed<Text>>, OutOfMemory>
+fn scope_words(alloc: Global, scope: &str) -> Result<Option<Listed<Text>>, OutOfMemory>
     ensures { IfOk result (λ words. words ≡ spec.few_words (spec.scope_words scope.now)) }
 {
     let mut words = Vec::new(alloc);

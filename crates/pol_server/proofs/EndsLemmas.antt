@@ -10,7 +10,7 @@ use Rattle.std.proofs.Math.Seq.{get_or-append_seam}
 use Rattle.std.proofs.lemmas.Bool.{cases_lt}
 use Rattle.std.proofs.lemmas.List.{get_or_append_left, get_or_past, take_all, take-append-drop}
 use Rattle.pol_commands.specs.declared.command.Words4.{Words4}
-use Rattle.pol_server.specs.Ends.{Draws, Ends, Gives}
+use Rattle.pol_server.specs.Ends.{Draws, Ends, GivesPiece}
 use Rattle.pol_server.specs.Serving.{DrawsWords, GivesAll}
 
 -- a count that rose is above every earlier one
@@ -45,7 +45,7 @@ module _ (old now new : Ends) where
   as_drawn ends = record ends { words = new.words; draw_faults = new.draw_faults }
 
   -- one more piece of the text
-  pub front-more : {E : Type 0} (text piece : List ℕ) (count taken : ℕ) → piece ≡ drop count text → GivesFront old now text count → Gives {E = E} now new (Ok taken) piece → taken ≤ length piece → GivesFront old new text (count + taken)
+  pub front-more : {E : Type 0} (text piece : List ℕ) (count taken : ℕ) → piece ≡ drop count text → GivesFront old now text count → GivesPiece {E = E} now new (Ok taken) piece → taken ≤ length piece → GivesFront old new text (count + taken)
   front-more text piece count taken is front gives bound = record {
     within = omega (arith, front.within, bound, length-drop count text, ap length is);
     same = gives.same ∙ ap as_given front.same;
@@ -54,7 +54,7 @@ module _ (old now new : Ends) where
   }
 
   -- the sink failed behind the front
-  pub front-failed : {E F : Type 0} (text piece : List ℕ) (count : ℕ) (error : E) (result : Result Unit F) → IsErr result → GivesFront old now text count → Gives now new (Err error) piece → GivesAll old new text result
+  pub front-failed : {E F : Type 0} (text piece : List ℕ) (count : ℕ) (error : E) (result : Result Unit F) → IsErr result → GivesFront old now text count → GivesPiece now new (Err error) piece → GivesAll old new text result
   front-failed text piece count error (Ok done) fails front gives = cc
   front-failed text piece count error (Err other) fails front gives = record {
     given = take count text;

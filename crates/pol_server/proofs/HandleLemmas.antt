@@ -25,7 +25,7 @@ use Rattle.pol_wire.proofs.StreamsLemmas.{IsShifted-nil}
 use Rattle.pol_wire.specs.Streams.{IsShifted}
 use Rattle.pol_server.specs.Ends.{Ends, Reads}
 use Rattle.pol_server.specs.Serving.{DrawsWords, Handles, IsEntered, text_by}
-use Rattle.pol_server.specs.Turn.{framed, full, is_head, stepped, text_of, undrawn, unplanned, without_memory, words_of}
+use Rattle.pol_server.specs.Turn.{framed, full, is_head, stepped, text_of, undrawn, unplanned, without_memory, four_words}
 use Rattle.pol_server.specs.declared.served.Place.{Place}
 use Rattle.pol_server.specs.declared.served.Place.TheVariants.{Catalogue, NoEntry}
 
@@ -171,7 +171,7 @@ module _ (old new : Ends) (log : Log) (message : Message) (plan : Planned) (mome
 
   module _ (after : Log) (drawn : length words ≡ plan.words) where
     abbrev command : Command
-    command = command_of plan moment (words_of words)
+    command = command_of plan moment (four_words words)
 
     abbrev entry : Entry
     entry = record { number = 0; command = command }
@@ -210,7 +210,7 @@ module _ (old new : Ends) (log : Log) (message : Message) (plan : Planned) (mome
             entry_is = refl;
             entries = refl;
             there = ap (λ history. slice_get history (length log.history)) longer ∙ there;
-            has_room = subst (λ s. s.charged + plan.charge ≤ 2 ^ 30) (sym before) (subst (λ charge. (state_of log).charged + charge ≤ 2 ^ 30) (charge-command plan moment (words_of words)) room);
+            has_room = subst (λ s. s.charged + plan.charge ≤ 2 ^ 30) (sym before) (subst (λ charge. (state_of log).charged + charge ≤ 2 ^ 30) (charge-command plan moment (four_words words)) room);
             answer = text_is ∙ ap (λ s. text_of message (answer_of (reply_of s command))) (sym before);
           };
           from = omega arith;
@@ -243,8 +243,8 @@ module _ (old new : Ends) (log : Log) (message : Message) (plan : Planned) (mome
             entries = refl;
             within = omega (arith, ap (λ log. length log.history) same);
             charged_is = ap (λ s. s.charged) (sym before);
-            full = subst (λ charge. 2 ^ 30 < (state_of log).charged + charge) (charge-command plan moment (words_of words)) over;
-            answer = text_is ∙ ap (λ charge. text_of message (answer_of (Refused (refusal.RunFull (state_of log).charged charge)))) (charge-command plan moment (words_of words));
+            full = subst (λ charge. 2 ^ 30 < (state_of log).charged + charge) (charge-command plan moment (four_words words)) over;
+            answer = text_is ∙ ap (λ charge. text_of message (answer_of (Refused (refusal.RunFull (state_of log).charged charge)))) (charge-command plan moment (four_words words));
           };
           from = omega arith;
           below = omega (arith, ap (λ log. length log.history) same);

@@ -26,7 +26,7 @@ use Rattle.pol_wire.specs.Streams.{IsShifted}
 use Rattle.pol_server.specs.Ends.{Ends}
 use Rattle.pol_server.specs.Laws.{IsByInput, IsKnown, IsUnhindered, OneOutput}
 use Rattle.pol_server.specs.Link.{EndsBy, IsRefusedRest, IsToldBefore, IsUnfinishedRest, ServesLink, refused_text, taken_bound}
-use Rattle.pol_server.specs.Turn.{AnsweredAs, Case, IsAnswered, IsFrom, IsFullAt, IsOrdered, IsRead, IsStepped, IsUnplanned, NoneCloses, Turn, full, low_after, output_of, place_of, stepped, text_of, undrawn, unplanned, without_memory, words_of}
+use Rattle.pol_server.specs.Turn.{AnsweredAs, Case, IsAnswered, IsFrom, IsFullAt, IsOrdered, IsRead, IsStepped, IsUnplanned, NoneCloses, Turn, full, low_after, output_of, place_of, stepped, text_of, undrawn, unplanned, without_memory, four_words}
 use Rattle.pol_server.specs.declared.served.Ending.{Ending}
 use Rattle.pol_server.specs.declared.served.Ending.TheVariants.{Ended, Cut, Closed, ReadFault, WriteFault, Spent, NoMemory}
 use Rattle.pol_server.specs.declared.served.Served.{Served}
@@ -235,7 +235,7 @@ module _ (base : Rows) (number : ℕ) (past new other : List Entry) (moments wor
       let drawn = same-words x.plan y.plan x.moment y.moment plans x.read y.read in
       let fronts = same-front m n at_m at_n in
       let entry : x.entry ≡ y.entry =
-      x.entry_is ∙ (λ i. record { number = number; command = command_of (plans i) (moment i) (words_of (drawn i)) }) ∙ sym y.entry_is in
+      x.entry_is ∙ (λ i. record { number = number; command = command_of (plans i) (moment i) (four_words (drawn i)) }) ∙ sym y.entry_is in
       same-parts a b alike.message (same-moments x.plan y.plan x.moment y.moment x.read y.read) drawn
       (x.entries ∙ ap (λ entry. entry ∷ []) entry ∙ sym y.entries) (case_a ∙ ap stepped (at_m ∙ sym at_n) ∙ sym case_b)
       (x.answer ∙ (λ i. text_of (alike.message i) (answer_of (reply_of (state_at base (fronts i)) (entry i).command))) ∙ sym y.answer)

@@ -34,7 +34,7 @@ pub record Takes {E : Type 0} (old new : Ends) (result : Result ℕ E) (buffer :
   pub count : CountsFaults old.source_faults new.source_faults result
 
 -- the sink took the front of a piece
-pub record Gives {E : Type 0} (old new : Ends) (result : Result ℕ E) (piece : List ℕ) : Type 0 where
+pub record GivesPiece {E : Type 0} (old new : Ends) (result : Result ℕ E) (piece : List ℕ) : Type 0 where
   pub same : new ≡ record old { given = new.given; sink_faults = new.sink_faults }
   pub bytes : WriteAppends old.given new.given result piece
   pub count : CountsFaults old.sink_faults new.sink_faults result

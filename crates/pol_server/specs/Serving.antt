@@ -16,7 +16,7 @@ use Rattle.pol_wire.specs.Faults.{Rises}
 use Rattle.pol_wire.specs.Streams.{IsShifted}
 use Rattle.pol_server.specs.Ends.{Ends}
 use Rattle.pol_server.specs.Link.{EndsLastText, IsRefusedRest, IsRestWithoutMemory, IsUnfinishedRest, MayBeGiven}
-use Rattle.pol_server.specs.Turn.{framed, IsAnswered, IsFrom, IsOrdered, LastCloses, NoneCloses, Turn, failed_draws, failed_in, low_after, output_of, place_of, words_of}
+use Rattle.pol_server.specs.Turn.{framed, IsAnswered, IsFrom, IsOrdered, LastCloses, NoneCloses, Turn, failed_draws, failed_in, low_after, output_of, place_of, four_words}
 use Rattle.pol_server.specs.declared.connection.Connection.{Connection}
 use Rattle.pol_server.specs.declared.connection.Stop.{Stop}
 use Rattle.pol_server.specs.declared.connection.Stop.TheVariants as stop
@@ -42,7 +42,7 @@ pub record DrawsWords {E : Type 0} (old new : Ends) (count : ℕ) (result : Resu
   pub same : new ≡ record old { words = new.words; draw_faults = new.draw_faults }
   pub shifted : IsShifted old.words new.words words
   pub kept : old.draw_faults ≤ new.draw_faults
-  pub drawn : MatchResult result (λ four. (length words ≡ count) × (four ≡ words_of words))
+  pub drawn : MatchResult result (λ four. (length words ≡ count) × (four ≡ four_words words))
       (λ _. (length words < count) × (new.draw_faults < 2 ^ 64 - 1 → old.draw_faults + 1 ≤ new.draw_faults))
 
 -- the bytes of an answer that was made, or of the one that needs no memory

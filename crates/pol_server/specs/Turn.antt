@@ -57,8 +57,8 @@ abbrev pub text_of : Message → Answer → List ℕ
 text_of message answer = answer_text (framed (closes message.head) (is_head message) answer)
 
 -- four words of those that were drawn, with 0 for each that was not
-abbrev pub words_of : List ℕ → Words4
-words_of words = record { a = slice_index words 0; b = slice_index words 1; c = slice_index words 2; d = slice_index words 3 }
+abbrev pub four_words : List ℕ → Words4
+four_words words = record { a = slice_index words 0; b = slice_index words 1; c = slice_index words 2; d = slice_index words 3 }
 
 -- the plan of the message is refused
 pub record IsUnplanned (turn : Turn) : Type 0 where
@@ -100,7 +100,7 @@ module _ (base : Rows) (number : ℕ) (history : List Entry) where
     pub moment : ℕ
     pub entry : Entry
     pub read : IsRead turn plan moment
-    pub entry_is : entry ≡ record { number = number; command = command_of plan moment (words_of turn.words) }
+    pub entry_is : entry ≡ record { number = number; command = command_of plan moment (four_words turn.words) }
     pub entries : turn.entries ≡ entry ∷ []
     pub there : slice_get history place ≡ Some entry
     pub has_room : (state_at base (take place history)).charged + plan.charge ≤ 2 ^ 30

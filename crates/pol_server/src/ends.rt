@@ -1,7 +1,7 @@
 //! The four ends of a link, called as one.
 ghost use Rattle.std.specs.Prelude.{◌≡◌, ◌≢◌, ◌<◌, ◌≤◌, ◌^◌, ℕ, IfOk, length, slice_index};
 ghost use Rattle.std.specs.Io.{ReadsAtMost, WritesAtMost};
-ghost use Rattle.pol_server.specs.Ends.{Draws, Ends, Gives, Reads, Takes, ends_of};
+ghost use Rattle.pol_server.specs.Ends.{Draws, Ends, GivesPiece, Reads, Takes, ends_of};
 ghost use Rattle.pol_server.specs.Serving.{DrawsWords, GivesAll};
 
 use pol_machine::Words4;
@@ -21,7 +21,7 @@ pub(crate) trait Linked {
     fn give(&mut self, piece: &[u8]) -> Result<usize, Failed>
         ensures bound { WritesAtMost result piece.now }
         ensures progress { IfOk result (λ count. 0 < length piece.now → 0 < count) }
-        ensures given { Gives (ends self.old) (ends self.new) result piece.now };
+        ensures given { GivesPiece (ends self.old) (ends self.new) result piece.now };
 
     /// Reads the clock.
     fn now(&mut self) -> u64

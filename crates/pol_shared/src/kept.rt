@@ -4,7 +4,7 @@ ghost use Rattle.pol_state.specs.Sound.{IsSound};
 ghost use Rattle.pol_shared.specs.History.{state_of};
 ghost use Rattle.pol_shared.specs.Stepped.{Steps};
 
-use crate::doing::{answer, enter, full_run, reserve};
+use crate::stages::{answer, enter, full_run, reserve};
 use crate::{Closed, Entry, Render, Stepped};
 use pol_machine::{Command, Decision, State};
 use pol_types::OutOfMemory;

@@ -2,10 +2,10 @@
 #![tactic(auto)]
 
 mod closed;
-mod doing;
 mod entry;
 mod kept;
 mod render;
+mod stages;
 mod stepped;
 
 pub use closed::Closed;

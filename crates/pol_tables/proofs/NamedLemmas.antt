@@ -4,11 +4,11 @@ use Rattle.std.specs.Cmp.{nat_eq_equiv}
 use Rattle.std.specs.List.{find, AllByRecursion}
 use Rattle.std.proofs.lemmas.Bool.{cases_Bool, eq-eqb}
 use Rattle.pol_tables.specs.Facts.{holds}
-use Rattle.pol_tables.specs.Index.{IndexValue, is_noted, number_noted, same_note}
-use Rattle.pol_tables.specs.Named.{note_of, AreNoted, FindsOr, IsMissed, IsMissedFirst, named_row, passing}
+use Rattle.pol_tables.specs.Index.{IndexValue, is_noted, entry_number, same_entry}
+use Rattle.pol_tables.specs.Named.{entry_of, AreNoted, FindsOr, IsMissed, IsMissedFirst, named_row, passing}
 use Rattle.pol_tables.specs.Table.{has_id, knows, row_of, rows_with, rows_without, IdsDiffer}
-use Rattle.pol_tables.specs.contracts.index.Noted.{the_row}
-use Rattle.pol_tables.specs.declared.index.Noted.{Noted}
+use Rattle.pol_tables.specs.contracts.index.IndexEntry.{the_row}
+use Rattle.pol_tables.specs.declared.index.IndexEntry.{IndexEntry}
 use Rattle.pol_tables.proofs.IndexLemmas.{each_at, held_row}
 use Rattle.pol_tables.proofs.ListLemmas.{each-join, each-map, each-push, each-weaken, or_true}
 use Rattle.pol_tables.proofs.SameLemmas.{same-refl}
@@ -55,7 +55,7 @@ FindsOr-weaken key test P Q rows None so holds = so holds
 FindsOr-weaken key test P Q rows (Some row) so holds = holds
 
 module _ {R : Type 0} (key number : R → ℕ) where
-  apart_ids : (id : ℕ) (row : R) → has_id key id row ≡ false → (note_of key number row).id ≢ id
+  apart_ids : (id : ℕ) (row : R) → has_id key id row ≡ false → (entry_of key number row).id ≢ id
   apart_ids id row apart is = true≢false (sym (eq-eqb id (key row) (sym is)) ∙ apart)
 
   pub AreNoted-nil : (index : IndexValue) → AreNoted key number index []
@@ -63,30 +63,30 @@ module _ {R : Type 0} (key number : R → ℕ) where
   AreNoted-nil index = tt
 
   -- an index that notes alike serves alike
-  pub AreNoted-alike : (index later : IndexValue) (rows : List R) → ((noted : Noted) → is_noted noted later ≡ is_noted noted index) → AreNoted key number index rows → AreNoted key number later rows
+  pub AreNoted-alike : (index later : IndexValue) (rows : List R) → ((noted : IndexEntry) → is_noted noted later ≡ is_noted noted index) → AreNoted key number index rows → AreNoted key number later rows
   unfolding AreNoted
   AreNoted-alike index later rows alike noted =
-      each-weaken (λ row. is_noted (note_of key number row) index ≡ true) (λ row. is_noted (note_of key number row) later ≡ true) rows (λ row there. alike (note_of key number row) ∙ there) noted
+      each-weaken (λ row. is_noted (entry_of key number row) index ≡ true) (λ row. is_noted (entry_of key number row) later ≡ true) rows (λ row there. alike (entry_of key number row) ∙ there) noted
 
   -- a row is put once the name of its id is forgotten and its own is noted
   pub AreNoted-put : (row : R) (rows : List R) (index forgotten later : IndexValue) → AreNoted key number index rows
-      → ((noted : Noted) → noted.id ≢ key row → is_noted noted forgotten ≡ is_noted noted index)
-      → ((other : Noted) → is_noted other later ≡ (same_note other (note_of key number row) || is_noted other forgotten))
+      → ((noted : IndexEntry) → noted.id ≢ key row → is_noted noted forgotten ≡ is_noted noted index)
+      → ((other : IndexEntry) → is_noted other later ≡ (same_entry other (entry_of key number row) || is_noted other forgotten))
       → AreNoted key number later (rows_with key row rows)
   unfolding AreNoted
   AreNoted-put row rows index forgotten later noted forgets notes =
-      each-rows_with key (λ kept. is_noted (note_of key number kept) index ≡ true) (λ kept. is_noted (note_of key number kept) later ≡ true) row rows noted
-      (λ kept there apart. notes (note_of key number kept) ∙ ap (λ b. same_note (note_of key number kept) (note_of key number row) || b) (forgets (note_of key number kept) (apart_ids (key row) kept apart) ∙ there) ∙ or_true (same_note (note_of key number kept) (note_of key number row)))
-      (notes (note_of key number row) ∙ ap (λ b. b || is_noted (note_of key number row) forgotten) (same-refl the_row.coded (note_of key number row)))
+      each-rows_with key (λ kept. is_noted (entry_of key number kept) index ≡ true) (λ kept. is_noted (entry_of key number kept) later ≡ true) row rows noted
+      (λ kept there apart. notes (entry_of key number kept) ∙ ap (λ b. same_entry (entry_of key number kept) (entry_of key number row) || b) (forgets (entry_of key number kept) (apart_ids (key row) kept apart) ∙ there) ∙ or_true (same_entry (entry_of key number kept) (entry_of key number row)))
+      (notes (entry_of key number row) ∙ ap (λ b. b || is_noted (entry_of key number row) forgotten) (same-refl the_row.coded (entry_of key number row)))
 
   -- a row is taken away once the name of its id is forgotten
   pub AreNoted-take : (id : ℕ) (rows : List R) (index forgotten : IndexValue) → AreNoted key number index rows
-      → ((noted : Noted) → noted.id ≢ id → is_noted noted forgotten ≡ is_noted noted index)
+      → ((noted : IndexEntry) → noted.id ≢ id → is_noted noted forgotten ≡ is_noted noted index)
       → AreNoted key number forgotten (rows_without key id rows)
   unfolding AreNoted
   AreNoted-take id rows index forgotten noted forgets =
-      each-rows_without key (λ kept. is_noted (note_of key number kept) index ≡ true) (λ kept. is_noted (note_of key number kept) forgotten ≡ true) id rows noted
-      (λ kept there apart. forgets (note_of key number kept) (apart_ids id kept apart) ∙ there)
+      each-rows_without key (λ kept. is_noted (entry_of key number kept) index ≡ true) (λ kept. is_noted (entry_of key number kept) forgotten ≡ true) id rows noted
+      (λ kept there apart. forgets (entry_of key number kept) (apart_ids id kept apart) ∙ there)
 
   module _ (test : R → Bool) (rows : List R) where
     -- a row that is found under an id and passes the test is its row
@@ -98,30 +98,30 @@ module _ {R : Type 0} (key number : R → ℕ) where
     missed_row id row found fails_ = ap (passing key test) (sym found) ∙ ap (λ b. cond b (Some row) None) fails_
 
     -- where the first id of the name's number and all others miss, no row has the name
-    module _ (index : IndexValue) (name : ℕ) (agree : (row : R) → test row ≡ true → number row ≡ name) (differ : IdsDiffer key rows) (firsts_differ : IdsDiffer number_noted index.firsts) where
-      abbrev Misses : Noted → Type 0
+    module _ (index : IndexValue) (name : ℕ) (agree : (row : R) → test row ≡ true → number row ≡ name) (differ : IdsDiffer key rows) (firsts_differ : IdsDiffer entry_number index.firsts) where
+      abbrev Misses : IndexEntry → Type 0
       Misses noted = IsMissed key test rows noted
 
-      abbrev MissesFirst : Option Noted → Type 0
+      abbrev MissesFirst : Option IndexEntry → Type 0
       MissesFirst found = IsMissedFirst key test rows found
 
       missed_by : (row : R) → row_of key (key row) rows ≡ Some row → test row ≡ true → named_row key test rows (key row) ≡ None → ⊥
       missed_by row own passes missed =
           let contrary : None ≡ Some row = sym missed ∙ ap (passing key test) own ∙ ap (λ b. cond b (Some row) None) passes in cc
 
-      fails : MissesFirst (row_of number_noted name index.firsts) → AllByRecursion Misses index.others → (row : R) → row_of key (key row) rows ≡ Some row → is_noted (note_of key number row) index ≡ true → test row ≡ false
+      fails : MissesFirst (row_of entry_number name index.firsts) → AllByRecursion Misses index.others → (row : R) → row_of key (key row) rows ≡ Some row → is_noted (entry_of key number row) index ≡ true → test row ≡ false
       fails first others row own noted = elim (cases_Bool (test row)) [
         | inr no_ ↦ no_
-        | inl passes ↦ elim (cases_Bool (holds the_row.coded (note_of key number row) index.firsts)) [
+        | inl passes ↦ elim (cases_Bool (holds the_row.coded (entry_of key number row) index.firsts)) [
           | inl there ↦
-              let found = ap (λ n. row_of number_noted n index.firsts) (sym (agree row passes)) ∙ held_row the_row.coded number_noted (note_of key number row) index.firsts firsts_differ there in
+              let found = ap (λ n. row_of entry_number n index.firsts) (sym (agree row passes)) ∙ held_row the_row.coded entry_number (entry_of key number row) index.firsts firsts_differ there in
               absurd (missed_by row own passes (subst MissesFirst found first))
           | inr away ↦
-              absurd (missed_by row own passes (each_at the_row.coded Misses (note_of key number row) index.others others (sym (ap (λ b. b || holds the_row.coded (note_of key number row) index.others) away) ∙ noted)))
+              absurd (missed_by row own passes (each_at the_row.coded Misses (entry_of key number row) index.others others (sym (ap (λ b. b || holds the_row.coded (entry_of key number row) index.others) away) ∙ noted)))
         ]
       ]
 
-      pub Finds-none : AreNoted key number index rows → MissesFirst (row_of number_noted name index.firsts) → AllByRecursion Misses index.others → find test rows ≡ None
+      pub Finds-none : AreNoted key number index rows → MissesFirst (row_of entry_number name index.firsts) → AllByRecursion Misses index.others → find test rows ≡ None
       unfolding AreNoted
       Finds-none noted first others =
-          find-none test rows (each-join (λ row. row_of key (key row) rows ≡ Some row) (λ row. is_noted (note_of key number row) index ≡ true) (λ row. test row ≡ false) rows (fails first others) (each-own key rows differ) noted)
+          find-none test rows (each-join (λ row. row_of key (key row) rows ≡ Some row) (λ row. is_noted (entry_of key number row) index ≡ true) (λ row. test row ≡ false) rows (fails first others) (each-own key rows differ) noted)

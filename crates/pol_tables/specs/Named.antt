@@ -3,16 +3,16 @@ use Rattle.std.specs.Prelude.{◌≡◌, ℕ, Bool, true, List, Option, Some, No
 use Rattle.std.specs.List.{find, AllByRecursion}
 use Rattle.pol_tables.specs.Index.{IndexValue, is_noted}
 use Rattle.pol_tables.specs.Table.{row_of}
-use Rattle.pol_tables.specs.declared.index.Noted.{Noted}
+use Rattle.pol_tables.specs.declared.index.IndexEntry.{IndexEntry}
 
 module _ {R : Type 0} (key number : R → ℕ) where
   -- the row's id under the number of its name
-  abbrev pub note_of : R → Noted
-  note_of row = record { number = number row; id = key row }
+  abbrev pub entry_of : R → IndexEntry
+  entry_of row = record { number = number row; id = key row }
 
   -- the index has each row's id under the number of its name; ids that no row has may be left there
   unfoldable pub AreNoted : IndexValue → List R → Type 0
-  AreNoted index rows = AllByRecursion (λ row. is_noted (note_of row) index ≡ true) rows
+  AreNoted index rows = AllByRecursion (λ row. is_noted (entry_of row) index ≡ true) rows
 
 module _ {R : Type 0} (key : R → ℕ) (test : R → Bool) where
   -- what was found, where it passes the test
@@ -25,10 +25,10 @@ module _ {R : Type 0} (key : R → ℕ) (test : R → Bool) where
   named_row rows id = passing (row_of key id rows)
 
   -- the row of an id under a number is not there, or fails the test; and that of the first such id
-  abbrev pub IsMissed : List R → Noted → Type 0
+  abbrev pub IsMissed : List R → IndexEntry → Type 0
   IsMissed rows noted = named_row rows noted.id ≡ None
 
-  abbrev pub IsMissedFirst : List R → Option Noted → Type 0
+  abbrev pub IsMissedFirst : List R → Option IndexEntry → Type 0
   IsMissedFirst rows None = Unit {0}
   IsMissedFirst rows (Some noted) = IsMissed rows noted
 

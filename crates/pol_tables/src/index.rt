@@ -1,29 +1,29 @@
 ghost use Rattle.std.specs.Prelude.{◌≡◌, ◌<◌, ◌≤◌, ◌+◌, ◌&&◌, ◌||◌, [], not, IsOk, OnOk, option_copied};
 ghost use Rattle.std.proofs.Common.{rules};
 ghost use Rattle.pol_types.specs.Exact.{exactness};
-ghost use Rattle.pol_tables.specs.Index.{IndexValue, is_first, is_noted, number_noted, same_note};
+ghost use Rattle.pol_tables.specs.Index.{IndexValue, is_first, is_noted, entry_number, same_entry};
 ghost use Rattle.pol_tables.specs.Table.{row_of, IdsDiffer};
-ghost use Rattle.pol_tables.specs.declared.index.Noted.{Noted};
+ghost use Rattle.pol_tables.specs.declared.index.IndexEntry.{IndexEntry};
 
 use crate::{Fact, Facts, Keyed, Table};
 use pol_types::{Exact, OutOfMemory};
 use std::alloc::{AllocError, Global};
 use std::marker::Model;
 
-/// That an id may stand under a number.
+/// An id under the number of a name.
 #[derive(Clone, Debug, Drop, PartialEq, Eq, Hash)]
-pub struct Noted {
+pub struct IndexEntry {
     pub number: u64,
     pub id: u64,
 }
 
-impl Exact for Noted {
+impl Exact for IndexEntry {
     ghost clones_exactly = { Prim.search rules };
 
     ghost compares_exactly = { Prim.grind exactness };
 }
 
-impl Keyed for Noted {
+impl Keyed for IndexEntry {
     ghost key = { λ noted. noted.number };
 
     fn key(&self) -> u64 {
@@ -31,8 +31,8 @@ impl Keyed for Noted {
     }
 }
 
-impl Fact for Noted {
-    ghost use Rattle.pol_tables.specs.contracts.index.Noted.{the_row};
+impl Fact for IndexEntry {
+    ghost use Rattle.pol_tables.specs.contracts.index.IndexEntry.{the_row};
 
     ghost coded = { the_row.coded };
 }
@@ -42,8 +42,8 @@ impl Fact for Noted {
 /// listed. Contracts see both, and the room: how many more ids can be noted without taking memory.
 #[derive(Debug, Drop)]
 pub struct Index {
-    firsts: Table<Noted>,
-    others: Facts<Noted>,
+    firsts: Table<IndexEntry>,
+    others: Facts<IndexEntry>,
 }
 
 impl Model for Index {
@@ -72,16 +72,16 @@ impl Index {
     }
 
     /// An id that is noted under this number: the first, until that one is forgotten, and then the next to be noted.
-    pub fn first(&self, number: u64) -> Option<&Noted>
-        ensures value { option_copied result ≡ row_of number_noted number self.now.firsts }
-        ensures differ { IdsDiffer number_noted self.now.firsts }
+    pub fn first(&self, number: u64) -> Option<&IndexEntry>
+        ensures value { option_copied result ≡ row_of entry_number number self.now.firsts }
+        ensures differ { IdsDiffer entry_number self.now.firsts }
     {
         let _firsts = self.firsts.rows();
         self.firsts.find(number)
     }
 
     /// The ids that are noted beside a first one, under any number.
-    pub fn others(&self) -> &[Noted]
+    pub fn others(&self) -> &[IndexEntry]
         ensures { result.now ≡ self.now.others }
     {
         self.others.facts().as_slice()
@@ -101,9 +101,10 @@ impl Index {
     }
 
     /// Notes an id under a number, and takes no memory.
-    pub fn note(&mut self, noted: Noted)
+    pub fn note(&mut self, noted: IndexEntry)
         requires { 0 < self.old.room }
-        ensures noted { (other : Noted) → is_noted other self.new ≡ (same_note other noted || is_noted other self.old) }
+        ensures noted { (other : IndexEntry) → is_noted other self.new
+            ≡ (same_entry other noted || is_noted other self.old) }
         ensures room { self.old.room ≤ self.new.room + 1 }
     {
         if self.firsts.find(noted.number).is_none() {
@@ -114,9 +115,9 @@ impl Index {
     }
 
     /// Forgets an id under a number, and takes no memory.
-    pub fn forget(&mut self, noted: &Noted)
-        ensures noted { (other : Noted) → is_noted other self.new
-            ≡ (not (same_note other noted.now) && is_noted other self.old) }
+    pub fn forget(&mut self, noted: &IndexEntry)
+        ensures noted { (other : IndexEntry) → is_noted other self.new
+            ≡ (not (same_entry other noted.now) && is_noted other self.old) }
         ensures room { self.old.room ≤ self.new.room }
     {
         self.others.take(noted);
@@ -126,9 +127,9 @@ impl Index {
     }
 
     /// Whether this id is the first that is noted under its number.
-    fn has_first(&self, noted: &Noted) -> bool
+    fn has_first(&self, noted: &IndexEntry) -> bool
         ensures first { result ≡ is_first noted.now self.now }
-        ensures differ { IdsDiffer number_noted self.now.firsts }
+        ensures differ { IdsDiffer entry_number self.now.firsts }
     {
         match self.first(noted.number) {
             Some(first) => first == noted,

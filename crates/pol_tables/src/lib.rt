@@ -14,7 +14,7 @@ mod table;
 
 pub use fact::Fact;
 pub use facts::Facts;
-pub use index::{Index, Noted};
+pub use index::{Index, IndexEntry};
 pub use keyed::Keyed;
 pub use named::{NameOf, Named};
 pub use named_table::NamedTable;

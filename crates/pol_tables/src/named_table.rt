@@ -1,12 +1,12 @@
 ghost use Rattle.std.specs.Prelude.{◌≡◌, ◌↔◌, ◌<◌, ◌≤◌, ◌+◌, ◌≢◌, [], length, None, IsTrue, IsOk, OnOk, option_copied};
 ghost use Rattle.std.specs.Slice.Iter.{iter_rest};
 ghost use Rattle.std.specs.List.{AllByRecursion};
-ghost use Rattle.pol_tables.specs.Index.{is_noted, number_noted};
+ghost use Rattle.pol_tables.specs.Index.{is_noted, entry_number};
 ghost use Rattle.pol_tables.specs.Named.{Finds, FindsOr, IsMissed, IsMissedFirst, named_row};
 ghost use Rattle.pol_tables.specs.Table.{row_of, rows_with, rows_without, IdsDiffer};
-ghost use Rattle.pol_tables.specs.declared.index.Noted.{Noted};
+ghost use Rattle.pol_tables.specs.declared.index.IndexEntry.{IndexEntry};
 
-use crate::{Index, NameOf, Named, Noted, Table};
+use crate::{Index, IndexEntry, NameOf, Named, Table};
 use pol_types::OutOfMemory;
 use std::alloc::{AllocError, Global};
 use std::marker::Model;
@@ -101,7 +101,7 @@ impl<R: Named> NamedTable<R> {
     {
         let id = row.key();
         forget(&self.table, &mut self.index, id);
-        self.index.note(Noted {
+        self.index.note(IndexEntry {
             number: row.number(),
             id,
         });
@@ -137,8 +137,8 @@ fn first_named<'a, R: Named, N: NameOf<R>>(
 ) -> Option<&'a R>
     ensures found { FindsOr R.key (N.names name.now)
         (IsMissedFirst R.key (N.names name.now) table.now.rows
-        (row_of number_noted (N.numbered name.now) index.now.firsts)) table.now.rows (option_copied result) }
-    ensures differ { IdsDiffer number_noted index.now.firsts }
+        (row_of entry_number (N.numbered name.now) index.now.firsts)) table.now.rows (option_copied result) }
+    ensures differ { IdsDiffer entry_number index.now.firsts }
 {
     match index.first(name.number()) {
         Some(noted) => named_by(table, name, noted.id),
@@ -149,7 +149,7 @@ fn first_named<'a, R: Named, N: NameOf<R>>(
 /// The row of one of the other ids, where it has the name.
 fn other_named<'a, R: Named, N: NameOf<R>>(
     table: &'a Table<R>,
-    others: &[Noted],
+    others: &[IndexEntry],
     name: &N,
 ) -> Option<&'a R>
     ensures { FindsOr R.key (N.names name.now)
@@ -178,11 +178,11 @@ fn named_by<'a, R: Named, N: NameOf<R>>(table: &'a Table<R>, name: &N, id: u64) 
 
 /// Forgets the name of the row of this id.
 fn forget<R: Named>(table: &Table<R>, index: &mut Index, id: u64)
-    ensures others { (noted : Noted) → noted.id ≢ id → is_noted noted index.new ≡ is_noted noted index.old }
+    ensures others { (noted : IndexEntry) → noted.id ≢ id → is_noted noted index.new ≡ is_noted noted index.old }
     ensures room { index.old.room ≤ index.new.room }
 {
     if let Some(row) = table.find(id) {
-        index.forget(&Noted {
+        index.forget(&IndexEntry {
             number: row.number(),
             id,
         });

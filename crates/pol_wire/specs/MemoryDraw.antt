@@ -13,8 +13,8 @@ abbrev pub first_draw : List ℕ → List ℕ → DrawState
 first_draw words failing = record { words = words; drawn = 0; calls = first_log failing }
 
 -- the words from the next one on. No call gives what stands here past the last word
-abbrev pub words_of : DrawState → ℕ → ℕ
-words_of s n = slice_index s.words (s.drawn + n)
+abbrev pub words_left : DrawState → ℕ → ℕ
+words_left s n = slice_index s.words (s.drawn + n)
 
 -- the word that the next call gives, or None where it fails: a call that is to fail, or one past
 -- the last word

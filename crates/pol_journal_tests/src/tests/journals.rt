@@ -359,8 +359,8 @@ fn repair_of(journal: &mut Journal<MemoryDisk>) -> Option<Result<(), JournalRefu
     }
 }
 
-// Appends to a new journal and repairs, where calls 14 and `failing` of its disk fail: what the repair answered, and the
-// ranks of the images then.
+// Appends to a new journal and repairs, where calls 14 and `failing` of its disk fail: what the repair answered, and
+// the ranks of the images then.
 type Repaired = (Result<(), JournalRefused>, Ranks);
 
 fn repaired(alloc: Global, failing: u64) -> Option<Repaired> {
@@ -405,8 +405,8 @@ fn append_many(journal: &mut Journal<HollowDisk>, body: &[u8]) -> Result<(), Jou
     Ok(())
 }
 
-// What three appends answer to a journal of nearly 2^40 bytes over a hollow disk: one that goes a byte too far, one that
-// goes to the end, and one behind that. And the length of the disk.
+// What three appends answer to a journal of nearly 2^40 bytes over a hollow disk: one that goes a byte too far, one
+// that goes to the end, and one behind that. And the length of the disk.
 type Answers = (
     Result<(), JournalRefused>,
     Result<(), JournalRefused>,

@@ -6,11 +6,16 @@ use std::test::Fail;
 
 /// A request that opens a session.
 const OPENS: &str =
-    "POST /api/catalog/v1/oauth/tokens HTTP/1.1\r\nhost: l\r\ncontent-length: 65\r\n\r\ngrant_type=client_credentials&client_id=root&client_secret=s3cret";
+    "POST /api/catalog/v1/oauth/tokens HTTP/1.1\r\nhost: l\r\ncontent-length: 65\r\n\r\n\
+    grant_type=client_credentials&client_id=root&client_secret=s3cret";
 
 /// A request that opens a session, one that asks for nothing, and one more that opens a session.
 const THREE: &str =
-    "POST /api/catalog/v1/oauth/tokens HTTP/1.1\r\nhost: l\r\ncontent-length: 65\r\n\r\ngrant_type=client_credentials&client_id=root&client_secret=s3cretGET /objects/b/x HTTP/1.1\r\n\r\nPOST /api/catalog/v1/oauth/tokens HTTP/1.1\r\nhost: l\r\ncontent-length: 65\r\n\r\ngrant_type=client_credentials&client_id=root&client_secret=s3cret";
+    "POST /api/catalog/v1/oauth/tokens HTTP/1.1\r\nhost: l\r\ncontent-length: 65\r\n\r\n\
+    grant_type=client_credentials&client_id=root&client_secret=s3cret\
+    GET /objects/b/x HTTP/1.1\r\n\r\n\
+    POST /api/catalog/v1/oauth/tokens HTTP/1.1\r\nhost: l\r\ncontent-length: 65\r\n\r\n\
+    grant_type=client_credentials&client_id=root&client_secret=s3cret";
 
 /// The bytes of a link; the call of its source, its sink and its draw that is to fail, counted from 1, or 0; how it
 /// ends; and the places of its requests.

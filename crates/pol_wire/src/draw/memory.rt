@@ -1,7 +1,7 @@
 ghost use Rattle.std.specs.Prelude.{◌≡◌, ℕ, Some};
 ghost use Rattle.std.specs.Result.{result_ok};
 ghost use Rattle.pol_wire.specs.Faults.{CountsFaults};
-ghost use Rattle.pol_wire.specs.MemoryDraw.{first_draw, next_word, words_of, draw_after};
+ghost use Rattle.pol_wire.specs.MemoryDraw.{first_draw, next_word, words_left, draw_after};
 ghost use Rattle.pol_wire.specs.Streams.{GivesNext};
 
 use crate::calls::Calls;
@@ -47,12 +47,12 @@ impl MemoryDraw {
 }
 
 impl Draw for MemoryDraw {
-    ghost words = { λ d. Some (words_of d) };
+    ghost words = { λ d. Some (words_left d) };
 
     ghost faults = { λ d. d.calls.faults };
 
     fn word(&mut self) -> Result<u64, Failed>
-        ensures word { GivesNext (Some (words_of self.old)) (Some (words_of self.new)) result }
+        ensures word { GivesNext (Some (words_left self.old)) (Some (words_left self.new)) result }
         ensures count { CountsFaults self.old.calls.faults self.new.calls.faults result }
 
         ensures answer { result_ok result ≡ next_word self.old }

@@ -1,7 +1,7 @@
 use Rattle.std.proofs.Common.{Err, sym, subst, ◌∙◌, ap, codes}
 use Rattle.std.specs.Option.{option_map}
 use Rattle.std.specs.Str.{bytes_eq}
-use Rattle.pol_requests.specs.Refused.{Gives}
+use Rattle.pol_requests.specs.Refused.{Meets}
 use Rattle.pol_routes.specs.Plan.{plan_of}
 use Rattle.pol_server.specs.Serving.{Handles}
 use Rattle.pol_server.specs.declared.served.Place.TheVariants.{NoEntry}
@@ -19,7 +19,7 @@ returns-in-Err-Refused g c = λ message at.
     let ends = g.L.Linked.ends c.args.link.now in
     subst (λ text. Handles ends ends c.args.catalogue.now c.args.catalogue.now message NoEntry (option_map (λ text. text.items) text)) (sym c.ok.ensures.value)
     (handles-refusal ends c.args.catalogue.now message c.in-Err-Refused.refused c.refusal_text.result c.framing_of-framing.result.close c.framing_of-framing.result.head_only
-    (subst (λ told. Gives (plan_of message) (Err told)) c.in-Err-Refused.field-0-is (c.in-Err-Refused.ensures message at))
+    (subst (λ told. Meets (plan_of message) (Err told)) c.in-Err-Refused.field-0-is (c.in-Err-Refused.ensures message at))
     (c.framing_of-framing.ensures.close ∙ at.head_is.closes)
     (c.framing_of-framing.ensures.head_only ∙ ap (λ method. bytes_eq method (codes "HEAD")) at.head_is.method)
     c.refusal_text.ensures)

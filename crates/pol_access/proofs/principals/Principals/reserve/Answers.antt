@@ -2,7 +2,7 @@ use Rattle.std.proofs.Common.{◌||◌}
 use Rattle.pol_access.specs.Access.{principal_id}
 use Rattle.pol_access.specs.Names.{client_number}
 use Rattle.pol_tables.specs.Facts.{holds}
-use Rattle.pol_tables.specs.contracts.index.Noted.{the_row}
+use Rattle.pol_tables.specs.contracts.index.IndexEntry.{the_row}
 use Rattle.pol_tables.proofs.NamedLemmas.{AreNoted-alike}
 use Rattle.pol_access.proofs.principals.Principals.reserve.Goals as goal
 

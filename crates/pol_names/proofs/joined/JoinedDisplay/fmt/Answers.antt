@@ -2,7 +2,7 @@ use Rattle.std.proofs.Common.{◌≡◌, arith, ◌++◌, ◌∷◌, refl, sym, 
 use Rattle.std.proofs.Output.{has_written_append, has_written_of_eq}
 use Rattle.std.proofs.lemmas.List.{take_all}
 use Rattle.std.specs.List.{flat_map, join_with_byte}
-use Rattle.pol_names.proofs.Joins.{join_with_byte-flat_map}
+use Rattle.pol_types.proofs.Joins.{join_with_byte-flat_map}
 use Rattle.pol_names.proofs.joined.JoinedDisplay.fmt.Goals as goal
 
 pub returns-clause-writes : goal.returns-clause-writes

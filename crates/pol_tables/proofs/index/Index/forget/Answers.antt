@@ -1,6 +1,6 @@
 use Rattle.std.proofs.Common.{ap, sym, ◌||◌, ◌∙◌}
 use Rattle.pol_tables.specs.Facts.{holds}
-use Rattle.pol_tables.specs.contracts.index.Noted.{the_row}
+use Rattle.pol_tables.specs.contracts.index.IndexEntry.{the_row}
 use Rattle.pol_tables.proofs.IndexLemmas.{forgotten-first, forgotten-other}
 use Rattle.pol_tables.proofs.index.Index.forget.Goals as goal
 

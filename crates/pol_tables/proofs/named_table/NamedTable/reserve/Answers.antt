@@ -1,6 +1,6 @@
 use Rattle.std.proofs.Common.{◌||◌}
 use Rattle.pol_tables.specs.Facts.{holds}
-use Rattle.pol_tables.specs.contracts.index.Noted.{the_row}
+use Rattle.pol_tables.specs.contracts.index.IndexEntry.{the_row}
 use Rattle.pol_tables.proofs.NamedLemmas.{AreNoted-alike}
 use Rattle.pol_tables.proofs.named_table.NamedTable.reserve.Goals as goal
 

@@ -1,4 +1,4 @@
-//! The parts of a step, over the state and the history themselves.
+//! The stages of a step, over the state and the history themselves.
 ghost use Rattle.std.specs.Prelude.{ℕ, ◌≡◌, ◌≢◌, ◌<◌, ◌≤◌, ◌+◌, ◌^◌, [], ◌∷◌, ◌++◌, length, vec_len, vec_capacity, IfOk, MatchOption, OnOk};
 ghost use Rattle.pol_state.specs.Applied.{HasRoom};
 ghost use Rattle.pol_state.specs.Changes.{changes_between};

@@ -3,7 +3,7 @@ use Rattle.std.proofs.lemmas.Iterator.Consumers.{YieldsList-turn, YieldsList-end
 use Rattle.std.proofs.lemmas.Iterator.Splits.{YieldsList-from_str_split}
 use Rattle.std.proofs.lemmas.List.{length_push}
 use Rattle.pol_routes.proofs.ScopeLemmas.{all_words, word_too_many, word_more}
-use Rattle.pol_routes.proofs.token_form.words_of.Goals as goal
+use Rattle.pol_routes.proofs.token_form.scope_words.Goals as goal
 
 pub returns-then-len-eq-SCOPE_LIMIT : goal.returns-then-len-eq-SCOPE_LIMIT
 returns-then-len-eq-SCOPE_LIMIT c =

@@ -3,7 +3,7 @@ use Rattle.pol_rules.specs.Rules.{time_of}
 use Rattle.pol_state.specs.Sound.{IsSound}
 use Rattle.pol_machine.proofs.DecisionLemmas.{next-sound}
 use Rattle.pol_shared.proofs.EntryLemmas.{changes-enter}
-use Rattle.pol_shared.proofs.doing.enter.Goals as goal
+use Rattle.pol_shared.proofs.stages.enter.Goals as goal
 
 pub apply-requires-clause-sound : goal.apply-requires-clause-sound
 apply-requires-clause-sound c =
