@@ -30,10 +30,9 @@ WAREHOUSES = ["", "warehouse", "x=1&warehouse=lake", "w%61rehouse=lake", "wareho
 PARENTS = ["", "parent=", "parent=%ff", "parent=%1F"]
 SCOPES = ["ALL", "readers", "readers", "writers", "service_admin", "", "no one"]
 
-# How often an action is asked for, where it is not as often as most.
-WEIGHTS = {None: 0.15, "open_session": 6, "create_namespace": 6, "load_namespace": 5, "add_grant": 8}
-WEIGHTS |= {"add_join": 4, "add_member": 4, "update_properties": 4, "drop_catalog": 0.6, "drop_principal": 0.7}
-WEIGHTS |= {"drop_principal_role": 0.7, "drop_catalog_role": 0.7, "end_member": 1, "end_join": 1, "rotate": 0.7}
+# How often a request of a method is asked, and one that isn't built.
+WEIGHTS = {"GET": 2, "HEAD": 2, "POST": 4, "PUT": 5, "DELETE": 0.7}
+NOT_BUILT = 0.15
 
 
 class RandomRequests:
@@ -52,9 +51,10 @@ class RandomRequests:
 
     def next(self):
         """The method, target, fields, content and bearer of a request."""
-        method, path, action = self.random.choices(ROUTES, [WEIGHTS.get(row[2], 2) for row in ROUTES])[0]
+        weights = [WEIGHTS[row[0]] if row[2] else NOT_BUILT for row in ROUTES]
+        method, path, action, *form = self.random.choices(ROUTES, weights)[0]
         target = self.target_of(path, action)
-        content = self.content_of(action)
+        content = self.content_of(action, *form)
         if self.seldom(0.02):
             method = self.random.choice(["GET", "POST", "PUT", "DELETE", "HEAD", "PATCH", "get"])
         fields, bearer = self.bearer()
@@ -100,15 +100,21 @@ class RandomRequests:
 
     # Contents
 
-    def content_of(self, action):
+    def content_of(self, action, form=None):
         if action == "open_session":
-            return self.form()
-        body = getattr(self, f"{action}_body", None)
-        if body is None:
+            return self.credentials()
+        if form is None:
             return b"xx" if self.seldom() else b""
-        return self.printed(self.altered(body()))
+        return self.printed(self.altered(self.made(form)))
 
-    def form(self):
+    def made(self, form):
+        """A value of a form, from which at times a key is absent that may be."""
+        if isinstance(form, str):
+            return self.pick(NAMES[form], ODD_NAMES) if form in NAMES else getattr(self, form)()
+        kept = {key: part for key, part in form.items() if not (key.endswith("?") and self.seldom(0.25))}
+        return {key.rstrip("?"): self.made(part) for key, part in kept.items()}
+
+    def credentials(self):
         client_id = self.random.choice(list(self.secrets))
         secret = "zz" if self.seldom() else self.secrets[client_id]
         pairs = [("grant_type", "client_credentials"), ("client_id", client_id), ("client_secret", secret)]
@@ -125,65 +131,35 @@ class RandomRequests:
             form = self.random.choice([form + b"&z=%ff", form.replace(b"client_credentials", b"password")])
         return form
 
-    def name(self, parameter):
-        return self.pick(NAMES[parameter], ODD_NAMES)
-
     def texts(self):
         return {self.random.choice(KEYS): self.random.choice(VALUES) for _ in range(self.random.randrange(4))}
+
+    def based_texts(self):
+        return {**self.texts(), "default-base-location": self.location()}
+
+    def removals(self):
+        return [self.random.choice([*KEYS, "zz"]) for _ in range(self.random.randrange(4))]
 
     def location(self):
         return self.pick(LOCATIONS, ODD_LOCATIONS + LONG_LOCATIONS, 0.1)
 
-    # The body of each action that has one, before it is altered
+    def locations(self):
+        return [self.location() for _ in range(self.random.randrange(3))]
 
-    def create_namespace_body(self):
-        body = {"namespace": self.levels(), "properties": self.texts()}
-        if self.seldom(0.2):
-            del body["properties"]
-        return body
+    def catalog_type(self):
+        return self.pick(["INTERNAL"], ["EXTERNAL", "internal"], 0.15)
 
-    def update_properties_body(self):
-        removals = [self.random.choice([*KEYS, "zz"]) for _ in range(self.random.randrange(4))]
-        return {"removals": removals, "updates": self.texts()}
+    def service(self):
+        return "SERVICE"
 
-    def create_catalog_body(self):
-        catalog = {
-            "name": self.name("catalog"),
-            "type": self.pick(["INTERNAL"], ["EXTERNAL", "internal"], 0.15),
-            "properties": {**self.texts(), "default-base-location": self.location()},
-            "storageConfigInfo": {"allowedLocations": [self.location() for _ in range(self.random.randrange(3))]},
-        }
-        for key in ("type", "storageConfigInfo"):
-            if self.seldom(0.3):
-                del catalog[key]
-        return {"catalog": catalog}
-
-    def create_principal_body(self):
-        return {"principal": {"name": self.name("principal"), "type": "SERVICE"}}
-
-    def create_principal_role_body(self):
-        return {"principalRole": {"name": self.name("role")}}
-
-    def add_member_body(self):
-        return self.create_principal_role_body()
-
-    def create_catalog_role_body(self):
-        return {"catalogRole": {"name": self.name("catalog_role")}}
-
-    def add_join_body(self):
-        return self.create_catalog_role_body()
-
-    def add_grant_body(self):
+    def grant(self):
         kind = self.random.choice(["catalog", "namespace", "namespace", "table", "view"])
         grant = {"type": kind, "privilege": self.pick(sorted(GRANTABLE[kind]), PRIVILEGES)}
         if kind != "catalog":
             grant["namespace"] = self.levels()
         if kind in ("table", "view"):
             grant[f"{kind}Name"] = self.pick(["t"], ["", "t\n"], 0.1)
-        return {"grant": grant}
-
-    def revoke_body(self):
-        return self.add_grant_body()
+        return grant
 
     def altered(self, body):
         """A body with, at times, one place of it left out or made another value."""

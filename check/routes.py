@@ -12,16 +12,27 @@ PRINCIPAL = f"{MANAGEMENT}/principals/{{principal}}"
 PRINCIPAL_ROLE = f"{MANAGEMENT}/principal-roles/{{role}}"
 CATALOG_ROLE = f"{MANAGEMENT}/catalogs/{{catalog}}/catalog-roles/{{catalog_role}}"
 
-# Each method of each path, with its action; one without an action isn't built.
+# A body's form has the names of its keys, where `?` marks one that may be absent, and what stands under each.
+CATALOG_FORM = {
+    "name": "catalog",
+    "type?": "catalog_type",
+    "properties": "based_texts",
+    "storageConfigInfo?": {"allowedLocations": "locations"},
+}
+ROLE_FORM = {"principalRole": {"name": "role"}}
+CATALOG_ROLE_FORM = {"catalogRole": {"name": "catalog_role"}}
+
+# Each method of each path, with its action, and the form of its body where that is JSON; one without an action isn't
+# built.
 ROUTES = [
     ("POST", f"{CATALOG}/oauth/tokens", "open_session"),
     ("GET", f"{CATALOG}/config", "get_config"),
     ("GET", f"{PREFIX}/namespaces", "list_namespaces"),
-    ("POST", f"{PREFIX}/namespaces", "create_namespace"),
+    ("POST", f"{PREFIX}/namespaces", "create_namespace", {"namespace": "levels", "properties?": "texts"}),
     ("GET", NAMESPACE, "load_namespace"),
     ("HEAD", NAMESPACE, "head_namespace"),
     ("DELETE", NAMESPACE, "drop_namespace"),
-    ("POST", f"{NAMESPACE}/properties", "update_properties"),
+    ("POST", f"{NAMESPACE}/properties", "update_properties", {"removals": "removals", "updates": "texts"}),
     ("GET", f"{NAMESPACE}/tables", None),
     ("POST", f"{NAMESPACE}/tables", None),
     ("GET", TABLE, None),
@@ -40,31 +51,31 @@ ROUTES = [
     ("DELETE", VIEW, None),
     ("POST", f"{PREFIX}/views/rename", None),
     ("GET", f"{MANAGEMENT}/catalogs", "list_catalogs"),
-    ("POST", f"{MANAGEMENT}/catalogs", "create_catalog"),
+    ("POST", f"{MANAGEMENT}/catalogs", "create_catalog", {"catalog": CATALOG_FORM}),
     ("GET", f"{MANAGEMENT}/catalogs/{{catalog}}", "get_catalog"),
     ("DELETE", f"{MANAGEMENT}/catalogs/{{catalog}}", "drop_catalog"),
     ("GET", f"{MANAGEMENT}/principals", "list_principals"),
-    ("POST", f"{MANAGEMENT}/principals", "create_principal"),
+    ("POST", f"{MANAGEMENT}/principals", "create_principal", {"principal": {"name": "principal", "type": "service"}}),
     ("GET", PRINCIPAL, "get_principal"),
     ("DELETE", PRINCIPAL, "drop_principal"),
     ("POST", f"{PRINCIPAL}/rotate", "rotate"),
     ("GET", f"{PRINCIPAL}/principal-roles", "list_members"),
-    ("PUT", f"{PRINCIPAL}/principal-roles", "add_member"),
+    ("PUT", f"{PRINCIPAL}/principal-roles", "add_member", ROLE_FORM),
     ("DELETE", f"{PRINCIPAL}/principal-roles/{{role}}", "end_member"),
     ("GET", f"{MANAGEMENT}/principal-roles", "list_principal_roles"),
-    ("POST", f"{MANAGEMENT}/principal-roles", "create_principal_role"),
+    ("POST", f"{MANAGEMENT}/principal-roles", "create_principal_role", ROLE_FORM),
     ("GET", PRINCIPAL_ROLE, "get_principal_role"),
     ("DELETE", PRINCIPAL_ROLE, "drop_principal_role"),
     ("GET", f"{PRINCIPAL_ROLE}/catalog-roles/{{catalog}}", "list_joins"),
-    ("PUT", f"{PRINCIPAL_ROLE}/catalog-roles/{{catalog}}", "add_join"),
+    ("PUT", f"{PRINCIPAL_ROLE}/catalog-roles/{{catalog}}", "add_join", CATALOG_ROLE_FORM),
     ("DELETE", f"{PRINCIPAL_ROLE}/catalog-roles/{{catalog}}/{{catalog_role}}", "end_join"),
     ("GET", f"{MANAGEMENT}/catalogs/{{catalog}}/catalog-roles", "list_catalog_roles"),
-    ("POST", f"{MANAGEMENT}/catalogs/{{catalog}}/catalog-roles", "create_catalog_role"),
+    ("POST", f"{MANAGEMENT}/catalogs/{{catalog}}/catalog-roles", "create_catalog_role", CATALOG_ROLE_FORM),
     ("GET", CATALOG_ROLE, "get_catalog_role"),
     ("DELETE", CATALOG_ROLE, "drop_catalog_role"),
     ("GET", f"{CATALOG_ROLE}/grants", "list_grants"),
-    ("PUT", f"{CATALOG_ROLE}/grants", "add_grant"),
-    ("POST", f"{CATALOG_ROLE}/grants", "revoke"),
+    ("PUT", f"{CATALOG_ROLE}/grants", "add_grant", {"grant": "grant"}),
+    ("POST", f"{CATALOG_ROLE}/grants", "revoke", {"grant": "grant"}),
     ("GET", "/objects/{*path}", None),
     ("HEAD", "/objects/{*path}", None),
     ("PUT", "/objects/{*path}", None),
@@ -74,7 +85,7 @@ ROUTES = [
 
 # What a config tells of the rows behind a catalogue's prefix.
 ENDPOINTS = [
-    f"{method} /v1{path[len(CATALOG):]}" for method, path, _ in ROUTES if path.startswith(PREFIX)
+    f"{method} /v1{path[len(CATALOG):]}" for method, path, *_ in ROUTES if path.startswith(PREFIX)
 ]
 
 

@@ -1,63 +1,50 @@
--- The actions on catalogues and namespaces: where their changes lead, and that they keep a state orderly.
-use Rattle.std.proofs.Common.{◌≡◌, ℕ, ◌+◌, ◌<◌, ◌≤◌, ◌^◌, Bool, true, false, not, ◌&&◌, ◌||◌, ◌==◌, codes, List, [], ◌∷◌, ◌++◌, filter, map, Option, None, Some, option_and_then, is_some, refl, sym, ap, subst, ◌∙◌, inl, inr, arith, true≢false}
-use Rattle.std.specs.List.{fold}
+-- The actions on catalogues and namespaces keep a state orderly.
+use Rattle.std.proofs.Common.{◌≡◌, ℕ, ◌+◌, Bool, true, false, not, ◌&&◌, ◌||◌, codes, List, [], ◌∷◌, ◌++◌, Option, None, Some, option_and_then, is_some, refl, sym, ap, subst, ◌∙◌, arith, true≢false}
 use Rattle.std.specs.Option.{option_map}
 use Rattle.std.specs.Str.{bytes_eq}
-use Rattle.std.proofs.lemmas.Bool.{cases_Bool, eq-eqb, ne_eqb, or_parts}
+use Rattle.std.proofs.lemmas.Bool.{eq-eqb, ne_eqb, or_parts}
 use Rattle.pol_access.specs.Access.{AccessRows, catalog_role_id, has_other_role, principal_role_id}
 use Rattle.pol_access.specs.Names.{catalog_role_named, has_catalog_role_name, has_role_name, principal_role_named}
-use Rattle.pol_access.specs.Order.{grants_in_order, joins_in_order}
 use Rattle.pol_access.specs.Privilege.{grantable}
-use Rattle.pol_access.specs.Referent.{grant_names, join_names}
 use Rattle.pol_access.specs.contracts.rows.GrantRow as grant
 use Rattle.pol_access.specs.contracts.rows.JoinRow as join
 use Rattle.pol_access.specs.declared.privilege.Privilege.TheVariants.{CatalogManageAccess, CatalogManageContent}
-use Rattle.pol_access.specs.declared.referent.Referent.TheVariants as referent
-use Rattle.pol_access.specs.declared.rows.CatalogRoleRow.{CatalogRoleRow}
 use Rattle.pol_access.specs.declared.rows.PrincipalRoleRow.{PrincipalRoleRow}
 use Rattle.pol_access.specs.declared.securable.Securable.TheVariants as securable
 use Rattle.pol_access.specs.declared.securable.SecurableKind.TheVariants as kind
 use Rattle.pol_access.proofs.SoundLemmas.{dropped_catalog_roles, dropped_grants, pushed_catalog_role, put_grant, put_join, more_ids as access_more_ids}
 use Rattle.pol_tables.specs.Facts.{facts_with}
 use Rattle.pol_tables.specs.Same.{same}
-use Rattle.pol_tables.specs.Table.{has_id, knows, row_of, rows_with, rows_without, IdsDiffer}
+use Rattle.pol_tables.specs.Table.{has_id, knows, row_of, rows_with, IdsDiffer}
 use Rattle.pol_tables.proofs.ListLemmas.{each-weaken, or_true}
 use Rattle.pol_tables.proofs.NamedLemmas.{each-own, find-none}
-use Rattle.pol_tables.proofs.NumberedLemmas.{below-next}
-use Rattle.pol_tables.proofs.RisingLemmas.{IdsDiffer-rising, knows-below}
-use Rattle.pol_tables.proofs.SameLemmas.{same-true}
+use Rattle.pol_tables.proofs.RisingLemmas.{IdsDiffer-rising}
 use Rattle.pol_tables.proofs.TableLemmas.{is_some-row_of, rows_with-known, rows_with-new, rows_with-same, some_is}
 use Rattle.pol_content.specs.Content.{ContentRows, catalog_id, catalog_is_empty, catalog_named, first_missing, is_empty, is_namespace_named, namespace_id, namespace_named}
 use Rattle.pol_content.specs.Sound.{IsSoundContent}
 use Rattle.pol_content.specs.Ties.{admin_grant, admin_join, admin_of, is_access_id, with_admin}
 use Rattle.pol_content.specs.contracts.rows.NamespaceRow.{the_row}
-use Rattle.pol_content.specs.declared.change.Change.TheVariants.{Time, NextId, DropCatalogRole, DropGrant, DropJoin, PutNamespace}
 use Rattle.pol_content.specs.declared.rows.CatalogRow.{CatalogRow}
 use Rattle.pol_content.specs.declared.rows.NamespaceRow.{NamespaceRow}
-use Rattle.pol_content.proofs.SoundLemmas.{dropped_catalog, dropped_namespace, more_ids, new_rows_last, pushed_catalog, pushed_namespace, replaced_namespace, whole_path}
+use Rattle.pol_content.proofs.SoundLemmas.{dropped_catalog, dropped_namespace, more_ids, new_rows_last, pushed_catalog, replaced_namespace}
 use Rattle.pol_content.proofs.TiedContentLemmas as ties
 use Rattle.pol_content.proofs.TiedContentLemmas.{created_catalog, put_namespace}
 use Rattle.pol_content.proofs.TiesLemmas.{new_ids}
-use Rattle.pol_names.specs.Namespace.{parent_of}
 use Rattle.pol_properties.specs.Properties.{pairs_updated}
 use Rattle.pol_properties.specs.declared.property.Property.{Property}
 use Rattle.pol_commands.specs.declared.command.Command.{Command}
 use Rattle.pol_commands.specs.declared.reply.Refusal.TheVariants.{NoNamespace}
-use Rattle.pol_state.specs.Applied.{changed}
 use Rattle.pol_state.specs.Rows.{Rows}
 use Rattle.pol_state.specs.Sound.{IsCatalogRoleOf, IsGiven, IsOrderly, IsSound, IsSoundAccess}
-use Rattle.pol_state.proofs.AppliedLemmas.{grants-dropped, joins-dropped, roles-dropped, three-dropped, with_joins, with_roles}
-use Rattle.pol_state.proofs.ChangesLemmas.{filter-twice}
-use Rattle.pol_rules.specs.Acting.{done, stamped}
+use Rattle.pol_rules.specs.Acting.{stamped}
 use Rattle.pol_state.specs.Bounds.{EachPasses}
-use Rattle.pol_rules.specs.Rules.{catalog_holds, catalog_taken, given, namespace_holds, namespace_taken, no_namespace, no_parent, time_of}
-use Rattle.pol_rules.proofs.RulesLemmas.{refused-not, nothing}
-use Rattle.pol_rules.proofs.FoundLemmas.{found-holds, catalog-own}
+use Rattle.pol_rules.specs.Rules.{catalog_holds, given, namespace_holds, no_namespace}
+use Rattle.pol_rules.proofs.RulesLemmas.{refused-not, name-free}
+use Rattle.pol_rules.proofs.FoundLemmas.{found-holds}
 use Rattle.pol_rules.proofs.SoundLemmas.{next_id-some, orderly-done, tables-orderly, IsWithin}
-use Rattle.pol_rules.proofs.LeadsLemmas.{Leads, leads-by}
 use Rattle.pol_content_actions.specs.Catalogs.{create_catalog, drop_catalog, new_catalog, with_catalog, without_catalog}
-use Rattle.pol_content_actions.specs.Namespaces.{create_namespace, drop_namespace, namespace_row_at, update_properties, with_altered, with_namespace, with_properties, without_namespace}
-use Rattle.pol_content_actions.proofs.ChangesLemmas.{admin-last, unknown-later, changes-altered, changes-unaltered, changes-with_catalog, changes-with_namespace, changes-without_catalog, changes-without_namespace}
+use Rattle.pol_content_actions.specs.Namespaces.{drop_namespace, namespace_row_at, update_properties, with_altered, with_properties, without_namespace}
+use Rattle.pol_content_actions.proofs.ChangesLemmas.{admin-last, unknown-later}
 
 -- both grants of a `catalog_admin` are of privileges that may be granted on a catalogue
 may_have_access : grantable CatalogManageAccess kind.Catalog ≡ true
@@ -73,20 +60,16 @@ knows-last : {R : Type 0} (key : R → ℕ) (row : R) (rows : List R) → knows 
 knows-last key row [] = ap (λ b. b || false) (eq-eqb (key row) (key row) refl)
 knows-last key row (first ∷ rows) = ap (λ b. has_id key (key row) first || b) (knows-last key row rows) ∙ or_true (has_id key (key row) first)
 
+-- nothing is found under an id that isn't known
+pub none-unknown : {R A : Type 0} (key : R → ℕ) (id : ℕ) (rows : List R) (row : R) → row_of key id rows ≡ Some row → knows key id rows ≡ false → A
+none-unknown key id rows row there unknown =
+    absurd (true≢false (sym (sym (is_some-row_of key id rows) ∙ ap is_some there) ∙ unknown))
+
 not_not : (b : Bool) → not b ≡ false → b ≡ true
 not_not true is = refl
 not_not false is = sym is
 
 module _ (s : Rows) where
-  catalog-free : (name : List ℕ) → catalog_taken s name ≡ None → catalog_named name s.content ≡ None
-  unfolding catalog_taken
-  catalog-free name passes = nothing (catalog_named name s.content) (refused-not (is_some (catalog_named name s.content)) _ passes)
-
-  levels-free : (levels : List (List ℕ)) (catalog : CatalogRow) → namespace_taken s levels catalog ≡ None → namespace_named catalog.id levels s.content ≡ None
-  unfolding namespace_taken
-  levels-free levels catalog passes =
-      nothing (namespace_named catalog.id levels s.content) (refused-not (is_some (namespace_named catalog.id levels s.content)) _ passes)
-
   catalog-empty : (catalog : CatalogRow) → catalog_holds s catalog ≡ None → catalog_is_empty catalog.id s.content ≡ true
   unfolding catalog_holds
   catalog-empty catalog passes =
@@ -100,13 +83,9 @@ module _ (s : Rows) where
   mapped-none None none = refl
   mapped-none (Some path) some = let contrary : Some (NoNamespace path) ≡ None = some in cc
 
-  path-whole : (catalog : ℕ) (levels : List (List ℕ)) → no_namespace s catalog levels ≡ None → first_missing catalog levels s.content ≡ None
+  pub path-whole : (catalog : ℕ) (levels : List (List ℕ)) → no_namespace s catalog levels ≡ None → first_missing catalog levels s.content ≡ None
   unfolding no_namespace
   path-whole catalog levels passes = mapped-none (first_missing catalog levels s.content) passes
-
-  parents-whole : (catalog : ℕ) (levels : List (List ℕ)) → no_parent s catalog (parent_of levels) ≡ None → (parent : List (List ℕ)) → parent_of levels ≡ Some parent → first_missing catalog parent s.content ≡ None
-  parents-whole catalog levels passes parent is =
-      path-whole catalog parent (sym (ap (no_parent s catalog) is) ∙ passes)
 
 module _ (s : Rows) (command : Command) where
   module _ (sound : IsSound s) where
@@ -123,61 +102,15 @@ module _ (s : Rows) (command : Command) where
     own-at levels row (Some catalog) found =
         found-holds (λ one. row_of namespace_id (namespace_id one) s.content.namespaces ≡ Some one) (is_namespace_named catalog.id levels) s.content.namespaces row (each-own namespace_id s.content.namespaces namespaces-differ) found
 
-    namespace-own : (name : List ℕ) (levels : List (List ℕ)) (row : NamespaceRow) → namespace_row_at s name levels ≡ Some row → row_of namespace_id row.id s.content.namespaces ≡ Some row
+    pub namespace-own : (name : List ℕ) (levels : List (List ℕ)) (row : NamespaceRow) → namespace_row_at s name levels ≡ Some row → row_of namespace_id row.id s.content.namespaces ≡ Some row
     unfolding namespace_row_at
     namespace-own name levels row found = own-at levels row (catalog_named name s.content) found
 
-    -- where each action leads
-    pub leads-with_catalog : (row : CatalogRow) (service : PrincipalRoleRow) → row.id ≡ s.next_id → Leads s command (with_catalog s row service)
-    leads-with_catalog row service id =
-        let admin = admin-last s sound row.id service.id id in
-        leads-by s command (with_catalog s row service) _ (changes-with_catalog s sound (time_of s command) (s.charged + command.charge) row service id admin.0 admin.1) refl
-
-    pub leads-without_catalog : (name : List ℕ) (row : CatalogRow) → catalog_named name s.content ≡ Some row → Leads s command (without_catalog s row)
-    leads-without_catalog name row found =
-        let t : Rows = record s { time = time_of s command; content = record s.content { catalogs = rows_without catalog_id row.id s.content.catalogs } } in
-        let keep : CatalogRoleRow → Bool = λ role. not (role.catalog == row.id) in
-        let roles = map DropCatalogRole (map catalog_role_id (filter (λ role. role.catalog == row.id) s.access.catalog_roles)) in
-        let joins = map DropJoin (joins_in_order (filter (join_names s.access.catalog_roles (referent.RoleOfCatalog row.id)) s.access.joins)) in
-        let grants = map DropGrant (grants_in_order (filter (grant_names s.access.catalog_roles (referent.RoleOfCatalog row.id)) s.access.grants)) in
-        let first = ap (λ gone. fold changed t (map DropCatalogRole (map catalog_role_id gone))) (sym (filter-twice (λ role. role.catalog == row.id) s.access.catalog_roles)) ∙ roles-dropped t keep sound.orderly.access.catalog_roles.rise in
-        leads-by s command (without_catalog s row) _ (changes-without_catalog s sound (time_of s command) (s.charged + command.charge) row (catalog-own s command sound name row found)) (
-        ap (λ (after : Rows). record after { time = time_of s command; charged = after.charged + command.charge }) (
-        three-dropped t roles joins grants
-        ∙ ap (λ (after : Rows). fold changed (fold changed after joins) grants) first
-        ∙ ap (λ (after : Rows). fold changed after grants) (joins-dropped (with_roles t (filter keep s.access.catalog_roles)) (join_names s.access.catalog_roles (referent.RoleOfCatalog row.id)))
-        ∙ grants-dropped (with_joins (with_roles t (filter keep s.access.catalog_roles)) (filter (λ kept. not (join_names s.access.catalog_roles (referent.RoleOfCatalog row.id) kept)) s.access.joins)) (grant_names s.access.catalog_roles (referent.RoleOfCatalog row.id))
-        )
-        )
-
-    pub leads-with_namespace : (levels : List (List ℕ)) (properties : List Property) (catalog : CatalogRow) → Leads s command (with_namespace s levels properties catalog)
-    leads-with_namespace levels properties catalog =
-        let row : NamespaceRow = record { id = s.next_id; catalog = catalog.id; levels = levels; properties = properties } in
-        leads-by s command (with_namespace s levels properties catalog) (Time (time_of s command) ∷ NextId (s.next_id + 1) ∷ PutNamespace row ∷ []) (changes-with_namespace s sound (time_of s command) (s.charged + command.charge) row refl) refl
-
-    pub leads-without_namespace : (name : List ℕ) (levels : List (List ℕ)) (row : NamespaceRow) → namespace_row_at s name levels ≡ Some row → Leads s command (without_namespace s row)
-    leads-without_namespace name levels row found =
-        let t : Rows = record s { time = time_of s command; content = record s.content { namespaces = rows_without namespace_id row.id s.content.namespaces } } in
-        leads-by s command (without_namespace s row) _ (changes-without_namespace s sound (time_of s command) (s.charged + command.charge) row (namespace-own name levels row found))
-        (ap (λ (after : Rows). record after { time = time_of s command; charged = after.charged + command.charge }) (grants-dropped t (grant_names s.access.catalog_roles (referent.Securable (securable.Namespace row.id)))))
-
-    unaltered : (row : NamespaceRow) → row_of namespace_id row.id s.content.namespaces ≡ Some row → with_altered s row ≡ s
+    -- a namespace that is put as it stands changes nothing
+    pub unaltered : (row : NamespaceRow) → row_of namespace_id row.id s.content.namespaces ≡ Some row → with_altered s row ≡ s
     unaltered row there =
         let known = sym (is_some-row_of namespace_id row.id s.content.namespaces) ∙ ap is_some there in
         ap (λ rows. record s { content = record s.content { namespaces = rows } }) (rows_with-known namespace_id row s.content.namespaces known ∙ rows_with-same namespace_id row s.content.namespaces namespaces-differ there)
-
-    leads-altered : (row old : NamespaceRow) → row_of namespace_id row.id s.content.namespaces ≡ Some old → Leads s command (with_altered s row)
-    leads-altered row old there = elim (cases_Bool (same the_row.coded row old)) [
-      | inl as_is ↦
-          let own : row_of namespace_id row.id s.content.namespaces ≡ Some row = there ∙ ap Some (sym (same-true the_row.coded row old as_is)) in
-          leads-by s command (with_altered s row) [] (changes-unaltered s sound (time_of s command) (s.charged + command.charge) row own) (ap (stamped s command) (sym (unaltered row own)))
-      | inr other ↦
-          leads-by s command (with_altered s row) (Time (time_of s command) ∷ PutNamespace row ∷ []) (changes-altered s sound (time_of s command) (s.charged + command.charge) row old there other) refl
-    ]
-
-    pub leads-with_properties : (name : List ℕ) (levels removals : List (List ℕ)) (updates : List Property) (row : NamespaceRow) → namespace_row_at s name levels ≡ Some row → Leads s command (with_properties s removals updates row)
-    leads-with_properties name levels removals updates row found =
-        leads-altered (record row { properties = pairs_updated removals updates row.properties }) row (namespace-own name levels row found)
 
     module _ (within : IsWithin s command) where
       -- a catalogue that is put, with its `catalog_admin`
@@ -222,7 +155,7 @@ module _ (s : Rows) (command : Command) where
       orderly-create_catalog name base allowed properties external passes =
           let row = new_catalog s name base allowed properties in
           orderly-done s command sound within (principal_role_named (codes "service_admin") s.access) (with_catalog s row) (λ service there.
-          orderly-with_catalog row service refl there (catalog-free s name passes.1.1.0))
+          orderly-with_catalog row service refl there (name-free (catalog_named name s.content) name passes.1.1.0))
 
       -- a catalogue that is dropped
       pub orderly-drop_catalog : (name : List ℕ) → EachPasses (drop_catalog s command name).rules → IsOrderly (stamped s command (drop_catalog s command name).after)
@@ -230,22 +163,6 @@ module _ (s : Rows) (command : Command) where
           let empty = catalog-empty s row (sym (ap (λ one. given one (catalog_holds s)) is) ∙ passes.1.1.1.0) in
           tables-orderly s command (without_catalog s row).access (without_catalog s row).content s.next_id sound within (omega arith) (dropped_catalog_roles s.next_id row.id s.access sound.orderly.access).1 (dropped_catalog s.next_id row.id s.content sound.orderly.content empty)
           (ties.dropped_catalog s.access s.content sound.orderly.ties row.id (IdsDiffer-rising catalog_role_id s.access.catalog_roles sound.orderly.access.catalog_roles.rise)))
-
-      -- a namespace that is put
-      pub orderly-create_namespace : (name : List ℕ) (levels : List (List ℕ)) (properties : List Property) → EachPasses (create_namespace s command name levels properties).rules → IsOrderly (stamped s command (create_namespace s command name levels properties).after)
-      orderly-create_namespace name levels properties passes = orderly-done s command sound within (catalog_named name s.content) (with_namespace s levels properties) (λ catalog is.
-          let row : NamespaceRow = record { id = s.next_id; catalog = catalog.id; levels = levels; properties = properties } in
-          let parent = sym (ap (λ one. given one (λ (catalog : CatalogRow). no_parent s catalog.id (parent_of levels))) is) ∙ passes.1.1.1.0 in
-          let taken = sym (ap (λ one. given one (namespace_taken s levels)) is) ∙ passes.1.1.1.1.0 in
-          let there = sym (is_some-row_of catalog_id catalog.id s.content.catalogs) ∙ ap is_some (catalog-own s command sound name catalog is) in
-          let pushed = pushed_namespace s.next_id s.content row sound.orderly.content (next_id-some s sound) refl there (whole_path s.content row (parents-whole s catalog.id levels parent)) (levels-free s levels catalog taken) in
-          let last = (new_rows_last s.next_id s.content sound.orderly.content).1 row refl in
-          tables-orderly s command s.access (with_namespace s levels properties catalog).content (s.next_id + 1) sound within (omega arith) (access_more_ids s.next_id (s.next_id + 1) s.access (omega arith) sound.orderly.access)
-          (subst (λ rows. IsSoundContent (s.next_id + 1) (record s.content { namespaces = rows })) (sym last) pushed)
-          (put_namespace s.access s.content sound.orderly.ties row (λ old known. unknown-row catalog old known (knows-below namespace_id s.next_id s.content.namespaces (below-next namespace_id s.next_id s.content.namespaces sound.orderly.content.namespaces))) (unknown-later s sound s.next_id (omega arith))))
-        where
-          unknown-row : (catalog : CatalogRow) (old : NamespaceRow) → row_of namespace_id s.next_id s.content.namespaces ≡ Some old → knows namespace_id s.next_id s.content.namespaces ≡ false → catalog.id ≡ old.catalog
-          unknown-row catalog old there unknown = absurd (true≢false (sym (sym (is_some-row_of namespace_id s.next_id s.content.namespaces) ∙ ap is_some there) ∙ unknown))
 
       -- a namespace that is dropped
       pub orderly-drop_namespace : (name : List ℕ) (levels : List (List ℕ)) → EachPasses (drop_namespace s command name levels).rules → IsOrderly (stamped s command (drop_namespace s command name levels).after)

@@ -23,7 +23,6 @@ use Rattle.pol_tables.proofs.ChangesLemmas.{holds-unknown, new_rows-append, tabl
 use Rattle.pol_tables.proofs.FactChangesLemmas.{fact_changes-append, fact_changes-put_new}
 use Rattle.pol_tables.proofs.NumberedLemmas.{below-next}
 use Rattle.pol_tables.proofs.RisingLemmas.{IdsDiffer-rising, knows-below, KeysBelow-more}
-use Rattle.pol_tables.proofs.TableLemmas.{rows_with-new}
 use Rattle.pol_content.specs.Content.{catalog_id, namespace_id}
 use Rattle.pol_content.specs.Ties.{admin_grant, admin_join, admin_of, is_access_id, with_admin, with_admin_last, IsAdminNew}
 use Rattle.pol_content.specs.contracts.rows.CatalogRow as catalog
@@ -35,13 +34,16 @@ use Rattle.pol_content.proofs.TiedContentLemmas.{admin_rows_last}
 use Rattle.pol_tokens.specs.Tokens.{serial_of}
 use Rattle.pol_tokens.specs.contracts.session.SessionRow.{the_row}
 use Rattle.pol_tokens.specs.declared.session.SessionRow.{SessionRow}
-use Rattle.pol_state.specs.Applied.{applied}
+use Rattle.pol_commands.specs.declared.command.Command.{Command}
 use Rattle.pol_state.specs.Changes.{changes_between}
 use Rattle.pol_state.specs.Rows.{Rows}
 use Rattle.pol_state.specs.Sound.{IsSound}
 use Rattle.pol_state.proofs.ChangesLemmas.{timed, none, still, made-with_ids, filter-twice, made-in_place, made-of, counter-kept, counter-raised}
+use Rattle.pol_rules.specs.Acting.{stamped}
+use Rattle.pol_rules.specs.Rules.{time_of}
+use Rattle.pol_rules.proofs.SoundLemmas.{next-new}
 use Rattle.pol_content_actions.specs.Catalogs.{with_catalog, without_catalog}
-use Rattle.pol_content_actions.specs.Namespaces.{with_altered, without_namespace}
+use Rattle.pol_content_actions.specs.Namespaces.{with_altered, with_new_namespace, without_namespace}
 use Rattle.pol_content_actions.specs.Sessions.{with_session}
 
 -- an id that was not given out is no principal's and no role's
@@ -116,13 +118,6 @@ module _ (s : Rows) (sound : IsSound s) (time charged : ℕ) where
         grants = named.2 PutGrant DropGrant i;
       }) ∙ ap (λ rest. Time time ∷ DropCatalog row.id ∷ rest) (ap (λ last. roles ++ (joins ++ last)) (append-nil grants) ∙ sym (append_assoc roles joins grants))
 
-  -- a namespace that is put
-  pub changes-with_namespace : (row : NamespaceRow) → row.id ≡ s.next_id → changes_between s (timed (record s { content = record s.content { namespaces = (with_altered s row).content.namespaces }; next_id = s.next_id + 1 }) time charged) ≡ Time time ∷ NextId (s.next_id + 1) ∷ PutNamespace row ∷ []
-  changes-with_namespace row id =
-      let new = knows-below namespace_id row.id s.content.namespaces (subst (λ n. KeysBelow namespace_id n s.content.namespaces) (sym id) (below-next namespace_id s.next_id s.content.namespaces sound.orderly.content.namespaces)) in
-      made-with_ids s (timed (record s { content = record s.content { namespaces = (with_altered s row).content.namespaces }; next_id = s.next_id + 1 }) time charged) 1 (record none { namespaces = PutNamespace row ∷ [] }) (omega arith) refl refl
-      (λ i. record (still s i) { namespaces = table_changes-put_new namespace.the_row.coded namespace_id PutNamespace DropNamespace row s.content.namespaces new i })
-
   -- a namespace that is taken away, with the grants on it
   pub changes-without_namespace : (row : NamespaceRow) → row_of namespace_id row.id s.content.namespaces ≡ Some row
       → changes_between s (timed (without_namespace s row) time charged) ≡ Time time ∷ DropNamespace row.id ∷ map DropGrant (grants_in_order (filter (grant_names s.access.catalog_roles (referent.Securable (securable.Namespace row.id))) s.access.grants))
@@ -145,6 +140,12 @@ module _ (s : Rows) (sound : IsSound s) (time charged : ℕ) where
       made-in_place s (timed (with_altered s row) time charged) none refl refl
       (λ i. record (still s i) { namespaces = table_changes-put_same namespace.the_row.coded namespace_id PutNamespace DropNamespace row s.content.namespaces namespaces-differ there i })
 
+-- a namespace that takes the next id
+pub namespace_changes : (s : Rows) (command : Command) → IsSound s → (row : NamespaceRow) → row.id ≡ s.next_id → changes_between s (stamped s command (with_new_namespace s row)) ≡ Time (time_of s command) ∷ NextId (s.next_id + 1) ∷ PutNamespace row ∷ []
+namespace_changes s command sound row id =
+    let new = next-new namespace_id s.next_id row.id s.content.namespaces sound.orderly.content.namespaces id in
+    made-with_ids s (stamped s command (with_new_namespace s row)) 1 (record none { namespaces = PutNamespace row ∷ [] }) (omega arith) refl refl (λ i. record (still s i) { namespaces = table_changes-put_new namespace.the_row.coded namespace_id PutNamespace DropNamespace row s.content.namespaces new i })
+
 module _ (s : Rows) (row : SessionRow) (below : KeysBelow serial_of row.serial s.tokens.sessions) where
   -- the new session is the one new row
   new_rows-opened : new_rows the_row.coded s.tokens.sessions (s.tokens.sessions ++ row ∷ []) ≡ row ∷ []
@@ -156,8 +157,3 @@ module _ (s : Rows) (row : SessionRow) (below : KeysBelow serial_of row.serial s
   changes-opened time charged =
       made-of s (timed (with_session s row) time charged) [] (NextSerial (s.next_serial + 1) ∷ []) (record none { sessions = PutSession row ∷ [] }) (counter-kept s.next_id (NextId s.next_id)) (counter-raised s.next_serial 1 (NextSerial (s.next_serial + 1)) (omega arith))
       (λ i. record (still s i) { sessions = ap (map PutSession) new_rows-opened i })
-
-  -- which lead to the rows with the session
-  pub applied-opened : (time charge : ℕ) → applied (Time time ∷ NextSerial (s.next_serial + 1) ∷ PutSession row ∷ []) time charge s ≡ timed (with_session s row) time (s.charged + charge)
-  applied-opened time charge =
-      ap (λ sessions. timed (record s { tokens = record { sessions = sessions }; next_serial = s.next_serial + 1 }) time (s.charged + charge)) (rows_with-new serial_of row s.tokens.sessions (knows-below serial_of row.serial s.tokens.sessions below))

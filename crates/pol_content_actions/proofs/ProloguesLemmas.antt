@@ -15,7 +15,7 @@ use Rattle.pol_rules.specs.declared.rules.Undone.{Undone}
 use Rattle.pol_rules.proofs.JudgedLemmas.{entered-stopped}
 use Rattle.pol_content_actions.specs.Namespaces.{namespace_row_at, on_namespace}
 
-pub on_namespace_stops : (s : Rows) (command : Command) (privilege : Privilege) (name : List ℕ) (levels : List (List ℕ)) (rules : List (Option Refusal)) (after : Rows) (answer : Answer) (why : Undone) (result : Result Acted Undone) → IsErrAnd result (λ one. one ≡ why)
+pub on_namespace_stops : (s : Rows) (command : Command) (privilege : Privilege) (name : List ℕ) (levels : List (List ℕ)) (rules : List (Option Refusal)) (after : Rows) (answer : Option Answer) (why : Undone) (result : Result Acted Undone) → IsErrAnd result (λ one. one ≡ why)
     → Enters {T = NamespaceRow} (on_namespace s command privilege name levels) (λ row. (namespace_row_at s name levels ≡ Some row) × (row_of namespace_id row.id s.content.namespaces ≡ Some row)) (Err why) → Does s command (record { rules = on_namespace s command privilege name levels rules; after = after; answer = answer }) result
 on_namespace_stops s command privilege name levels rules after answer why result told entered =
     entered-stopped {T = NamespaceRow} (λ row. (namespace_row_at s name levels ≡ Some row) × (row_of namespace_id row.id s.content.namespaces ≡ Some row)) (on_namespace s command privilege name levels) s command (record { rules = on_namespace s command privilege name levels rules; after = after; answer = answer }) rules why result refl (λ passes. passes) told entered

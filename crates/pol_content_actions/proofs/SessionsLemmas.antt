@@ -2,6 +2,8 @@
 use Rattle.std.proofs.Common.{◌≡◌, ℕ, ◌+◌, List, [], ◌∷◌, Option, None, Some, refl, sym, ap, subst, ◌∙◌}
 use Rattle.pol_access.specs.declared.rows.PrincipalRow.{PrincipalRow}
 use Rattle.pol_tables.specs.Rising.{KeysBelow}
+use Rattle.pol_tables.proofs.RisingLemmas.{knows-below}
+use Rattle.pol_tables.proofs.TableLemmas.{rows_with-new}
 use Rattle.pol_content.specs.declared.change.Change.TheVariants.{Time, NextSerial, PutSession}
 use Rattle.pol_tokens.specs.Tokens.{serial_of}
 use Rattle.pol_names.specs.declared.scope.Scope.{Scope}
@@ -17,7 +19,7 @@ use Rattle.pol_rules.specs.Rules.{client_of, given, invalid_client, invalid_scop
 use Rattle.pol_rules.proofs.LeadsLemmas.{leads-by, Leads}
 use Rattle.pol_state.proofs.BoundsLemmas.{refusal-past}
 use Rattle.pol_content_actions.specs.Sessions.{open_session, opened, scope_of, session_opened, with_session}
-use Rattle.pol_content_actions.proofs.ChangesLemmas.{applied-opened, changes-opened}
+use Rattle.pol_content_actions.proofs.ChangesLemmas.{changes-opened}
 
 module _ (s : Rows) (command : Command) (scopes : List (List ℕ)) where
   opened-serial : (principal : PrincipalRow) → (opened s command scopes principal).serial ≡ s.next_serial
@@ -50,7 +52,8 @@ module _ (s : Rows) (command : Command) (scopes : List (List ℕ)) where
   -- the changes lead to the rows with the command's time and charge
   pub leads-opened : (principal : PrincipalRow) → IsSound s → Leads s command (with_session s (opened s command scopes principal))
   leads-opened principal sound =
-      leads-by s command (with_session s (opened s command scopes principal)) _ (changes-session principal sound) (applied-opened s (opened s command scopes principal) (opened-below principal sound) (time_of s command) command.charge)
+      let row = opened s command scopes principal in
+      leads-by s command (with_session s row) _ (changes-session principal sound) (λ i. record (with_session s row) { tokens = record { sessions = rows_with-new serial_of row s.tokens.sessions (knows-below serial_of row.serial s.tokens.sessions (opened-below principal sound)) i }; time = time_of s command })
 
   module _ (client_id secret : List ℕ) where
     abbrev rules : List (Option Refusal)

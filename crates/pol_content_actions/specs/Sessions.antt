@@ -47,5 +47,5 @@ open_session s command client_id secret scopes =
     record {
       rules = invalid_client s client_id secret ∷ given client (λ principal. invalid_scope s principal.id scopes) ∷ [];
       after = session_opened s command scopes client;
-      answer = SessionOpened s.next_serial command.words.a command.words.b;
+      answer = Some (SessionOpened s.next_serial command.words.a command.words.b);
     }

@@ -80,7 +80,8 @@ pub fn create_catalog(
     external: bool,
 ) -> Result<Acted, Undone>
     requires { IsSound asked.now.state.now.rows }
-    ensures { Acts asked.now (λ s command. create_catalog s command name.now base.now allowed.now properties.now external) result }
+    ensures { Acts asked.now
+        (λ s command. create_catalog s command name.now base.now allowed.now properties.now external) result }
 {
     in_realm(asked)?;
     catalog_free(asked, name)?;
@@ -108,7 +109,8 @@ fn created(
     requires id { row.id ≡ asked.now.state.now.rows.next_id }
     requires within { row.id ≤ 2 ^ 62 }
     ensures answer { IfOk result (λ acted. acted.answer ≡ CatalogCreated row) }
-    ensures changes { IfOk result (λ acted. acted.changes ≡ changes_to asked.now (λ s. with_catalog s row service.now)) }
+    ensures changes { IfOk result (λ acted. acted.changes
+        ≡ changes_to asked.now (λ s. with_catalog s row service.now)) }
 {
     let shown = row.clone()?;
     let admin = catalog_admin(asked.alloc, row.id)?;

@@ -1,11 +1,11 @@
-ghost use Rattle.std.specs.Prelude.{◌≡◌, ◌≤◌, ◌^◌, map, Some, IfOk, option_copied};
+ghost use Rattle.std.specs.Prelude.{◌≡◌, map, Some, IfOk, option_copied, ◌≤◌, ◌^◌};
 ghost use Rattle.pol_content.specs.Content.{namespace_id};
 ghost use Rattle.pol_properties.specs.Properties.{keys, missing_keys, pairs_updated, removed_keys};
 ghost use Rattle.pol_tables.specs.Table.{row_of};
 ghost use Rattle.pol_rules.specs.Judged.{Acts, Enters, changes_to};
-ghost use Rattle.pol_content_actions.specs.Namespaces.{create_namespace, drop_namespace, head_namespace, list_namespaces, listed, load_namespace, namespace_row_at, on_namespace, update_properties, with_altered, with_namespace, without_namespace};
+ghost use Rattle.pol_content_actions.specs.Namespaces.{create_namespace, drop_namespace, head_namespace, list_namespaces, listed, load_namespace, namespace_row_at, on_namespace, update_properties, with_altered, without_namespace, with_new_namespace};
 ghost use Rattle.pol_state.specs.Sound.{IsSound};
-ghost use Rattle.pol_commands.specs.declared.reply.Answer.TheVariants.{NamespaceCreated, NamespaceDropped, PropertiesUpdated};
+ghost use Rattle.pol_commands.specs.declared.reply.Answer.TheVariants.{NamespaceDropped, PropertiesUpdated, NamespaceCreated};
 
 use pol_access::{Privilege, Referent, Securable};
 use pol_commands::Answer;
@@ -14,6 +14,7 @@ use pol_names::{Namespace, Plain};
 use pol_properties::Properties;
 use pol_rules::callers::signed_in;
 use pol_rules::catalog_rules::catalog_there;
+use pol_rules::changes::under_next_id;
 use pol_rules::drops::push_grants;
 use pol_rules::namespace_rules::{
     keys_apart, levels_free, namespace_empty, namespace_there, parent_there,
@@ -49,7 +50,8 @@ fn children(
     catalog: &CatalogRow,
     parent: Option<&Namespace>,
 ) -> Result<Listed<Namespace>, OutOfMemory>
-    ensures { IfOk result (λ namespaces. namespaces ≡ listed asked.now.state.now.rows (option_copied parent.entry) catalog.now) }
+    ensures { IfOk result (λ namespaces. namespaces
+        ≡ listed asked.now.state.now.rows (option_copied parent.entry) catalog.now) }
 {
     let content = asked.state.content();
     let rows = content.children(asked.alloc, catalog.id, parent)?;
@@ -84,39 +86,30 @@ pub fn create_namespace(
     allowed_on_parent(asked, privilege, parent.as_ref(), catalog)?;
     parent_there(asked, catalog.id, parent.as_ref())?;
     levels_free(asked, catalog, levels)?;
-    Ok(created(asked, catalog, levels, properties)?)
-}
-
-/// The namespace is put, and an id is taken.
-fn created(
-    asked: &Asked<'_>,
-    catalog: &CatalogRow,
-    levels: &Namespace,
-    properties: &Properties,
-) -> Result<Acted, OutOfMemory>
-    requires sound { IsSound asked.now.state.now.rows }
-    requires within { asked.now.state.now.rows.next_id ≤ 2 ^ 62 }
-    ensures answer { IfOk result (λ acted. acted.answer ≡ NamespaceCreated levels.now properties.now) }
-    ensures changes { IfOk result (λ acted. acted.changes ≡ changes_to asked.now (λ s. with_namespace s levels.now properties.now catalog.now)) }
-{
-    let id = asked.state.next_id();
     let row = NamespaceRow {
-        id,
+        id: asked.state.next_id(),
         catalog: catalog.id,
         levels: levels.clone()?,
         properties: properties.clone()?,
     };
-    Ok(Acted {
-        answer: Answer::NamespaceCreated {
-            namespace: levels.clone()?,
-            properties: properties.clone()?,
-        },
-        changes: Listed::from(vec![in asked.alloc;
-            Change::Time(time_of(asked)),
-            Change::NextId(id + 1),
-            Change::PutNamespace(row),
-        ]?),
-    })
+    Ok(created(asked, row)?)
+}
+
+/// The namespace is put, and an id is taken.
+#[tactic(auto, using(crate::proofs::ChangesLemmas::namespace_changes))]
+fn created(asked: &Asked<'_>, row: NamespaceRow) -> Result<Acted, OutOfMemory>
+    requires sound { IsSound asked.now.state.now.rows }
+    requires id { row.id ≡ asked.now.state.now.rows.next_id }
+    requires within { asked.now.state.now.rows.next_id ≤ 2 ^ 62 }
+    ensures answer { IfOk result (λ acted. acted.answer ≡ NamespaceCreated row.levels row.properties) }
+    ensures changes { IfOk result (λ acted. acted.changes ≡ changes_to asked.now (λ s. with_new_namespace s row)) }
+{
+    let answer = Answer::NamespaceCreated {
+        namespace: row.levels.clone()?,
+        properties: row.properties.clone()?,
+    };
+    let changes = under_next_id(asked, Change::PutNamespace(row))?;
+    Ok(Acted { answer, changes })
 }
 
 /// The namespace of these levels in the catalogue of the name, on which the caller may use the privilege.
@@ -128,7 +121,10 @@ fn on_namespace<'a>(
     levels: &Namespace,
 ) -> Result<&'a NamespaceRow, Undone>
     requires { IsSound asked.now.state.now.rows }
-    ensures { let s = asked.now.state.now.rows in Enters (on_namespace s asked.now.command.now privilege name.now levels.now) (λ row. (namespace_row_at s name.now levels.now ≡ Some row.now) × (row_of namespace_id row.now.id s.content.namespaces ≡ Some row.now)) result }
+    ensures { let s = asked.now.state.now.rows in
+        Enters (on_namespace s asked.now.command.now privilege name.now levels.now)
+        (λ row. (namespace_row_at s name.now levels.now ≡ Some row.now)
+        × (row_of namespace_id row.now.id s.content.namespaces ≡ Some row.now)) result }
 {
     signed_in(asked)?;
     let catalog = catalog_there(asked, name)?;
@@ -201,7 +197,8 @@ pub fn update_properties(
     updates: &Properties,
 ) -> Result<Acted, Undone>
     requires { IsSound asked.now.state.now.rows }
-    ensures { Acts asked.now (λ s command. update_properties s command name.now levels.now removals.now updates.now) result }
+    ensures { Acts asked.now
+        (λ s command. update_properties s command name.now levels.now removals.now updates.now) result }
 {
     let row = on_namespace(asked, Privilege::NamespaceWriteProperties, name, levels)?;
     keys_apart(removals, updates)?;
@@ -218,7 +215,8 @@ fn with_updates(
     removals: &Listed<Text>,
     updates: &Properties,
 ) -> Result<NamespaceRow, OutOfMemory>
-    ensures { IfOk result (λ altered. altered ≡ record row.now { properties = pairs_updated removals.now updates.now row.now.properties }) }
+    ensures { IfOk result (λ altered. altered
+        ≡ record row.now { properties = pairs_updated removals.now updates.now row.now.properties }) }
 {
     let properties = row.properties.updated(alloc, removals.as_slice(), updates)?;
     Ok(NamespaceRow {
@@ -236,7 +234,9 @@ fn keys_told(
     removals: &Listed<Text>,
     updates: &Properties,
 ) -> Result<Answer, OutOfMemory>
-    ensures { IfOk result (λ answer. answer ≡ PropertiesUpdated (missing_keys removals.now row.now.properties) (removed_keys removals.now row.now.properties) (keys updates.now)) }
+    ensures { IfOk result (λ answer. answer
+        ≡ PropertiesUpdated (missing_keys removals.now row.now.properties)
+        (removed_keys removals.now row.now.properties) (keys updates.now)) }
 {
     Ok(Answer::PropertiesUpdated {
         missing: row.properties.missing_keys(alloc, removals.as_slice())?,

@@ -1,4 +1,4 @@
-ghost use Rattle.std.specs.Prelude.{◌≡◌, ◌≢◌, ◌++◌, ℕ, List, codes, IfOk, MatchOption, length, map, ◌==◌, ◌||◌, option_copied};
+ghost use Rattle.std.specs.Prelude.{◌≡◌, ◌≢◌, ℕ, List, IfOk, MatchOption, length, map, ◌==◌, ◌||◌, option_copied};
 ghost use Rattle.std.specs.Bool.{⊤};
 ghost use Rattle.std.specs.List.{filter_map, list_all, list_any, IsDistinct};
 ghost use Rattle.std.specs.Str.{bytes_eq};
@@ -123,7 +123,8 @@ fn role_of_scope<'a>(access: &'a Access, scope: &str) -> Option<&'a PrincipalRol
 
 /// The name of the role that the scope names.
 fn role_name(scope: &str) -> Option<&str>
-    ensures { MatchOption result ((name : List ℕ) → scope.now ≢ role_scope name) (λ name. scope.now ≡ role_scope name.now) }
+    ensures { MatchOption result ((name : List ℕ) → scope.now ≢ role_scope name)
+        (λ name. scope.now ≡ role_scope name.now) }
 {
     scope.strip_prefix(ROLE_PREFIX)
 }

@@ -1,6 +1,6 @@
-ghost use Rattle.std.specs.Prelude.{◌≡◌, ◌≤◌, ◌^◌};
+ghost use Rattle.std.specs.Prelude.{◌≤◌, ◌^◌};
 ghost use Rattle.pol_rules.specs.Judged.{Acts};
-ghost use Rattle.pol_content_actions.specs.Sessions.{open_session, opened};
+ghost use Rattle.pol_content_actions.specs.Sessions.{open_session};
 ghost use Rattle.pol_state.specs.Sound.{IsSound};
 
 use crate::scopes::{scope_of, scopes_there};

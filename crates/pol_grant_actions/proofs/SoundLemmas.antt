@@ -1,6 +1,6 @@
 -- The actions on catalogue roles, joins and grants keep a state sound.
 use denote.Enum.Bare.{true_same}
-use Rattle.std.proofs.Common.{◌≡◌, ℕ, ◌+◌, Bool, true, ◌&&◌, ◌||◌, codes, List, Option, None, Some, is_some, refl, sym, ap, subst, ◌∙◌, arith, nat_eq}
+use Rattle.std.proofs.Common.{◌≡◌, ℕ, ◌+◌, true, ◌&&◌, ◌||◌, codes, List, Option, None, Some, refl, sym, ap, subst, ◌∙◌, arith, nat_eq}
 use Rattle.std.specs.Option.{option_map}
 use Rattle.std.specs.Str.{bytes_eq}
 use Rattle.std.proofs.lemmas.Bool.{and_parts, eqb-true}
@@ -9,8 +9,6 @@ use Rattle.pol_access.specs.Names.{catalog_role_named}
 use Rattle.pol_access.specs.Privilege.{grantable, same_privilege}
 use Rattle.pol_access.specs.Securable.{kind_of}
 use Rattle.pol_access.specs.contracts.privilege.Privilege.{the_type}
-use Rattle.pol_access.specs.contracts.rows.GrantRow as grant_row
-use Rattle.pol_access.specs.contracts.rows.JoinRow as join
 use Rattle.pol_access.specs.declared.privilege.Privilege.{Privilege}
 use Rattle.pol_access.specs.declared.privilege.Privilege.TheVariants.{CatalogManageAccess, CatalogManageContent}
 use Rattle.pol_access.specs.declared.rows.CatalogRoleRow.{CatalogRoleRow}
@@ -19,7 +17,6 @@ use Rattle.pol_access.specs.declared.rows.JoinRow.{JoinRow}
 use Rattle.pol_access.specs.declared.securable.Securable.{Securable}
 use Rattle.pol_access.specs.declared.securable.Securable.TheVariants as securable
 use Rattle.pol_access.proofs.SoundLemmas as access
-use Rattle.pol_tables.specs.Facts.{facts_with, holds}
 use Rattle.pol_tables.specs.Table.{knows, row_of, IdsDiffer}
 use Rattle.pol_tables.proofs.ListLemmas.{or_true}
 use Rattle.pol_tables.proofs.RisingLemmas.{IdsDiffer-rising}
@@ -40,14 +37,14 @@ use Rattle.pol_commands.specs.declared.grants.GrantedOn.{GrantedOn}
 use Rattle.pol_commands.specs.declared.grants.GrantedOn.TheVariants as on
 use Rattle.pol_state.specs.Rows.{Rows}
 use Rattle.pol_state.specs.Sound.{AreTied, IsGiven, IsGrantOf, IsOrderly, IsSecurableGiven, IsSound, IsSoundAccess}
-use Rattle.pol_rules.specs.AccessRules.{catalog_role_at, catalog_role_taken, grant_of, is_catalog, is_first, join_of, reserved_grant, reserved_join, securable_in}
-use Rattle.pol_rules.specs.Acting.{done, stamped}
+use Rattle.pol_rules.specs.AccessRules.{catalog_role_at, grant_of, is_catalog, is_first, join_of, reserved_grant, reserved_join, securable_in}
+use Rattle.pol_rules.specs.Acting.{stamped}
 use Rattle.pol_state.specs.Bounds.{EachPasses}
-use Rattle.pol_rules.specs.Rules.{given}
+use Rattle.pol_rules.specs.Rules.{given, name_taken}
 use Rattle.pol_rules.proofs.FoundLemmas.{at-named, at-own, grant-found, join-found, known, role-at, role-is, role-own, text-same, catalog-own, found-holds}
 use Rattle.pol_rules.proofs.SoundLemmas.{access-orderly, new-access-orderly, orderly-done, next-new, next_id-some, IsWithin}
 use Rattle.pol_rules.proofs.AccessRulesLemmas.{both-not, not-kept}
-use Rattle.pol_rules.proofs.RulesLemmas.{nothing, refused-not}
+use Rattle.pol_rules.proofs.RulesLemmas.{refused-not, name-free}
 use Rattle.pol_grant_actions.specs.CatalogRoles.{create_catalog_role, drop_catalog_role, with_catalog_role, with_role_in, without_catalog_role}
 use Rattle.pol_grant_actions.specs.Grants.{add_grant, revoke, with_grant, without_grant}
 use Rattle.pol_grant_actions.specs.Joins.{add_join, end_join, with_join, without_join}
@@ -69,11 +66,10 @@ module _ (s : Rows) (command : Command) (sound : IsSound s) (within : IsWithin s
 
   -- a catalogue role that is created
   pub orderly-create_catalog_role : (catalog name : List ℕ) → EachPasses (create_catalog_role s command catalog name).rules → IsOrderly (stamped s command (create_catalog_role s command catalog name).after)
-  unfolding catalog_role_taken
   orderly-create_catalog_role catalog name passes = orderly-done s command sound within (catalog_named catalog s.content) (with_role_in s name) (λ owner found.
       let row : CatalogRoleRow = record { id = s.next_id; catalog = owner.id; name = name } in
-      let taken = sym (ap (λ one. given one (catalog_role_taken s name)) found) ∙ passes.1.1.1.0 in
-      let free = nothing (catalog_role_named owner.id name s.access) (refused-not (is_some (catalog_role_named owner.id name s.access)) _ taken) in
+      let taken = sym (ap (λ one. given one (λ (row : CatalogRow). name_taken (catalog_role_named row.id name s.access) name)) found) ∙ passes.1.1.1.0 in
+      let free = name-free (catalog_role_named owner.id name s.access) name taken in
       let own = catalog-own s command sound catalog owner found in
       let there = known catalog_id owner.id owner s.content.catalogs own in
       let given_id = found-holds (λ (one : CatalogRow). IsGiven s.next_id (catalog_id one)) (is_catalog_named catalog) s.content.catalogs owner sound.orderly.content.catalogs.given found in

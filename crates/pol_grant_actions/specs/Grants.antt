@@ -19,7 +19,7 @@ use Rattle.pol_content.specs.Content.{namespace_id}
 use Rattle.pol_tables.specs.Facts.{facts_with, facts_without}
 use Rattle.pol_tables.specs.Table.{row_of}
 use Rattle.pol_rules.specs.AccessRules.{catalog_role_at, grant_of, in_catalog, no_catalog_role, no_grant, no_securable, reserved_grant}
-use Rattle.pol_rules.specs.Acting.{Acting, answer_on, done, reading}
+use Rattle.pol_rules.specs.Acting.{Acting, done, reading}
 use Rattle.pol_state.specs.Rows.{Rows}
 use Rattle.pol_rules.specs.Rules.{given, inside}
 
@@ -43,7 +43,7 @@ grants_held s role =
 -- listing them
 abbrev pub list_grants : Rows → Command → List ℕ → List ℕ → Acting
 list_grants s command catalog role =
-    reading s (in_catalog s command catalog (inside s catalog (no_catalog_role s role) ∷ [])) (answer_on (catalog_role_at s catalog role) (λ row. GrantsListed (grants_held s row)))
+    reading s (in_catalog s command catalog (inside s catalog (no_catalog_role s role) ∷ [])) (option_map (λ row. GrantsListed (grants_held s row)) (catalog_role_at s catalog role))
 
 -- the rows with a grant, and without one
 abbrev pub with_grant : Rows → GrantRow → Rows
@@ -57,7 +57,7 @@ abbrev pub add_grant : Rows → Command → List ℕ → List ℕ → Grant → 
 add_grant s command catalog role grant = record {
   rules = in_catalog s command catalog (inside s catalog (no_securable s grant.on) ∷ inside s catalog (no_catalog_role s role) ∷ []);
   after = done s (grant_of s catalog role grant) (with_grant s);
-  answer = GrantAdded;
+  answer = Some GrantAdded;
 }
 
 -- revoking a grant
@@ -67,5 +67,5 @@ revoke s command catalog role grant =
     record {
       rules = in_catalog s command catalog (inside s catalog (no_securable s grant.on) ∷ inside s catalog (no_catalog_role s role) ∷ given row (no_grant s) ∷ reserved_grant role grant ∷ []);
       after = done s row (without_grant s);
-      answer = GrantRevoked;
+      answer = Some GrantRevoked;
     }

@@ -1,5 +1,5 @@
 -- The actions on joins of principal roles to catalogue roles.
-use Rattle.std.specs.Prelude.{ℕ, ◌==◌, ◌&&◌, List, [], ◌∷◌, map, filter}
+use Rattle.std.specs.Prelude.{ℕ, ◌==◌, ◌&&◌, List, [], ◌∷◌, map, filter, Some, option_map}
 use Rattle.pol_access.specs.Access.{catalog_role_name, is_joined}
 use Rattle.pol_access.specs.Names.{principal_role_named}
 use Rattle.pol_access.specs.Order.{by_name}
@@ -12,7 +12,7 @@ use Rattle.pol_content.specs.Content.{catalog_named}
 use Rattle.pol_content.specs.declared.rows.CatalogRow.{CatalogRow}
 use Rattle.pol_tables.specs.Facts.{facts_with, facts_without}
 use Rattle.pol_rules.specs.AccessRules.{in_catalog, join_of, no_catalog_role, no_join, no_principal_role, of_both, reserved_join}
-use Rattle.pol_rules.specs.Acting.{Acting, answer_on, done, reading}
+use Rattle.pol_rules.specs.Acting.{Acting, done, reading}
 use Rattle.pol_state.specs.Rows.{Rows}
 use Rattle.pol_rules.specs.Rules.{given, inside}
 
@@ -24,7 +24,7 @@ roles_joined s role catalog =
 -- listing them
 abbrev pub list_joins : Rows → Command → List ℕ → List ℕ → Acting
 list_joins s command catalog role =
-    reading s (in_catalog s command catalog (no_principal_role s role ∷ [])) (answer_on (of_both (roles_joined s) (principal_role_named role s.access) (catalog_named catalog s.content)) RolesListed)
+    reading s (in_catalog s command catalog (no_principal_role s role ∷ [])) (option_map RolesListed (of_both (roles_joined s) (principal_role_named role s.access) (catalog_named catalog s.content)))
 
 -- the rows with a join, and without one
 abbrev pub with_join : Rows → JoinRow → Rows
@@ -38,7 +38,7 @@ abbrev pub add_join : Rows → Command → List ℕ → List ℕ → List ℕ �
 add_join s command catalog role catalog_role = record {
   rules = in_catalog s command catalog (no_principal_role s role ∷ inside s catalog (no_catalog_role s catalog_role) ∷ []);
   after = done s (join_of s catalog role catalog_role) (with_join s);
-  answer = JoinAdded;
+  answer = Some JoinAdded;
 }
 
 -- ending a join
@@ -48,5 +48,5 @@ end_join s command catalog role catalog_role =
     record {
       rules = in_catalog s command catalog (no_principal_role s role ∷ inside s catalog (no_catalog_role s catalog_role) ∷ given row (no_join s catalog_role) ∷ reserved_join role catalog_role ∷ []);
       after = done s row (without_join s);
-      answer = JoinEnded;
+      answer = Some JoinEnded;
     }

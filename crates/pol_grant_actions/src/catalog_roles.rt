@@ -119,7 +119,8 @@ fn dropped(asked: &Asked<'_>, row: &CatalogRoleRow) -> Result<Acted, OutOfMemory
     requires sound { IsSound asked.now.state.now.rows }
     requires there { row_of catalog_role_id row.now.id asked.now.state.now.rows.access.catalog_roles ≡ Some row.now }
     ensures answer { IfOk result (λ acted. acted.answer ≡ RoleDropped) }
-    ensures changes { IfOk result (λ acted. acted.changes ≡ changes_to asked.now (λ s. without_catalog_role s row.now)) }
+    ensures changes { IfOk result (λ acted. acted.changes
+        ≡ changes_to asked.now (λ s. without_catalog_role s row.now)) }
 {
     let mut changes = vec![in asked.alloc;
         Change::Time(time_of(asked)),

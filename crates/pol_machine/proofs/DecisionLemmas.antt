@@ -6,6 +6,7 @@ use Rattle.pol_commands.specs.Reply.{is_run_full}
 use Rattle.pol_content.specs.declared.change.Change.{Change}
 use Rattle.pol_commands.specs.declared.command.Command.{Command}
 use Rattle.pol_commands.specs.declared.reply.Answer.{Answer}
+use Rattle.pol_commands.specs.declared.reply.Answer.TheVariants.{NamespaceThere}
 use Rattle.pol_commands.specs.declared.reply.Refusal.{Refusal}
 use Rattle.pol_commands.specs.declared.reply.Reply.TheVariants.{Answered, Refused}
 use Rattle.pol_state.specs.Applied.{applied}
@@ -22,19 +23,29 @@ use Rattle.pol_rules.specs.Judged.{Sees}
 use Rattle.pol_rules.proofs.FairLemmas.{limit-other}
 use Rattle.pol_rules.proofs.RulesLemmas.{either-other, first-other, first-then, none-either, run_full-tells, tells_full}
 use Rattle.pol_rules.proofs.SoundLemmas.{stamped-orderly, within-bounds, IsWithin}
-use Rattle.pol_machine.specs.Machine.{reply_by, rules_within, acting, next_by, next_state, reply_of, rules_of}
+use Rattle.pol_machine.specs.Machine.{reply_by, rules_within, acting, next_by, next_state, reply_of, rules_of, reply_with}
 use Rattle.pol_machine.proofs.OwesLemmas.{owes}
 
 -- a reply is the answer exactly where no rule fails
-pub answered-none : (first : Option Refusal) (answer : Answer) → reply_by first answer ≡ Answered answer → first ≡ None
+pub answered-none : (first : Option Refusal) (answer : Option Answer) → reply_by first answer ≡ reply_with answer → first ≡ None
 answered-none None answer is = refl
-answered-none (Some why) answer is = let contrary : Refused why ≡ Answered answer = is in cc
+answered-none (Some why) (Some answer) is = let contrary : Refused why ≡ Answered answer = is in cc
+answered-none (Some why) None is = let contrary : Refused why ≡ Answered NamespaceThere = is in cc
+
+-- an answer is no refusal of a full run
+not-full : (answer : Option Answer) → is_run_full (reply_with answer) ≡ false
+not-full None = refl
+not-full (Some answer) = refl
+
+-- the answer of a reply
+pub answer-is : (left right : Answer) → Answered left ≡ Answered right → left ≡ right
+answer-is left right is = cc
 
 module _ (s : Rows) (command : Command) where
   abbrev action : Rows
   action = (acting s command command.action).after
 
-  abbrev answer : Answer
+  abbrev answer : Option Answer
   answer = (acting s command command.action).answer
 
   abbrev own : List (Option Refusal)
@@ -62,7 +73,7 @@ module _ (s : Rows) (command : Command) where
       subst (λ rule. Sees rule (λ _. ⊤) result) (limits-stamped action) (judged (stamped s command action) command.charge orderly are leads)
 
   -- where no rule fails
-  pub reply-answered : first_refusal (rules_of s command) ≡ None → reply_of s command ≡ Answered answer
+  pub reply-answered : first_refusal (rules_of s command) ≡ None → reply_of s command ≡ reply_with answer
   unfolding reply_of
   reply-answered none = ap (λ first. reply_by first answer) none
 
@@ -122,7 +133,7 @@ module _ (s : Rows) (command : Command) where
           sound-after (first_refusal rules) refl sound within
 
   told_by : (first : Option Refusal) → is_run_full (reply_by first answer) ≡ tells_full first
-  told_by None = refl
+  told_by None = not-full answer
   told_by (Some why) = refl
 
   -- a run that is full is told, and by its own rule alone

@@ -4,14 +4,13 @@ use Rattle.pol_machine.specs.Agree.{DoesAlike}
 use Rattle.pol_rules.specs.Live.{live_part, Agree}
 use Rattle.pol_state.specs.Applied.{applied}
 use Rattle.pol_state.specs.Changes.{changes_between}
-use Rattle.pol_machine.specs.Machine.{acting, next_state, reply_of, rules_of}
+use Rattle.pol_machine.specs.Machine.{acting, next_state, reply_of, rules_of, reply_with}
 use Rattle.pol_commands.specs.Reply.{is_run_full}
 use Rattle.pol_state.specs.Rows.{Rows}
 use Rattle.pol_state.specs.Bounds.{EachPasses}
 use Rattle.pol_rules.specs.Rules.{run_full, time_of}
 use Rattle.pol_state.specs.Sound.{IsSound}
 use Rattle.pol_commands.specs.declared.command.Command.{Command}
-use Rattle.pol_commands.specs.declared.reply.Reply.TheVariants.{Answered}
 
 -- the state after a command is sound
 abbrev pub NextStateIsSound : Type 0
@@ -20,7 +19,7 @@ NextStateIsSound = (s : Rows) (command : Command) → IsSound s → command.mome
 -- a command is answered exactly where each of its rules passes
 abbrev pub AnsweredWhereEachRulePasses : Type 0
 AnsweredWhereEachRulePasses =
-    (s : Rows) (command : Command) → (reply_of s command ≡ Answered (acting s command command.action).answer) ↔ EachPasses (rules_of s command)
+    (s : Rows) (command : Command) → (reply_of s command ≡ reply_with (acting s command command.action).answer) ↔ EachPasses (rules_of s command)
 
 -- the changes of a command lead to the state after it, unless the run is full
 abbrev pub ChangesLeadToNextState : Type 0

@@ -17,6 +17,7 @@ use Rattle.pol_commands.specs.declared.command.Action.{Action}
 use Rattle.pol_commands.specs.declared.command.Action.TheVariants.{OpenSession, GetConfig, ListCatalogs, CreateCatalog, GetCatalog, DropCatalog, ListNamespaces, CreateNamespace, LoadNamespace, HeadNamespace, DropNamespace, UpdateProperties, ListPrincipals, CreatePrincipal, GetPrincipal, DropPrincipal, Rotate, ListMembers, AddMember, EndMember, ListPrincipalRoles, CreatePrincipalRole, GetPrincipalRole, DropPrincipalRole, ListJoins, AddJoin, EndJoin, ListCatalogRoles, CreateCatalogRole, GetCatalogRole, DropCatalogRole, ListGrants, AddGrant, Revoke}
 use Rattle.pol_commands.specs.declared.command.Command.{Command}
 use Rattle.pol_commands.specs.declared.reply.Answer.{Answer}
+use Rattle.pol_commands.specs.declared.reply.Answer.TheVariants.{NamespaceThere}
 use Rattle.pol_commands.specs.declared.reply.Refusal.{Refusal}
 use Rattle.pol_commands.specs.declared.reply.Reply.{Reply}
 use Rattle.pol_commands.specs.declared.reply.Reply.TheVariants.{Answered, Refused}
@@ -66,10 +67,16 @@ rules_within action = action.rules ++ over_limit action.after ∷ []
 abbrev pub rules_of : Rows → Command → List (Option Refusal)
 rules_of s command = run_full s command.charge ∷ rules_within (acting s command command.action)
 
+-- the answer as a reply. An action that found nothing to answer on has none, and one of its rules has refused: so says
+-- the clause `given` of `decide`
+abbrev pub reply_with : Option Answer → Reply
+reply_with (Some answer) = Answered answer
+reply_with None = Answered NamespaceThere
+
 -- the first rule that fails, else the answer
-abbrev pub reply_by : Option Refusal → Answer → Reply
+abbrev pub reply_by : Option Refusal → Option Answer → Reply
 reply_by (Some why) answer = Refused why
-reply_by None answer = Answered answer
+reply_by None answer = reply_with answer
 
 -- the reply to a command
 unfoldable pub reply_of : Rows → Command → Reply

@@ -1,5 +1,6 @@
-ghost use Rattle.std.specs.Prelude.{◌≡◌, ◌≤◌, ◌^◌, [], IfErr, IfOk, None};
-ghost use Rattle.pol_commands.specs.declared.reply.Reply.TheVariants.{Refused};
+ghost use Rattle.std.specs.Prelude.{◌≡◌, ◌≤◌, ◌^◌, [], IfErr, IfOk, None, Some};
+ghost use Rattle.pol_commands.specs.declared.reply.Answer.{Answer};
+ghost use Rattle.pol_commands.specs.declared.reply.Reply.TheVariants.{Answered, Refused};
 ghost use Rattle.pol_state.specs.Changes.{changes_between};
 ghost use Rattle.pol_rules.specs.Judged.{Acts, FirstPasses};
 ghost use Rattle.pol_rules.specs.Rules.{run_full};
@@ -43,12 +44,15 @@ pub struct Decision {
 
 /// Decides a command in a state, which stays as it is: the reply is the first rule that fails, else the answer, and
 /// the changes are those between the state and the state after the command. A full run is told without memory, and so
-/// is the first rule of an action, by which the caller is judged.
+/// is the first rule of an action, by which the caller is judged. An answer is given only where the action has one.
 pub fn decide(alloc: Global, state: &State, command: &Command) -> Result<Decision, OutOfMemory>
     requires sound { IsSound state.now.rows }
     requires moment { command.now.moment ≤ 2 ^ 62 }
     ensures reply { IfOk result (λ decision. decision.reply ≡ reply_of state.now.rows command.now) }
-    ensures changes { IfOk result (λ decision. decision.changes ≡ changes_between state.now.rows (next_state state.now.rows command.now)) }
+    ensures changes { IfOk result (λ decision. decision.changes
+        ≡ changes_between state.now.rows (next_state state.now.rows command.now)) }
+    ensures given { IfOk result (λ decision. (answer : Answer) → decision.reply ≡ Answered answer
+        → (acting state.now.rows command.now command.now.action).answer ≡ Some answer) }
     ensures full { IfErr result (λ _. run_full state.now.rows command.now.charge ≡ None) }
     ensures first { IfErr result (λ _. FirstPasses (acting state.now.rows command.now command.now.action).rules) }
 {

@@ -15,11 +15,12 @@ use Rattle.pol_access.specs.declared.rows.PrincipalRow.{PrincipalRow}
 use Rattle.pol_access.proofs.ReferentLemmas.{named_is_dropped}
 use Rattle.pol_tables.specs.Facts.{holds}
 use Rattle.pol_tables.specs.Same.{same}
-use Rattle.pol_tables.specs.Table.{row_of, IdsDiffer}
+use Rattle.pol_tables.specs.Table.{row_of, rows_with, IdsDiffer}
 use Rattle.pol_tables.proofs.ChangesLemmas.{table_changes-put_altered, table_changes-put_new, table_changes-put_same, table_changes-take}
 use Rattle.pol_tables.proofs.FactChangesLemmas.{fact_changes-put_known, fact_changes-put_new, fact_changes-take}
 use Rattle.pol_tables.proofs.RisingLemmas.{IdsDiffer-rising}
 use Rattle.pol_tables.proofs.SameLemmas.{same-differ}
+use Rattle.pol_tables.proofs.TableLemmas.{rows_with-known, rows_with-same}
 use Rattle.pol_content.specs.declared.change.Change.TheVariants.{Time, NextId, PutPrincipal, DropPrincipal, PutPrincipalRole, DropPrincipalRole, PutMember, DropMember, PutJoin, DropJoin}
 use Rattle.pol_commands.specs.declared.command.Command.{Command}
 use Rattle.pol_state.specs.Changes.{changes_between}
@@ -28,6 +29,7 @@ use Rattle.pol_state.specs.Sound.{IsSound}
 use Rattle.pol_state.proofs.ChangesLemmas.{made-in_place, made-with_ids, none, still}
 use Rattle.pol_rules.specs.Acting.{stamped}
 use Rattle.pol_rules.specs.Rules.{time_of}
+use Rattle.pol_rules.proofs.FoundLemmas.{known}
 use Rattle.pol_rules.proofs.SoundLemmas.{next-new}
 use Rattle.pol_principal_actions.specs.Members.{with_member, without_member}
 use Rattle.pol_principal_actions.specs.PrincipalRoles.{with_principal_role, without_principal_role}
@@ -80,6 +82,12 @@ module _ (s : Rows) (command : Command) where
     same_secret_changes secret row there same =
         let own : row_of principal_id row.id s.access.principals ≡ Some (record row { digest = digest_of secret }) = there ∙ ap (λ digest. Some (record row { digest = digest })) (digest-is row secret same) in
         made-in_place s (stamped s command (rotated s secret row)) none refl refl (λ i. record (still s i) { principals = table_changes-put_same principal.the_row.coded principal_id PutPrincipal DropPrincipal (record row { digest = digest_of secret }) s.access.principals principals-differ own i })
+
+    pub same_secret : (secret : List ℕ) (row : PrincipalRow) → row_of principal_id row.id s.access.principals ≡ Some row → bytes_eq row.digest (digest_of secret) ≡ true → rotated s secret row ≡ s
+    same_secret secret row there same =
+        let is : digest_of secret ≡ row.digest = sym (digest-is row secret same) in
+        ap (λ digest. record s { access = record s.access { principals = rows_with principal_id (record row { digest = digest }) s.access.principals } }) is
+        ∙ ap (λ rows. record s { access = record s.access { principals = rows } }) (rows_with-known principal_id row s.access.principals (known principal_id row.id row s.access.principals there) ∙ rows_with-same principal_id row s.access.principals principals-differ there)
 
     pub other_secret_changes : (secret : List ℕ) (row : PrincipalRow) → row_of principal_id row.id s.access.principals ≡ Some row → bytes_eq row.digest (digest_of secret) ≡ false → changes_between s (stamped s command (rotated s secret row)) ≡ Time (time_of s command) ∷ PutPrincipal (record row { digest = digest_of secret }) ∷ []
     other_secret_changes secret row there other =

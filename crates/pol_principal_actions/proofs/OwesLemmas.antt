@@ -1,27 +1,39 @@
 -- What each action on principals, principal roles and memberships owes.
-use Rattle.std.proofs.Common.{◌≡◌, ℕ, Bool, true, false, codes, List, Option, None, Some, refl, sym, ap, ◌∙◌, inl, inr, arith, true≢false}
+use Rattle.std.proofs.Common.{◌≡◌, ℕ, Bool, true, false, codes, List, Option, Some, refl, sym, ap, ◌∙◌, inl, inr, arith, true≢false}
+use Rattle.std.specs.Str.{bytes_eq}
 use Rattle.std.proofs.lemmas.Bool.{cases_Bool, eqb-true}
 use Rattle.pol_access.specs.Access.{principal_dropped, principal_id}
 use Rattle.pol_access.specs.Names.{principal_named, principal_role_named}
+use Rattle.pol_access.specs.Order.{join_cmp, member_cmp}
+use Rattle.pol_access.specs.Referent.{join_names, member_names}
+use Rattle.pol_access.specs.contracts.rows.JoinRow as join
+use Rattle.pol_access.specs.contracts.rows.MemberRow as member
+use Rattle.pol_access.specs.declared.referent.Referent.TheVariants as referent
 use Rattle.pol_access.specs.declared.rows.PrincipalRoleRow.{PrincipalRoleRow}
 use Rattle.pol_access.specs.declared.rows.PrincipalRow.{PrincipalRow}
+use Rattle.pol_tables.specs.Facts.{holds}
 use Rattle.pol_tables.specs.Table.{has_id, knows, rows_without}
+use Rattle.pol_tables.proofs.FactsLemmas.{facts_with-known}
 use Rattle.pol_tables.proofs.ListLemmas.{each-all, each-weaken}
 use Rattle.pol_tokens.specs.declared.session.SessionRow.{SessionRow}
+use Rattle.pol_content.specs.declared.change.Change.TheVariants.{PutPrincipal, PutMember, DropMember, DropJoin}
 use Rattle.pol_content.proofs.TiesLemmas.{unknown-put, unknown-without}
 use Rattle.pol_commands.specs.declared.command.Command.{Command}
 use Rattle.pol_state.specs.Rows.{Rows, digest_of}
 use Rattle.pol_state.specs.Sound.{IsSessionOf, IsSound}
+use Rattle.pol_state.proofs.AppliedLemmas.{and_then, facts-dropped, facts_without-unknown}
 use Rattle.pol_rules.specs.AccessRules.{member_of}
 use Rattle.pol_rules.specs.Acting.{Acting}
 use Rattle.pol_rules.specs.Live.{live_part}
-use Rattle.pol_rules.proofs.FairLemmas.{none-fair, ◌⊳◌, fair-client_taken, fair-given, fair-in_realm, fair-no_member, fair-no_principal, fair-no_principal_role, fair-principal_role_taken, fair-principal_taken, fair-reserved, fair-reserved_member}
+use Rattle.pol_rules.specs.Rules.{time_of}
+use Rattle.pol_rules.proofs.FairLemmas.{none-fair, ◌⊳◌, fair-given, fair-in_realm, fair-no_member, fair-no_principal, fair-no_principal_role, fair-reserved, fair-reserved_member, fair-name_taken}
 use Rattle.pol_rules.proofs.FoundLemmas.{known, principal-own, role-own}
+use Rattle.pol_rules.proofs.LeadsLemmas.{leads-by, leads-one}
 use Rattle.pol_rules.proofs.OwesLemmas.{owes-apart, owes-done, owes-reading, owes-returning, NoneReturns, Owes}
 use Rattle.pol_principal_actions.specs.Members.{add_member, end_member, list_members, with_member, without_member}
 use Rattle.pol_principal_actions.specs.PrincipalRoles.{create_principal_role, drop_principal_role, get_principal_role, list_principal_roles, with_principal_role, without_principal_role}
 use Rattle.pol_principal_actions.specs.Principals.{client_id_or, create_principal, drop_principal, get_principal, list_principals, new_principal, rotate, rotated, secret_or, with_new_principal, with_principal, without_principal}
-use Rattle.pol_principal_actions.proofs.LeadsLemmas.{leads-rotated, leads-with_member, leads-with_new_principal, leads-with_principal_role, leads-without_member, leads-without_principal, leads-without_principal_role}
+use Rattle.pol_principal_actions.proofs.ChangesLemmas.{dropped_principal_changes, dropped_principal_role_changes, ended_member_changes, new_member_changes, new_principal_changes, other_secret_changes, principal_role_changes, same_secret}
 use Rattle.pol_principal_actions.proofs.SoundLemmas.{orderly-add_member, orderly-create_principal, orderly-create_principal_role, orderly-drop_principal, orderly-drop_principal_role, orderly-end_member, orderly-rotate}
 
 module _ (s : Rows) (command : Command) where
@@ -69,9 +81,9 @@ module _ (s : Rows) (command : Command) where
       let client = client_id_or client_id command.words.a in
       let row = new_principal s name client (secret_or secret command.words.b command.words.c) in
       record {
-        rows = owes-returning s command (with_new_principal s row) (λ sound. put-returns sound row (λ unknown. refl)) (λ sound. leads-with_new_principal s command sound row refl);
+        rows = owes-returning s command (with_new_principal s row) (λ sound. put-returns sound row (λ unknown. refl)) (λ sound. leads-by s command (with_new_principal s row) _ (new_principal_changes s command sound row refl) refl);
         orderly = λ sound within passes. orderly-create_principal s command sound within name client_id secret passes;
-        fair = fair-in_realm command (fair-principal_taken name ⊳ fair-client_taken client ⊳ none-fair);
+        fair = fair-in_realm command (fair-name_taken _ name ⊳ fair-name_taken _ client ⊳ none-fair);
         answer = refl;
       }
 
@@ -80,7 +92,10 @@ module _ (s : Rows) (command : Command) where
 
   pub owes-drop_principal : (name : List ℕ) → OwesAlike (λ t. drop_principal t command name)
   owes-drop_principal name = record {
-    rows = owes-done s command (principal_named name s.access) _ _ (λ row found. owes-returning s command (without_principal s row) (λ sound. without-returns row.id) (λ sound. leads-without_principal s command sound row (principal-own s sound name row found)));
+    rows = owes-done s command (principal_named name s.access) _ _ (λ row found. owes-returning s command (without_principal s row) (λ sound. without-returns row.id) (λ sound.
+        let after : Rows = record (without_principal s row) { time = time_of s command } in
+        leads-by s command (without_principal s row) _ (dropped_principal_changes s command sound row (principal-own s sound name row found))
+        (facts-dropped member.the_row.coded member_cmp DropMember (λ members. record after { access = record after.access { members = members } }) (λ members fact. refl) (member_names (referent.Principal row.id)) s.access.members).is));
     orderly = λ sound within passes. orderly-drop_principal s command sound within name passes;
     fair = fair-in_realm command (fair-no_principal name ⊳ fair-reserved (codes "root") name ⊳ none-fair);
     answer = refl;
@@ -96,7 +111,9 @@ module _ (s : Rows) (command : Command) where
   owes-rotate name secret =
       let opens = secret_or secret command.words.a command.words.b in
       record {
-        rows = owes-done s command (principal_named name s.access) (rotated s opens) (rotated live opens) (λ row found. owes-returning s command (rotated s opens row) (λ sound. rotated-returns sound name opens row found) (λ sound. leads-rotated s command sound opens row (principal-own s sound name row found)));
+        rows = owes-done s command (principal_named name s.access) (rotated s opens) (rotated live opens) (λ row found. owes-returning s command (rotated s opens row) (λ sound. rotated-returns sound name opens row found) (λ sound.
+            let own = principal-own s sound name row found in
+            leads-one s command (rotated s opens row) (PutPrincipal (record row { digest = digest_of opens })) true (bytes_eq row.digest (digest_of opens)) (same_secret s command sound opens row own) (other_secret_changes s command sound opens row own) refl));
         orderly = λ sound within passes. orderly-rotate s command sound within name secret passes;
         fair = fair-in_realm command (fair-no_principal name ⊳ none-fair);
         answer = refl;
@@ -109,7 +126,8 @@ module _ (s : Rows) (command : Command) where
   pub owes-add_member : (principal role : List ℕ) → OwesAlike (λ t. add_member t command principal role)
   unfolding member_of
   owes-add_member principal role = record {
-    rows = owes-done s command (member_of s principal role) (with_member s) (with_member live) (λ row found. owes-apart s command (with_member s row) refl (λ sound. leads-with_member s command row));
+    rows = owes-done s command (member_of s principal role) (with_member s) (with_member live) (λ row found. owes-apart s command (with_member s row) refl (λ sound.
+        leads-one s command (with_member s row) (PutMember row) true (holds member.the_row.coded row s.access.members) (λ known. λ i. record s { access = record s.access { members = facts_with-known member.the_row.coded row s.access.members known i } }) (new_member_changes s command row) refl));
     orderly = λ sound within passes. orderly-add_member s command sound within principal role passes;
     fair = fair-in_realm command (fair-no_principal principal ⊳ fair-no_principal_role role ⊳ none-fair);
     answer = refl;
@@ -118,7 +136,8 @@ module _ (s : Rows) (command : Command) where
   pub owes-end_member : (principal role : List ℕ) → OwesAlike (λ t. end_member t command principal role)
   unfolding member_of
   owes-end_member principal role = record {
-    rows = owes-done s command (member_of s principal role) _ _ (λ row found. owes-apart s command (without_member s row) refl (λ sound. leads-without_member s command sound row));
+    rows = owes-done s command (member_of s principal role) _ _ (λ row found. owes-apart s command (without_member s row) refl (λ sound.
+        leads-one s command (without_member s row) (DropMember row) false (holds member.the_row.coded row s.access.members) (λ none. λ i. record s { access = record s.access { members = facts_without-unknown member.the_row.coded row s.access.members none i } }) (ended_member_changes s command sound row) refl));
     orderly = λ sound within passes. orderly-end_member s command sound within principal role passes;
     fair = fair-in_realm command (fair-no_principal principal ⊳ fair-no_principal_role role ⊳ fair-given (member_of s principal role) (fair-no_member role) ⊳ fair-reserved_member principal role ⊳ none-fair);
     answer = refl;
@@ -132,9 +151,9 @@ module _ (s : Rows) (command : Command) where
   owes-create_principal_role name =
       let row : PrincipalRoleRow = record { id = s.next_id; name = name } in
       record {
-        rows = owes-apart s command (with_principal_role s row) refl (λ sound. leads-with_principal_role s command sound row refl);
+        rows = owes-apart s command (with_principal_role s row) refl (λ sound. leads-by s command (with_principal_role s row) _ (principal_role_changes s command sound row refl) refl);
         orderly = λ sound within passes. orderly-create_principal_role s command sound within name passes;
-        fair = fair-in_realm command (fair-principal_role_taken name ⊳ none-fair);
+        fair = fair-in_realm command (fair-name_taken _ name ⊳ none-fair);
         answer = refl;
       }
 
@@ -143,7 +162,12 @@ module _ (s : Rows) (command : Command) where
 
   pub owes-drop_principal_role : (name : List ℕ) → OwesAlike (λ t. drop_principal_role t command name)
   owes-drop_principal_role name = record {
-    rows = owes-done s command (principal_role_named name s.access) _ _ (λ row found. owes-apart s command (without_principal_role s row) refl (λ sound. leads-without_principal_role s command sound row (role-own s sound name row found)));
+    rows = owes-done s command (principal_role_named name s.access) _ _ (λ row found. owes-apart s command (without_principal_role s row) refl (λ sound.
+        let named = referent.PrincipalRole row.id in
+        let after : Rows = record (without_principal_role s row) { time = time_of s command } in
+        leads-by s command (without_principal_role s row) _ (dropped_principal_role_changes s command sound row (role-own s sound name row found)) (and_then
+        (facts-dropped member.the_row.coded member_cmp DropMember (λ members. record after { access = record after.access { members = members; joins = s.access.joins } }) (λ members fact. refl) (member_names named) s.access.members)
+        (facts-dropped join.the_row.coded join_cmp DropJoin (λ joins. record after { access = record after.access { joins = joins } }) (λ joins fact. refl) (join_names s.access.catalog_roles named) s.access.joins)).is));
     orderly = λ sound within passes. orderly-drop_principal_role s command sound within name passes;
     fair = fair-in_realm command (fair-no_principal_role name ⊳ fair-reserved (codes "service_admin") name ⊳ none-fair);
     answer = refl;

@@ -1,16 +1,14 @@
 -- The actions on principals, principal roles and memberships keep a state orderly.
-use Rattle.std.proofs.Common.{◌≡◌, ℕ, ◌+◌, Bool, true, false, ◌&&◌, ◌||◌, codes, List, [], ◌∷◌, Option, None, is_some, refl, sym, ap, subst, ◌∙◌, arith, true≢false}
+use Rattle.std.proofs.Common.{◌≡◌, ℕ, ◌+◌, Bool, true, false, ◌&&◌, ◌||◌, codes, List, [], ◌∷◌, Option, None, refl, sym, ap, subst, ◌∙◌, arith, true≢false}
 use Rattle.std.specs.List.{AllByRecursion}
 use Rattle.std.specs.Str.{bytes_eq}
 use Rattle.std.proofs.lemmas.Bool.{eqb-true}
 use Rattle.pol_access.specs.Access.{catalog_role_id, principal_id, principal_role_id}
 use Rattle.pol_access.specs.Names.{principal_named, principal_of_client, principal_role_named}
-use Rattle.pol_access.specs.contracts.rows.MemberRow as member
 use Rattle.pol_access.specs.declared.rows.MemberRow.{MemberRow}
 use Rattle.pol_access.specs.declared.rows.PrincipalRoleRow.{PrincipalRoleRow}
 use Rattle.pol_access.specs.declared.rows.PrincipalRow.{PrincipalRow}
 use Rattle.pol_access.proofs.SoundLemmas as access
-use Rattle.pol_tables.specs.Facts.{facts_with, holds}
 use Rattle.pol_tables.specs.Table.{has_id, knows}
 use Rattle.pol_tables.proofs.RisingLemmas.{IdsDiffer-rising}
 use Rattle.pol_content.specs.Content.{catalog_id, namespace_id}
@@ -20,11 +18,11 @@ use Rattle.pol_content.proofs.TiesLemmas.{new_ids, or-false}
 use Rattle.pol_commands.specs.declared.command.Command.{Command}
 use Rattle.pol_state.specs.Rows.{Rows, digest_of}
 use Rattle.pol_state.specs.Sound.{IsOrderly, IsSound, IsSoundAccess}
-use Rattle.pol_rules.specs.AccessRules.{client_taken, member_of, principal_role_taken, principal_taken, reserved_member}
-use Rattle.pol_rules.specs.Acting.{done, stamped}
+use Rattle.pol_rules.specs.AccessRules.{member_of, reserved_member}
+use Rattle.pol_rules.specs.Acting.{stamped}
 use Rattle.pol_state.specs.Bounds.{EachPasses}
 use Rattle.pol_rules.proofs.FoundLemmas.{known, member-found, principal-is, principal-own, role-is, role-own, text-same}
-use Rattle.pol_rules.proofs.RulesLemmas.{nothing, refused-not}
+use Rattle.pol_rules.proofs.RulesLemmas.{refused-not, name-free}
 use Rattle.pol_rules.proofs.SoundLemmas.{next-new, next_id-some, IsWithin, new-access-orderly, orderly-done, access-orderly}
 use Rattle.pol_rules.proofs.AccessRulesLemmas.{both-not, not-kept}
 use Rattle.pol_principal_actions.specs.Members.{add_member, end_member, with_member, without_member}
@@ -48,12 +46,11 @@ apart-unknown key is_other id (row ∷ rows) apart is = or-false (has_id key id 
 module _ (s : Rows) (command : Command) (sound : IsSound s) (within : IsWithin s command) where
   -- a principal that is created
   pub orderly-create_principal : (name : List ℕ) (client_id secret : Option (List ℕ)) → EachPasses (create_principal s command name client_id secret).rules → IsOrderly (stamped s command (create_principal s command name client_id secret).after)
-  unfolding principal_taken client_taken
   orderly-create_principal name client_id secret passes =
       let client = client_id_or client_id command.words.a in
       let row : PrincipalRow = new_principal s name client (secret_or secret command.words.b command.words.c) in
-      let free = nothing (principal_named name s.access) (refused-not (is_some (principal_named name s.access)) _ passes.1.1.0) in
-      let client_free = nothing (principal_of_client client s.access) (refused-not (is_some (principal_of_client client s.access)) _ passes.1.1.1.0) in
+      let free = name-free (principal_named name s.access) name passes.1.1.0 in
+      let client_free = name-free (principal_of_client client s.access) client passes.1.1.1.0 in
       let pushed = access.pushed_principal s.next_id s.access row sound.orderly.access (next_id-some s sound) refl free client_free in
       let last = (access.new_rows_last s.next_id s.access sound.orderly.access).0 row refl in
       new-access-orderly s command sound within (with_new_principal s row).access
@@ -104,10 +101,9 @@ module _ (s : Rows) (command : Command) (sound : IsSound s) (within : IsWithin s
 
   -- a principal role that is created
   pub orderly-create_principal_role : (name : List ℕ) → EachPasses (create_principal_role s command name).rules → IsOrderly (stamped s command (create_principal_role s command name).after)
-  unfolding principal_role_taken
   orderly-create_principal_role name passes =
       let row : PrincipalRoleRow = record { id = s.next_id; name = name } in
-      let free = nothing (principal_role_named name s.access) (refused-not (is_some (principal_role_named name s.access)) _ passes.1.1.0) in
+      let free = name-free (principal_role_named name s.access) name passes.1.1.0 in
       let pushed = access.pushed_principal_role s.next_id s.access row sound.orderly.access (next_id-some s sound) refl free in
       let last = (access.new_rows_last s.next_id s.access sound.orderly.access).1 row refl in
       new-access-orderly s command sound within (with_principal_role s row).access

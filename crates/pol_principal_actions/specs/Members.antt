@@ -1,5 +1,5 @@
 -- The actions on the memberships of principals.
-use Rattle.std.specs.Prelude.{ℕ, List, [], ◌∷◌, map, filter}
+use Rattle.std.specs.Prelude.{ℕ, List, [], ◌∷◌, map, filter, Some, option_map}
 use Rattle.pol_access.specs.Access.{is_member, principal_role_name}
 use Rattle.pol_access.specs.Names.{principal_named}
 use Rattle.pol_access.specs.Order.{by_name}
@@ -8,7 +8,7 @@ use Rattle.pol_access.specs.declared.rows.MemberRow.{MemberRow}
 use Rattle.pol_access.specs.declared.rows.PrincipalRow.{PrincipalRow}
 use Rattle.pol_tables.specs.Facts.{facts_with, facts_without}
 use Rattle.pol_rules.specs.AccessRules.{in_realm, member_of, no_member, no_principal, no_principal_role, reserved_member}
-use Rattle.pol_rules.specs.Acting.{Acting, answer_on, done, reading}
+use Rattle.pol_rules.specs.Acting.{Acting, done, reading}
 use Rattle.pol_state.specs.Rows.{Rows}
 use Rattle.pol_rules.specs.Rules.{given}
 use Rattle.pol_commands.specs.declared.command.Command.{Command}
@@ -22,7 +22,7 @@ roles_held s principal =
 -- listing them
 abbrev pub list_members : Rows → Command → List ℕ → Acting
 list_members s command principal =
-    reading s (in_realm s command (no_principal s principal ∷ [])) (answer_on (principal_named principal s.access) (λ row. RolesListed (roles_held s row)))
+    reading s (in_realm s command (no_principal s principal ∷ [])) (option_map (λ row. RolesListed (roles_held s row)) (principal_named principal s.access))
 
 -- the rows with a membership, and without one
 abbrev pub with_member : Rows → MemberRow → Rows
@@ -36,7 +36,7 @@ abbrev pub add_member : Rows → Command → List ℕ → List ℕ → Acting
 add_member s command principal role = record {
   rules = in_realm s command (no_principal s principal ∷ no_principal_role s role ∷ []);
   after = done s (member_of s principal role) (with_member s);
-  answer = MemberAdded;
+  answer = Some MemberAdded;
 }
 
 -- ending a membership
@@ -44,5 +44,5 @@ abbrev pub end_member : Rows → Command → List ℕ → List ℕ → Acting
 end_member s command principal role = record {
   rules = in_realm s command (no_principal s principal ∷ no_principal_role s role ∷ given (member_of s principal role) (no_member s role) ∷ reserved_member principal role ∷ []);
   after = done s (member_of s principal role) (without_member s);
-  answer = MemberEnded;
+  answer = Some MemberEnded;
 }

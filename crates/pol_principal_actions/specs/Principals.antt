@@ -1,20 +1,21 @@
 -- The actions on principals.
-use Rattle.std.specs.Prelude.{ℕ, ◌+◌, List, [], ◌∷◌, ◌++◌, Option, codes, unwrap_or}
+use Rattle.std.specs.Prelude.{ℕ, ◌+◌, List, [], ◌∷◌, ◌++◌, Option, codes, unwrap_or, Some, option_map}
 use Rattle.pol_access.specs.Access.{principal_dropped, principal_id, principal_name}
-use Rattle.pol_access.specs.Names.{principal_named}
+use Rattle.pol_access.specs.Names.{principal_named, principal_of_client}
 use Rattle.pol_access.specs.Order.{by_name}
 use Rattle.pol_access.specs.declared.rows.PrincipalRow.{PrincipalRow}
 use Rattle.pol_tables.specs.Table.{rows_with}
 use Rattle.pol_tokens.specs.Text.{word_digits}
-use Rattle.pol_rules.specs.AccessRules.{client_taken, in_realm, no_principal, principal_taken, reserved}
-use Rattle.pol_rules.specs.Acting.{Acting, answer_on, done, reading}
+use Rattle.pol_rules.specs.AccessRules.{in_realm, no_principal, reserved}
+use Rattle.pol_rules.specs.Acting.{Acting, done, reading}
+use Rattle.pol_rules.specs.Rules.{name_taken}
 use Rattle.pol_state.specs.Rows.{Rows, digest_of}
 use Rattle.pol_commands.specs.declared.command.Command.{Command}
 use Rattle.pol_commands.specs.declared.reply.Answer.TheVariants.{PrincipalsListed, PrincipalCreated, PrincipalLoaded, PrincipalDropped, SecretRotated}
 
 -- listing all principals
 abbrev pub list_principals : Rows → Command → Acting
-list_principals s command = reading s (in_realm s command []) (PrincipalsListed (by_name principal_name s.access.principals))
+list_principals s command = reading s (in_realm s command []) (Some (PrincipalsListed (by_name principal_name s.access.principals)))
 
 -- the client id that is given, or the digits of a word, and the secret that is given, or those of two words
 abbrev pub client_id_or : Option (List ℕ) → ℕ → List ℕ
@@ -40,14 +41,14 @@ create_principal s command name client_id secret =
     let client = client_id_or client_id command.words.a in
     let opens = secret_or secret command.words.b command.words.c in
     record {
-      rules = in_realm s command (principal_taken s name ∷ client_taken s client ∷ []);
+      rules = in_realm s command (name_taken (principal_named name s.access) name ∷ name_taken (principal_of_client client s.access) client ∷ []);
       after = with_new_principal s (new_principal s name client opens);
-      answer = PrincipalCreated name client opens;
+      answer = Some (PrincipalCreated name client opens);
     }
 
 -- showing a principal
 abbrev pub get_principal : Rows → Command → List ℕ → Acting
-get_principal s command name = reading s (in_realm s command (no_principal s name ∷ [])) (answer_on (principal_named name s.access) PrincipalLoaded)
+get_principal s command name = reading s (in_realm s command (no_principal s name ∷ [])) (option_map PrincipalLoaded (principal_named name s.access))
 
 -- the rows without a principal and its memberships
 abbrev pub without_principal : Rows → PrincipalRow → Rows
@@ -58,7 +59,7 @@ abbrev pub drop_principal : Rows → Command → List ℕ → Acting
 drop_principal s command name = record {
   rules = in_realm s command (no_principal s name ∷ reserved (codes "root") name ∷ []);
   after = done s (principal_named name s.access) (without_principal s);
-  answer = PrincipalDropped;
+  answer = Some PrincipalDropped;
 }
 
 -- a principal with another secret
@@ -72,5 +73,5 @@ rotate s command name secret =
     record {
       rules = in_realm s command (no_principal s name ∷ []);
       after = done s (principal_named name s.access) (rotated s opens);
-      answer = answer_on (principal_named name s.access) (λ row. SecretRotated row.name row.client_id opens);
+      answer = option_map (λ row. SecretRotated row.name row.client_id opens) (principal_named name s.access);
     }

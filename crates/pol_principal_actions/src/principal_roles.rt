@@ -35,7 +35,9 @@ pub fn list_principal_roles(asked: &Asked<'_>) -> Result<Acted, Undone>
 /// The names of all principal roles, in byte order.
 #[tactic(auto, using(crate::proofs::NamesLemmas::role_names_shown))]
 fn all_roles(asked: &Asked<'_>) -> Result<Listed<Plain>, OutOfMemory>
-    ensures { IfOk result (λ roles. roles ≡ map principal_role_name (by_name principal_role_name asked.now.state.now.rows.access.principal_roles)) }
+    ensures { IfOk result (λ roles. roles
+        ≡ map principal_role_name (by_name principal_role_name
+        asked.now.state.now.rows.access.principal_roles)) }
 {
     let rows = asked.state.access().principal_roles_by_name(asked.alloc)?;
     names_of(asked.alloc, rows.as_slice())
@@ -113,9 +115,11 @@ pub fn drop_principal_role(asked: &Asked<'_>, name: &Plain) -> Result<Acted, Und
 /// The principal role is taken away, with its members and its joins.
 fn dropped(asked: &Asked<'_>, row: &PrincipalRoleRow) -> Result<Acted, OutOfMemory>
     requires sound { IsSound asked.now.state.now.rows }
-    requires there { row_of principal_role_id row.now.id asked.now.state.now.rows.access.principal_roles ≡ Some row.now }
+    requires there { row_of principal_role_id row.now.id
+        asked.now.state.now.rows.access.principal_roles ≡ Some row.now }
     ensures answer { IfOk result (λ acted. acted.answer ≡ RoleDropped) }
-    ensures changes { IfOk result (λ acted. acted.changes ≡ changes_to asked.now (λ s. without_principal_role s row.now)) }
+    ensures changes { IfOk result (λ acted. acted.changes
+        ≡ changes_to asked.now (λ s. without_principal_role s row.now)) }
 {
     let mut changes = vec![in asked.alloc;
         Change::Time(time_of(asked)),

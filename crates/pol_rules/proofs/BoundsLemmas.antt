@@ -1,14 +1,12 @@
 -- The bounds of the rows to which changes lead, judged on the changes.
-use Rattle.std.proofs.Common.{◌≡◌, ℕ, ◌+◌, ◌≤◌, ◌^◌, ◌==◌, Bool, true, false, cond, ◌||◌, nat_lt, List, [], ◌∷◌, ◌++◌, map, filter, length, Option, None, Some, is_some, refl, sym, ap, ◌∙◌, inl, inr, true≢false, arith}
-use Rattle.std.specs.List.{list_any, AllByRecursion}
+use Rattle.std.proofs.Common.{◌≡◌, ℕ, ◌+◌, ◌≤◌, ◌^◌, ◌==◌, Bool, true, false, cond, ◌||◌, nat_lt, List, [], ◌∷◌, ◌++◌, filter, length, Option, is_some, refl, sym, ap, ◌∙◌, true≢false, arith}
+use Rattle.std.specs.List.{list_any}
 use denote.Enum.Bare.{sameb}
 use Rattle.std.specs.Option.{option_or}
-use Rattle.std.proofs.lemmas.Bool.{cases_Bool, eqb-true, le-ltb, ltb-false}
+use Rattle.std.proofs.lemmas.Bool.{eqb-true, le-ltb}
 use Rattle.std.proofs.lemmas.List.Folds.{list_any-append}
-use Rattle.pol_access.specs.Access.{catalog_role_id, principal_id, principal_role_id}
-use Rattle.pol_tables.proofs.CountLemmas.{any-changed, any-none}
+use Rattle.pol_tables.proofs.CountLemmas.{any-changed}
 use Rattle.pol_tables.proofs.ListLemmas.{or_false}
-use Rattle.pol_tables.specs.Changes.{table_changes}
 use Rattle.pol_tables.proofs.TableLemmas.{is_some-row_of}
 use Rattle.pol_tables.specs.Table.{knows, row_of, rows_with, rows_without}
 use Rattle.pol_content.specs.Content.{catalog_id, namespace_id}
@@ -23,17 +21,15 @@ use Rattle.pol_content.specs.declared.change.RowKind.{RowKind}
 use Rattle.pol_content.specs.declared.change.RowKind.TheVariants as kind
 use Rattle.pol_content.specs.declared.rows.CatalogRow.{CatalogRow}
 use Rattle.pol_content.specs.declared.rows.NamespaceRow.{NamespaceRow}
-use Rattle.pol_commands.specs.declared.reply.Quantity.{Quantity}
 use Rattle.pol_commands.specs.declared.reply.Quantity.TheVariants as quantity
-use Rattle.pol_commands.specs.declared.reply.Refusal.{Refusal}
 use Rattle.pol_commands.specs.declared.reply.Refusal.TheVariants.{Limit}
-use Rattle.pol_state.specs.Applied.{applied, changed}
-use Rattle.pol_state.specs.Bounds.{above, allowed_count, any_above, catalog_properties, first_refusal, namespace_properties, over_limit, refuse_if}
+use Rattle.pol_state.specs.Applied.{applied}
+use Rattle.pol_state.specs.Bounds.{above, allowed_count, catalog_properties, first_refusal, namespace_properties, over_limit, refuse_if}
 use Rattle.pol_state.specs.Changes.{changes_between, headed, id_change, in_turn, row_changes, serial_change}
 use Rattle.pol_state.specs.Rows.{Rows}
 use Rattle.pol_state.specs.Sound.{IsOrderly, IsSound}
 use Rattle.pol_state.proofs.BoundsLemmas.{above-within, each-within}
-use Rattle.pol_rules.specs.Counted.{allowed_put, catalog_properties_put, catalogs_put, counts_after, id_set, limits_of, limits_put, namespace_properties_put, namespaces_put, number_of, serial_set}
+use Rattle.pol_rules.specs.Counted.{catalogs_put, counts_after, id_set, limits_of, limits_put, namespaces_put, number_of, serial_set}
 use Rattle.pol_rules.proofs.CountedLemmas.{count-catalogs, count-principals, count-principal_roles, count-catalog_roles, count-members, count-joins, count-grants, count-namespaces, filter-alone, of_kind, Fails, filter-quiet}
 use Rattle.pol_rules.proofs.RulesLemmas.{first-joined, refused-not}
 

@@ -1,8 +1,6 @@
 -- How many rows of a kind there are once the changes between two states are made.
-use Rattle.std.proofs.Common.{◌≡◌, ℕ, ◌+◌, ◌-◌, ◌==◌, Bool, true, false, not, cond, ◌&&◌, ◌||◌, List, [], ◌∷◌, ◌++◌, map, filter, length, Option, None, Some, refl, sym, ap, subst, ◌∙◌, inl, inr, arith}
-use Rattle.std.specs.Coded.{Coded}
-use Rattle.std.specs.List.{count_by, list_any, AllByRecursion, IsDistinct}
-use Rattle.std.proofs.lemmas.Bool.{cases_Bool}
+use Rattle.std.proofs.Common.{◌≡◌, ℕ, ◌+◌, ◌-◌, ◌==◌, Bool, true, false, not, cond, ◌&&◌, List, [], ◌∷◌, ◌++◌, filter, length, refl, sym, ap, ◌∙◌, arith}
+use Rattle.std.specs.List.{count_by, AllByRecursion}
 use Rattle.std.proofs.lemmas.List.{append-nil}
 use Rattle.std.proofs.lemmas.List.Elements.{filter-append}
 use Rattle.std.proofs.lemmas.List.Sums.{length-filter, sum_by-cons}
@@ -43,7 +41,7 @@ use Rattle.pol_tokens.specs.declared.session.SessionRow.{SessionRow}
 use Rattle.pol_state.specs.Changes.{changes_between, headed, id_change, in_turn, row_changes, serial_change, RowChanges}
 use Rattle.pol_state.specs.Rows.{Rows}
 use Rattle.pol_tokens.specs.contracts.session.SessionRow as session
-use Rattle.pol_rules.specs.Counted.{count_after, kind_taken, takes, where_known}
+use Rattle.pol_rules.specs.Counted.{count_after, takes, where_known}
 
 -- the rows' changes of one kind
 abbrev pub of_kind : RowKind → RowChanges → List Change

@@ -1,9 +1,8 @@
 -- Fair rules: none tells that the run is full, and each is judged alike in the live part of a sound state.
-use Rattle.std.proofs.Common.{◌≡◌, ℕ, Bool, true, false, not, cond, is_some, codes, List, [], ◌∷◌, Option, None, Some, refl, sym, ap, arith}
+use Rattle.std.proofs.Common.{◌≡◌, ℕ, Bool, false, not, cond, is_some, codes, List, [], ◌∷◌, Option, None, Some, refl, sym, ap, arith}
 use Rattle.std.specs.List.{AllByRecursion}
 use Rattle.std.specs.Option.{option_map, option_or}
 use Rattle.pol_access.specs.Privilege.{text_of}
-use Rattle.pol_access.specs.declared.privilege.Privilege.TheVariants.{CatalogManageAccess}
 use Rattle.pol_access.specs.declared.rows.GrantRow.{GrantRow}
 use Rattle.pol_access.specs.declared.rows.JoinRow.{JoinRow}
 use Rattle.pol_access.specs.declared.rows.MemberRow.{MemberRow}
@@ -23,14 +22,14 @@ use Rattle.pol_commands.specs.declared.grants.GrantedOn.{GrantedOn}
 use Rattle.pol_commands.specs.declared.grants.GrantedOn.TheVariants as on
 use Rattle.pol_commands.specs.declared.reply.OptionName.TheVariants as option
 use Rattle.pol_commands.specs.declared.reply.Refusal.{Refusal}
-use Rattle.pol_commands.specs.declared.reply.Refusal.TheVariants.{BadLocation, Forbidden, InvalidClient, InvalidScope, KeyTwice, NameTaken, NoCatalogue, NoNamespace, NoSuchRole, NoTable, NoView, NotEmpty, Reserved, Unauthenticated, Unsupported}
+use Rattle.pol_commands.specs.declared.reply.Refusal.TheVariants.{BadLocation, Forbidden, InvalidClient, InvalidScope, KeyTwice, NameTaken, NoCatalogue, NoNamespace, NoSuchRole, NotEmpty, Reserved, Unauthenticated, Unsupported}
 use Rattle.pol_state.specs.Rows.{Rows}
 use Rattle.pol_state.specs.Sound.{IsSound}
-use Rattle.pol_rules.specs.AccessRules.{catalog_role_taken, client_taken, in_catalog, in_realm, no_catalog_role, no_grant, no_join, no_member, no_principal, no_principal_role, no_securable, principal_role_taken, principal_taken, reserved, reserved_grant, reserved_join, reserved_member}
+use Rattle.pol_rules.specs.AccessRules.{in_catalog, in_realm, no_catalog_role, no_grant, no_join, no_member, no_principal, no_principal_role, no_securable, reserved, reserved_grant, reserved_join, reserved_member}
 use Rattle.pol_rules.specs.Live.{live_part}
 use Rattle.pol_rules.specs.Needs.{caller_may, first_unmet, forbidden, session_may, shown}
 use Rattle.pol_state.specs.Bounds.{limits, over_limit, refuse_if}
-use Rattle.pol_rules.specs.Rules.{bad_text, bad_texts, catalog_holds, catalog_taken, client_of, given, inside, invalid_client, invalid_scope, is_signed_in, key_twice, namespace_holds, namespace_taken, no_catalogue, no_namespace, no_parent, time_of, unauthenticated, unsupported_type}
+use Rattle.pol_rules.specs.Rules.{bad_text, bad_texts, catalog_holds, client_of, given, inside, invalid_client, invalid_scope, is_signed_in, key_twice, namespace_holds, no_catalogue, no_namespace, no_parent, time_of, unauthenticated, unsupported_type, name_taken}
 use Rattle.pol_rules.specs.declared.needs.Need.{Need}
 use Rattle.pol_rules.proofs.LiveLemmas.{session-live}
 use Rattle.pol_rules.proofs.RulesLemmas.{either-other, first-other, refuse_if-other, tells_full}
@@ -136,13 +135,9 @@ module _ {s : Rows} where
   unfolding no_catalogue
   fair-no_catalogue name = fair-if _ (NoCatalogue name) refl
 
-  pub fair-catalog_taken : (name : List ℕ) → IsFair s (catalog_taken s name) (catalog_taken (live_part s) name)
-  unfolding catalog_taken
-  fair-catalog_taken name = fair-if _ (NameTaken name) refl
-
-  pub fair-namespace_taken : (levels : List (List ℕ)) (catalog : CatalogRow) → IsFair s (namespace_taken s levels catalog) (namespace_taken (live_part s) levels catalog)
-  unfolding namespace_taken
-  fair-namespace_taken levels catalog = fair-if _ (NameTaken (dotted levels)) refl
+  pub fair-name_taken : {A : Type 0} (found : Option A) (name : List ℕ) → IsFair s (name_taken found name) (name_taken found name)
+  unfolding name_taken
+  fair-name_taken found name = fair-if (is_some found) (NameTaken name) refl
 
   pub fair-catalog_holds : (catalog : CatalogRow) → IsFair s (catalog_holds s catalog) (catalog_holds (live_part s) catalog)
   unfolding catalog_holds
@@ -189,22 +184,6 @@ module _ {s : Rows} where
   pub fair-no_catalog_role : (name : List ℕ) (catalog : CatalogRow) → IsFair s (no_catalog_role s name catalog) (no_catalog_role (live_part s) name catalog)
   unfolding no_catalog_role
   fair-no_catalog_role name catalog = fair-if _ (NoSuchRole name) refl
-
-  pub fair-principal_taken : (name : List ℕ) → IsFair s (principal_taken s name) (principal_taken (live_part s) name)
-  unfolding principal_taken
-  fair-principal_taken name = fair-if _ (NameTaken name) refl
-
-  pub fair-client_taken : (client_id : List ℕ) → IsFair s (client_taken s client_id) (client_taken (live_part s) client_id)
-  unfolding client_taken
-  fair-client_taken client_id = fair-if _ (NameTaken client_id) refl
-
-  pub fair-principal_role_taken : (name : List ℕ) → IsFair s (principal_role_taken s name) (principal_role_taken (live_part s) name)
-  unfolding principal_role_taken
-  fair-principal_role_taken name = fair-if _ (NameTaken name) refl
-
-  pub fair-catalog_role_taken : (name : List ℕ) (catalog : CatalogRow) → IsFair s (catalog_role_taken s name catalog) (catalog_role_taken (live_part s) name catalog)
-  unfolding catalog_role_taken
-  fair-catalog_role_taken name catalog = fair-if _ (NameTaken name) refl
 
   pub fair-no_securable : (named : GrantedOn) (catalog : CatalogRow) → IsFair s (no_securable s named catalog) (no_securable (live_part s) named catalog)
   fair-no_securable on.Catalog catalog = fair-same refl

@@ -11,4 +11,5 @@ pub mod NeedsLemmas
 pub mod OwesLemmas
 pub mod ProloguesLemmas
 pub mod RulesLemmas
+pub mod ShownLemmas
 pub mod SoundLemmas

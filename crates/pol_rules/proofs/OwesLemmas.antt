@@ -102,7 +102,7 @@ module _ (s : Rows) (command : Command) where
   owes-done (Some one) after live rows = rows one refl
 
   -- an action that changes nothing
-  pub owes-reading : {rules live : List (Option Refusal)} {answer : Answer} → AreFair s rules live → Owes (reading s rules answer) (reading (live_part s) live answer)
+  pub owes-reading : {rules live : List (Option Refusal)} {answer : Option Answer} → AreFair s rules live → Owes (reading s rules answer) (reading (live_part s) live answer)
   owes-reading fair = record {
     rows = owes-same;
     orderly = λ sound within passes. stamped-orderly s command sound.orderly within;

@@ -15,7 +15,7 @@ use Rattle.pol_rules.specs.declared.rules.Acted.{Acted}
 use Rattle.pol_rules.specs.declared.rules.Undone.{Undone}
 use Rattle.pol_rules.proofs.JudgedLemmas.{entered-stopped}
 
-module _ (s : Rows) (command : Command) (rules : List (Option Refusal)) (after : Rows) (answer : Answer) (why : Undone) (result : Result Acted Undone) (told : IsErrAnd result (λ one. one ≡ why)) where
+module _ (s : Rows) (command : Command) (rules : List (Option Refusal)) (after : Rows) (answer : Option Answer) (why : Undone) (result : Result Acted Undone) (told : IsErrAnd result (λ one. one ≡ why)) where
   pub in_realm_stops : Enters {T = Unit {0}} (in_realm s command) (λ _. ⊤) (Err why) → Does s command (record { rules = in_realm s command rules; after = after; answer = answer }) result
   in_realm_stops entered =
       entered-stopped {T = Unit {0}} (λ _. ⊤) (in_realm s command) s command (record { rules = in_realm s command rules; after = after; answer = answer }) rules why result refl (λ passes. passes) told entered

@@ -4,10 +4,10 @@ use Rattle.std.specs.List.{AllByRecursion}
 use Rattle.std.specs.Option.{option_or}
 use Rattle.pol_commands.specs.Reply.{is_full}
 use Rattle.pol_commands.specs.declared.reply.Refusal.{Refusal}
-use Rattle.pol_commands.specs.declared.reply.Refusal.TheVariants.{RunFull}
+use Rattle.pol_commands.specs.declared.reply.Refusal.TheVariants.{RunFull, NameTaken}
 use Rattle.pol_state.specs.Rows.{Rows}
 use Rattle.pol_state.specs.Bounds.{first_refusal, refuse_if}
-use Rattle.pol_rules.specs.Rules.{run_full}
+use Rattle.pol_rules.specs.Rules.{run_full, name_taken}
 
 -- a rule that fails first is the answer
 pub refusal-stops : (rule : Option Refusal) (why : Refusal) (rules : List (Option Refusal)) → rule ≡ Some why → first_refusal (rule ∷ rules) ≡ Some why
@@ -66,6 +66,8 @@ pub refused-not : (test : Bool) (why : Refusal) → refuse_if test why ≡ None 
 refused-not true why passes = let contrary : Some why ≡ None = passes in cc
 refused-not false why passes = refl
 
-pub nothing : {X : Type 0} (found : Option X) → is_some found ≡ false → found ≡ None
-nothing None none = refl
-nothing (Some x) some = cc
+-- nothing has a name that is free
+pub name-free : {A : Type 0} (found : Option A) (name : List ℕ) → name_taken found name ≡ None → found ≡ None
+unfolding name_taken
+name-free None name passes = refl
+name-free (Some one) name passes = let contrary : Some (NameTaken name) ≡ None = passes in cc

@@ -16,7 +16,6 @@ use Rattle.pol_names.specs.declared.scope.Scope.{Scope}
 use Rattle.pol_names.specs.declared.scope.Scope.TheVariants as scope
 use Rattle.pol_commands.specs.declared.command.Command.{Command}
 use Rattle.pol_commands.specs.declared.reply.Refusal.TheVariants.{RunFull}
-use Rattle.pol_commands.specs.declared.reply.Refusal.{Refusal}
 use Rattle.pol_state.specs.Rows.{Rows}
 use Rattle.pol_state.specs.Sound.{AreNumbered, AreTied, IsGiven, IsOrderly, IsSessionOf, IsSound, IsSoundAccess, IsSoundTokens, NamesGiven}
 use Rattle.pol_rules.specs.Acting.{stamped, done}

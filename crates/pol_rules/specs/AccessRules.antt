@@ -1,9 +1,9 @@
 -- Rules on principals, roles, members, joins and grants.
-use Rattle.std.specs.Prelude.{ℕ, Bool, true, false, not, ◌&&◌, ◌||◌, List, ◌∷◌, Option, Some, None, is_none, is_some, codes, option_and_then}
+use Rattle.std.specs.Prelude.{ℕ, Bool, true, false, not, ◌&&◌, ◌||◌, List, ◌∷◌, Option, Some, None, is_none, codes, option_and_then}
 use Rattle.std.specs.Option.{option_map, option_or}
 use Rattle.std.specs.Str.{bytes_eq}
 use Rattle.pol_access.specs.Access.{is_joined, is_member}
-use Rattle.pol_access.specs.Names.{catalog_role_named, principal_named, principal_of_client, principal_role_named}
+use Rattle.pol_access.specs.Names.{catalog_role_named, principal_named, principal_role_named}
 use Rattle.pol_access.specs.Privilege.{same_privilege, text_of}
 use Rattle.pol_access.specs.contracts.rows.GrantRow as grant_row
 use Rattle.pol_access.specs.declared.privilege.Privilege.TheVariants.{CatalogManageAccess, CatalogManageContent}
@@ -18,7 +18,7 @@ use Rattle.pol_commands.specs.declared.grants.Grant.{Grant}
 use Rattle.pol_commands.specs.declared.grants.GrantedOn.{GrantedOn}
 use Rattle.pol_commands.specs.declared.grants.GrantedOn.TheVariants as on
 use Rattle.pol_commands.specs.declared.reply.Refusal.{Refusal}
-use Rattle.pol_commands.specs.declared.reply.Refusal.TheVariants.{NameTaken, NoSuchRole, NoTable, NoView, Reserved}
+use Rattle.pol_commands.specs.declared.reply.Refusal.TheVariants.{NoSuchRole, NoTable, NoView, Reserved}
 use Rattle.pol_content.specs.Chain.{namespace_at}
 use Rattle.pol_content.specs.Content.{catalog_named}
 use Rattle.pol_content.specs.declared.rows.CatalogRow.{CatalogRow}
@@ -45,20 +45,6 @@ no_principal_role s name = refuse_if (is_none (principal_role_named name s.acces
 
 unfoldable pub no_catalog_role : Rows → List ℕ → CatalogRow → Option Refusal
 no_catalog_role s name catalog = refuse_if (is_none (catalog_role_named catalog.id name s.access)) (NoSuchRole name)
-
--- a principal has the name already, or else the client id
-unfoldable pub principal_taken : Rows → List ℕ → Option Refusal
-principal_taken s name = refuse_if (is_some (principal_named name s.access)) (NameTaken name)
-
-unfoldable pub client_taken : Rows → List ℕ → Option Refusal
-client_taken s client_id = refuse_if (is_some (principal_of_client client_id s.access)) (NameTaken client_id)
-
--- a principal role has the name already, and a role of the catalogue
-unfoldable pub principal_role_taken : Rows → List ℕ → Option Refusal
-principal_role_taken s name = refuse_if (is_some (principal_role_named name s.access)) (NameTaken name)
-
-unfoldable pub catalog_role_taken : Rows → List ℕ → CatalogRow → Option Refusal
-catalog_role_taken s name catalog = refuse_if (is_some (catalog_role_named catalog.id name s.access)) (NameTaken name)
 
 -- what a grant names in a catalogue isn't there: a namespace, or, in a namespace that is, a table or a view, of which
 -- there are none

@@ -3,29 +3,24 @@ use Rattle.std.specs.Prelude.{◌+◌, List, Option, Some, None}
 use Rattle.pol_state.specs.Rows.{Rows}
 use Rattle.pol_commands.specs.declared.command.Command.{Command}
 use Rattle.pol_commands.specs.declared.reply.Answer.{Answer}
-use Rattle.pol_commands.specs.declared.reply.Answer.TheVariants.{NamespaceThere}
 use Rattle.pol_commands.specs.declared.reply.Refusal.{Refusal}
 use Rattle.pol_rules.specs.Rules.{time_of}
 
--- an action in a state: its rules in their order, the rows once it is done, and its answer
+-- an action in a state: its rules in their order, the rows once it is done, and its answer, where it found what it
+-- answers on
 pub record Acting : Type 0 where
   pub rules : List (Option Refusal)
   pub after : Rows
-  pub answer : Answer
+  pub answer : Option Answer
 
 -- an action that changes nothing
-abbrev pub reading : Rows → List (Option Refusal) → Answer → Acting
+abbrev pub reading : Rows → List (Option Refusal) → Option Answer → Acting
 reading s rules answer = record { rules = rules; after = s; answer = answer }
 
 -- the rows once an action is done on what it found; where it found nothing, one of its rules has refused
 abbrev pub done : {A : Type 0} → Rows → Option A → (A → Rows) → Rows
 done s None after = s
 done s (Some found) after = after found
-
--- the answer on what was found; where nothing was, the answer isn't given
-abbrev pub answer_on : {A : Type 0} → Option A → (A → Answer) → Answer
-answer_on None answer = NamespaceThere
-answer_on (Some found) answer = answer found
 
 -- these rows, with the command's time, and its charge added
 abbrev pub stamped : Rows → Command → Rows → Rows

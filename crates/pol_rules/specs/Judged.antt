@@ -45,7 +45,7 @@ Enters before P (Err OutOfMemory) = FirstPasses (before [])
 -- where each rule passes, the action answers and changes as it says; else the first that fails is answered; memory may
 -- be wanting only past the first rule, which takes none
 abbrev pub Does : Rows → Command → Acting → Result Acted Undone → Type 0
-Does s command action (Ok acted) = (first_refusal action.rules ≡ None) × (acted.answer ≡ action.answer) × (acted.changes ≡ changes_between s (stamped s command action.after))
+Does s command action (Ok acted) = (first_refusal action.rules ≡ None) × (Some acted.answer ≡ action.answer) × (acted.changes ≡ changes_between s (stamped s command action.after))
 Does s command action (Err (Refused why)) = first_refusal action.rules ≡ Some why
 Does s command action (Err OutOfMemory) = FirstPasses action.rules
 

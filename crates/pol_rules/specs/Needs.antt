@@ -34,7 +34,8 @@ caller_may s time Nobody need = false
 caller_may s time (Bearer text) need = session_may s (session_of s time text) need
 caller_may s time Setup need = true
 
--- the securable as a refusal shows it; one that isn't there, on which nothing is needed, would be shown as the realm
+-- the securable as a refusal shows it. One that isn't there would be shown as the realm; the law `needs_are_shown` says
+-- that nothing is needed on such a one
 abbrev pub catalog_shown : Option CatalogRow → SecurableName
 catalog_shown None = name.Realm
 catalog_shown (Some row) = name.Catalog row.name

@@ -7,7 +7,7 @@ use Rattle.pol_access.specs.Access.{AccessRows, has_other_role, principal_id, is
 use Rattle.pol_access.specs.Names.{principal_of_client}
 use Rattle.pol_access.specs.declared.rows.PrincipalRow.{PrincipalRow}
 use Rattle.pol_access.specs.declared.rows.PrincipalRoleRow.{PrincipalRoleRow}
-use Rattle.pol_content.specs.Content.{catalog_is_empty, catalog_named, first_missing, is_empty, namespace_named}
+use Rattle.pol_content.specs.Content.{catalog_is_empty, catalog_named, first_missing, is_empty}
 use Rattle.pol_content.specs.declared.rows.CatalogRow.{CatalogRow}
 use Rattle.pol_content.specs.declared.rows.NamespaceRow.{NamespaceRow}
 use Rattle.pol_locations.specs.Location.{parse_refusal}
@@ -108,13 +108,9 @@ abbrev pub no_parent : Rows → ℕ → Option (List (List ℕ)) → Option Refu
 no_parent s catalog None = None
 no_parent s catalog (Some parent) = no_namespace s catalog parent
 
--- a catalogue has the name already, and a namespace of the catalogue the levels
-unfoldable pub catalog_taken : Rows → List ℕ → Option Refusal
-catalog_taken s name = refuse_if (is_some (catalog_named name s.content)) (NameTaken name)
-
-unfoldable pub namespace_taken : Rows → List (List ℕ) → CatalogRow → Option Refusal
-namespace_taken s levels catalog =
-    refuse_if (is_some (namespace_named catalog.id levels s.content)) (NameTaken (dotted levels))
+-- what was found has the name already
+unfoldable pub name_taken : {A : Type 0} → Option A → List ℕ → Option Refusal
+name_taken found name = refuse_if (is_some found) (NameTaken name)
 
 -- a catalogue has a namespace, or a role beside `catalog_admin`, and a namespace has a deeper one
 unfoldable pub catalog_holds : Rows → CatalogRow → Option Refusal

@@ -1,12 +1,13 @@
-ghost use Rattle.std.specs.Prelude.{◌≡◌, ◌<◌, ◌+◌, ◌^◌, codes, Some, true};
+ghost use Rattle.std.specs.Prelude.{◌≡◌, ◌<◌, Some, true};
 ghost use Rattle.std.specs.Bool.{⊤};
 ghost use Rattle.pol_access.specs.Access.{catalog_role_id, is_joined, is_member, principal_id, principal_role_id};
-ghost use Rattle.pol_access.specs.Names.{catalog_role_named, principal_named, principal_role_named};
+ghost use Rattle.pol_access.specs.Names.{catalog_role_named, principal_named, principal_role_named, principal_of_client};
 ghost use Rattle.pol_access.specs.contracts.rows.GrantRow as grant_row;
 ghost use Rattle.pol_tables.specs.Facts.{holds};
 ghost use Rattle.pol_tables.specs.Table.{row_of};
-ghost use Rattle.pol_rules.specs.AccessRules.{catalog_role_taken, client_taken, is_first, no_catalog_role, no_grant, no_join, no_member, no_principal, no_principal_role, no_securable, principal_role_taken, principal_taken, reserved, reserved_grant, reserved_join, reserved_member, securable_in};
+ghost use Rattle.pol_rules.specs.AccessRules.{is_first, no_catalog_role, no_grant, no_join, no_member, no_principal, no_principal_role, no_securable, reserved, reserved_grant, reserved_join, reserved_member, securable_in};
 ghost use Rattle.pol_rules.specs.Judged.{Judges, Tells};
+ghost use Rattle.pol_rules.specs.Rules.{name_taken};
 ghost use Rattle.pol_state.specs.Sound.{IsSound};
 
 use crate::catalog_rules::CATALOG_ADMIN;
@@ -32,7 +33,10 @@ pub const SERVICE_ADMIN: &str = "service_admin";
 #[tactic(auto, unfolding(crate::specs::AccessRules::no_principal))]
 pub fn principal_there<'a>(asked: &Asked<'a>, name: &Plain) -> Result<&'a PrincipalRow, Undone>
     requires { IsSound asked.now.state.now.rows }
-    ensures { let s = asked.now.state.now.rows in Tells (no_principal s name.now) (λ row. (principal_named name.now s.access ≡ Some row.now) × (row_of principal_id row.now.id s.access.principals ≡ Some row.now)) result }
+    ensures { let s = asked.now.state.now.rows in
+        Tells (no_principal s name.now)
+        (λ row. (principal_named name.now s.access ≡ Some row.now)
+        × (row_of principal_id row.now.id s.access.principals ≡ Some row.now)) result }
 {
     let Some(row) = asked.state.access().principal_named(name.as_str()) else {
         return Err(Undone::Refused(Refusal::NoSuchRole {
@@ -49,7 +53,10 @@ pub fn principal_role_there<'a>(
     name: &Plain,
 ) -> Result<&'a PrincipalRoleRow, Undone>
     requires { IsSound asked.now.state.now.rows }
-    ensures { let s = asked.now.state.now.rows in Tells (no_principal_role s name.now) (λ row. (principal_role_named name.now s.access ≡ Some row.now) × (row_of principal_role_id row.now.id s.access.principal_roles ≡ Some row.now)) result }
+    ensures { let s = asked.now.state.now.rows in
+        Tells (no_principal_role s name.now)
+        (λ row. (principal_role_named name.now s.access ≡ Some row.now)
+        × (row_of principal_role_id row.now.id s.access.principal_roles ≡ Some row.now)) result }
 {
     let Some(row) = asked.state.access().principal_role_named(name.as_str()) else {
         return Err(Undone::Refused(Refusal::NoSuchRole {
@@ -67,7 +74,10 @@ pub fn catalog_role_there<'a>(
     name: &Plain,
 ) -> Result<&'a CatalogRoleRow, Undone>
     requires { IsSound asked.now.state.now.rows }
-    ensures { let s = asked.now.state.now.rows in Tells (no_catalog_role s name.now catalog.now) (λ row. (catalog_role_named catalog.now.id name.now s.access ≡ Some row.now) × (row_of catalog_role_id row.now.id s.access.catalog_roles ≡ Some row.now)) result }
+    ensures { let s = asked.now.state.now.rows in
+        Tells (no_catalog_role s name.now catalog.now)
+        (λ row. (catalog_role_named catalog.now.id name.now s.access ≡ Some row.now)
+        × (row_of catalog_role_id row.now.id s.access.catalog_roles ≡ Some row.now)) result }
 {
     let access = asked.state.access();
     let Some(row) = access.catalog_role_named(catalog.id, name.as_str()) else {
@@ -79,10 +89,11 @@ pub fn catalog_role_there<'a>(
 }
 
 /// No principal has the name.
-#[tactic(auto, unfolding(crate::specs::AccessRules::principal_taken))]
+#[tactic(auto, unfolding(crate::specs::Rules::name_taken))]
 pub fn principal_free(asked: &Asked<'_>, name: &Plain) -> Result<(), Undone>
     requires { IsSound asked.now.state.now.rows }
-    ensures { Tells (principal_taken asked.now.state.now.rows name.now) (λ _. ⊤) result }
+    ensures { let s = asked.now.state.now.rows in
+        Tells (name_taken (principal_named name.now s.access) name.now) (λ _. ⊤) result }
 {
     let access = asked.state.access();
     if access.principal_named(name.as_str()).is_some() {
@@ -94,10 +105,11 @@ pub fn principal_free(asked: &Asked<'_>, name: &Plain) -> Result<(), Undone>
 }
 
 /// No principal has the client id.
-#[tactic(auto, unfolding(crate::specs::AccessRules::client_taken))]
+#[tactic(auto, unfolding(crate::specs::Rules::name_taken))]
 pub fn client_free(asked: &Asked<'_>, client_id: &str) -> Result<(), Undone>
     requires { IsSound asked.now.state.now.rows }
-    ensures { Tells (client_taken asked.now.state.now.rows client_id.now) (λ _. ⊤) result }
+    ensures { let s = asked.now.state.now.rows in
+        Tells (name_taken (principal_of_client client_id.now s.access) client_id.now) (λ _. ⊤) result }
 {
     let access = asked.state.access();
     if access.principal_of_client(client_id).is_some() {
@@ -109,10 +121,11 @@ pub fn client_free(asked: &Asked<'_>, client_id: &str) -> Result<(), Undone>
 }
 
 /// No principal role has the name.
-#[tactic(auto, unfolding(crate::specs::AccessRules::principal_role_taken))]
+#[tactic(auto, unfolding(crate::specs::Rules::name_taken))]
 pub fn principal_role_free(asked: &Asked<'_>, name: &Plain) -> Result<(), Undone>
     requires { IsSound asked.now.state.now.rows }
-    ensures { Tells (principal_role_taken asked.now.state.now.rows name.now) (λ _. ⊤) result }
+    ensures { let s = asked.now.state.now.rows in
+        Tells (name_taken (principal_role_named name.now s.access) name.now) (λ _. ⊤) result }
 {
     let access = asked.state.access();
     if access.principal_role_named(name.as_str()).is_some() {
@@ -124,14 +137,15 @@ pub fn principal_role_free(asked: &Asked<'_>, name: &Plain) -> Result<(), Undone
 }
 
 /// No role of the catalogue has the name.
-#[tactic(auto, unfolding(crate::specs::AccessRules::catalog_role_taken))]
+#[tactic(auto, unfolding(crate::specs::Rules::name_taken))]
 pub fn catalog_role_free(
     asked: &Asked<'_>,
     catalog: &CatalogRow,
     name: &Plain,
 ) -> Result<(), Undone>
     requires { IsSound asked.now.state.now.rows }
-    ensures { Tells (catalog_role_taken asked.now.state.now.rows name.now catalog.now) (λ _. ⊤) result }
+    ensures { let s = asked.now.state.now.rows in
+        Tells (name_taken (catalog_role_named catalog.now.id name.now s.access) name.now) (λ _. ⊤) result }
 {
     let access = asked.state.access();
     let found = access.catalog_role_named(catalog.id, name.as_str());
@@ -150,7 +164,9 @@ pub fn securable_there(
     on: &GrantedOn,
 ) -> Result<Securable, Undone>
     requires { IsSound asked.now.state.now.rows }
-    ensures { let s = asked.now.state.now.rows in Judges (no_securable s on.now catalog.now) (λ securable. securable_in s on.now catalog.now ≡ Some securable) result }
+    ensures { let s = asked.now.state.now.rows in
+        Judges (no_securable s on.now catalog.now)
+        (λ securable. securable_in s on.now catalog.now ≡ Some securable) result }
 {
     match on {
         GrantedOn::Catalog => Ok(Securable::Catalog(catalog.id)),
@@ -176,7 +192,9 @@ pub fn securable_there(
 /// The membership is there. The role, to which it would lead, has this name.
 #[tactic(auto, unfolding(crate::specs::AccessRules::no_member))]
 pub fn member_there(asked: &Asked<'_>, role: &Plain, row: &MemberRow) -> Result<(), Undone>
-    ensures { let s = asked.now.state.now.rows in Tells (no_member s role.now row.now) (λ _. is_member row.now.principal row.now.role s.access ≡ true) result }
+    ensures { let s = asked.now.state.now.rows in
+        Tells (no_member s role.now row.now)
+        (λ _. is_member row.now.principal row.now.role s.access ≡ true) result }
 {
     if !asked.state.access().is_member(row.principal, row.role) {
         return Err(Undone::Refused(Refusal::NoSuchRole {
@@ -189,7 +207,9 @@ pub fn member_there(asked: &Asked<'_>, role: &Plain, row: &MemberRow) -> Result<
 /// The join is there. The catalogue role, to which it would lead, has this name.
 #[tactic(auto, unfolding(crate::specs::AccessRules::no_join))]
 pub fn join_there(asked: &Asked<'_>, catalog_role: &Plain, row: &JoinRow) -> Result<(), Undone>
-    ensures { let s = asked.now.state.now.rows in Tells (no_join s catalog_role.now row.now) (λ _. is_joined row.now.principal_role row.now.catalog_role s.access ≡ true) result }
+    ensures { let s = asked.now.state.now.rows in
+        Tells (no_join s catalog_role.now row.now)
+        (λ _. is_joined row.now.principal_role row.now.catalog_role s.access ≡ true) result }
 {
     let access = asked.state.access();
     if !access.is_joined(row.principal_role, row.catalog_role) {
@@ -203,7 +223,9 @@ pub fn join_there(asked: &Asked<'_>, catalog_role: &Plain, row: &JoinRow) -> Res
 /// The grant is there.
 #[tactic(auto, unfolding(crate::specs::AccessRules::no_grant))]
 pub fn grant_there(asked: &Asked<'_>, row: &GrantRow) -> Result<(), Undone>
-    ensures { let s = asked.now.state.now.rows in Tells (no_grant s row.now) (λ _. holds grant_row.the_row.coded row.now s.access.grants ≡ true) result }
+    ensures { let s = asked.now.state.now.rows in
+        Tells (no_grant s row.now)
+        (λ _. holds grant_row.the_row.coded row.now s.access.grants ≡ true) result }
 {
     if !asked.state.access().has_grant(row) {
         return Err(Undone::Refused(Refusal::NoSuchRole {

@@ -96,7 +96,10 @@ enum Own {
 /// No quantity is above its bound in the orderly rows to which the changes lead.
 pub fn within_bounds(state: &State, changes: &Listed<Change>) -> Result<(), Refusal>
     requires { IsSound state.now.rows }
-    ensures { (after : Rows) (charge : ℕ) → IsOrderly after → changes.now ≡ changes_between state.now.rows after → applied changes.now after.time charge state.now.rows ≡ after → Sees (over_limit after) (λ _. ⊤) result }
+    ensures { (after : Rows) (charge : ℕ) → IsOrderly after
+        → changes.now ≡ changes_between state.now.rows after
+        → applied changes.now after.time charge state.now.rows ≡ after
+        → Sees (over_limit after) (λ _. ⊤) result }
 {
     counts_within(counts_after(state, changes))?;
     numbers_within(changes)

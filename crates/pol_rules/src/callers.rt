@@ -63,7 +63,9 @@ pub fn client_there<'a>(
     secret: &str,
 ) -> Result<&'a PrincipalRow, Refusal>
     requires { IsSound asked.now.state.now.rows }
-    ensures { let s = asked.now.state.now.rows in Sees (invalid_client s client_id.now secret.now) (λ principal. client_of s client_id.now secret.now ≡ Some principal.now) result }
+    ensures { let s = asked.now.state.now.rows in
+        Sees (invalid_client s client_id.now secret.now)
+        (λ principal. client_of s client_id.now secret.now ≡ Some principal.now) result }
 {
     let Some(principal) = asked.state.access().principal_of_client(client_id) else {
         return Err(Refusal::InvalidClient);

@@ -1,11 +1,11 @@
-ghost use Rattle.std.specs.Prelude.{◌≡◌, ◌+◌, ◌<◌, ◌^◌, codes, map, Some};
+ghost use Rattle.std.specs.Prelude.{◌≡◌, ◌<◌, codes, map, Some};
 ghost use Rattle.std.specs.Bool.{⊤};
 ghost use Rattle.pol_access.specs.Names.{principal_role_named};
 ghost use Rattle.pol_content.specs.Content.{catalog_id, catalog_named};
 ghost use Rattle.pol_tables.specs.Table.{row_of};
 ghost use Rattle.pol_locations.specs.Location.{segments_of};
 ghost use Rattle.pol_rules.specs.Judged.{Judges, Sees, Tells};
-ghost use Rattle.pol_rules.specs.Rules.{bad_text, bad_texts, catalog_holds, catalog_taken, no_catalogue, unsupported_type};
+ghost use Rattle.pol_rules.specs.Rules.{bad_text, bad_texts, catalog_holds, no_catalogue, unsupported_type, name_taken};
 ghost use Rattle.pol_state.specs.Sound.{IsSound};
 
 use crate::rules::{Asked, Undone};
@@ -25,7 +25,10 @@ pub const CATALOG_ADMIN: &str = "catalog_admin";
 #[tactic(auto, unfolding(crate::specs::Rules::no_catalogue))]
 pub fn catalog_there<'a>(asked: &Asked<'a>, name: &Plain) -> Result<&'a CatalogRow, Undone>
     requires { IsSound asked.now.state.now.rows }
-    ensures { let s = asked.now.state.now.rows in Tells (no_catalogue s name.now) (λ row. (catalog_named name.now s.content ≡ Some row.now) × (row_of catalog_id row.now.id s.content.catalogs ≡ Some row.now)) result }
+    ensures { let s = asked.now.state.now.rows in
+        Tells (no_catalogue s name.now)
+        (λ row. (catalog_named name.now s.content ≡ Some row.now)
+        × (row_of catalog_id row.now.id s.content.catalogs ≡ Some row.now)) result }
 {
     let Some(row) = asked.state.content().catalogue(name) else {
         return Err(Undone::Refused(Refusal::NoCatalogue {
@@ -36,10 +39,11 @@ pub fn catalog_there<'a>(asked: &Asked<'a>, name: &Plain) -> Result<&'a CatalogR
 }
 
 /// No catalogue has the name.
-#[tactic(auto, unfolding(crate::specs::Rules::catalog_taken))]
+#[tactic(auto, unfolding(crate::specs::Rules::name_taken))]
 pub fn catalog_free(asked: &Asked<'_>, name: &Plain) -> Result<(), Undone>
     requires { IsSound asked.now.state.now.rows }
-    ensures { Tells (catalog_taken asked.now.state.now.rows name.now) (λ _. ⊤) result }
+    ensures { let s = asked.now.state.now.rows in
+        Tells (name_taken (catalog_named name.now s.content) name.now) (λ _. ⊤) result }
 {
     if asked.state.content().catalogue(name).is_some() {
         return Err(Undone::Refused(Refusal::NameTaken {

@@ -17,7 +17,8 @@ pub fn no_changes(alloc: Global) -> Listed<Change>
 
 /// One change, at the command's time.
 pub fn one_change(asked: &Asked<'_>, change: Change) -> Result<Listed<Change>, OutOfMemory>
-    ensures { IfOk result (λ changes. changes ≡ Time (time_of asked.now.state.now.rows asked.now.command.now) ∷ change ∷ []) }
+    ensures { IfOk result (λ changes. changes
+        ≡ Time (time_of asked.now.state.now.rows asked.now.command.now) ∷ change ∷ []) }
 {
     Ok(Listed::from(vec![in asked.alloc; Change::Time(time_of(asked)), change]?))
 }
@@ -25,7 +26,9 @@ pub fn one_change(asked: &Asked<'_>, change: Change) -> Result<Listed<Change>, O
 /// The put of a row that takes the next id.
 pub fn under_next_id(asked: &Asked<'_>, put: Change) -> Result<Listed<Change>, OutOfMemory>
     requires { asked.now.state.now.rows.next_id ≤ 2 ^ 62 }
-    ensures { let s = asked.now.state.now.rows in IfOk result (λ changes. changes ≡ Time (time_of s asked.now.command.now) ∷ NextId (s.next_id + 1) ∷ put ∷ []) }
+    ensures { let s = asked.now.state.now.rows in
+        IfOk result (λ changes. changes
+        ≡ Time (time_of s asked.now.command.now) ∷ NextId (s.next_id + 1) ∷ put ∷ []) }
 {
     Ok(Listed::from(vec![in asked.alloc;
         Change::Time(time_of(asked)),

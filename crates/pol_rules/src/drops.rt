@@ -16,7 +16,9 @@ pub fn push_roles(
     catalog: u64,
     changes: &mut Vec<Change>,
 ) -> Result<(), OutOfMemory>
-    ensures { let access = asked.now.state.now.rows.access in OnOk result (changes.new.items ≡ changes.old.items ++ map DropCatalogRole (map catalog_role_id (filter (λ row. row.catalog == catalog) access.catalog_roles))) }
+    ensures { let access = asked.now.state.now.rows.access in
+        OnOk result (changes.new.items ≡ changes.old.items
+        ++ map DropCatalogRole (map catalog_role_id (filter (λ row. row.catalog == catalog) access.catalog_roles))) }
 {
     let access = asked.state.access();
     let ids = access.role_ids_of_catalog(asked.alloc, catalog)?;
@@ -29,7 +31,9 @@ pub fn push_members(
     referent: Referent,
     changes: &mut Vec<Change>,
 ) -> Result<(), OutOfMemory>
-    ensures { let access = asked.now.state.now.rows.access in OnOk result (changes.new.items ≡ changes.old.items ++ map DropMember (members_in_order (filter (member_names referent) access.members))) }
+    ensures { let access = asked.now.state.now.rows.access in
+        OnOk result (changes.new.items ≡ changes.old.items
+        ++ map DropMember (members_in_order (filter (member_names referent) access.members))) }
 {
     let rows = asked.state.access().members_of(asked.alloc, referent)?;
     push_member_drops(rows.as_slice(), changes)
@@ -41,7 +45,9 @@ pub fn push_joins(
     referent: Referent,
     changes: &mut Vec<Change>,
 ) -> Result<(), OutOfMemory>
-    ensures { let access = asked.now.state.now.rows.access in OnOk result (changes.new.items ≡ changes.old.items ++ map DropJoin (joins_in_order (filter (join_names access.catalog_roles referent) access.joins))) }
+    ensures { let access = asked.now.state.now.rows.access in
+        OnOk result (changes.new.items ≡ changes.old.items
+        ++ map DropJoin (joins_in_order (filter (join_names access.catalog_roles referent) access.joins))) }
 {
     let rows = asked.state.access().joins_of(asked.alloc, referent)?;
     push_join_drops(rows.as_slice(), changes)
@@ -53,7 +59,9 @@ pub fn push_grants(
     referent: Referent,
     changes: &mut Vec<Change>,
 ) -> Result<(), OutOfMemory>
-    ensures { let access = asked.now.state.now.rows.access in OnOk result (changes.new.items ≡ changes.old.items ++ map DropGrant (grants_in_order (filter (grant_names access.catalog_roles referent) access.grants))) }
+    ensures { let access = asked.now.state.now.rows.access in
+        OnOk result (changes.new.items ≡ changes.old.items
+        ++ map DropGrant (grants_in_order (filter (grant_names access.catalog_roles referent) access.grants))) }
 {
     let rows = asked.state.access().grants_of(asked.alloc, referent)?;
     push_grant_drops(rows.as_slice(), changes)

@@ -7,6 +7,7 @@ pub mod callers;
 pub mod catalog_rules;
 pub mod changes;
 pub mod drops;
+pub mod laws;
 pub mod namespace_rules;
 pub mod needs;
 pub mod prologues;

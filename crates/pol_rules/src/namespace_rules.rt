@@ -1,9 +1,10 @@
-ghost use Rattle.std.specs.Prelude.{◌≡◌, ◌<◌, ◌^◌, Some, option_copied};
+ghost use Rattle.std.specs.Prelude.{◌≡◌, ◌<◌, Some, option_copied};
 ghost use Rattle.std.specs.Bool.{⊤};
 ghost use Rattle.pol_content.specs.Content.{namespace_id, namespace_named};
+ghost use Rattle.pol_names.specs.Namespace.{dotted};
 ghost use Rattle.pol_tables.specs.Table.{row_of};
 ghost use Rattle.pol_rules.specs.Judged.{Judges, Tells};
-ghost use Rattle.pol_rules.specs.Rules.{key_twice, namespace_holds, namespace_taken, no_namespace, no_parent};
+ghost use Rattle.pol_rules.specs.Rules.{key_twice, namespace_holds, no_namespace, no_parent, name_taken};
 ghost use Rattle.pol_state.specs.Sound.{IsSound};
 
 use crate::rules::{Asked, Undone};
@@ -21,7 +22,10 @@ pub fn namespace_there<'a>(
     levels: &Namespace,
 ) -> Result<&'a NamespaceRow, Undone>
     requires { IsSound asked.now.state.now.rows }
-    ensures { let s = asked.now.state.now.rows in Judges (no_namespace s catalog levels.now) (λ row. (namespace_named catalog levels.now s.content ≡ Some row.now) × (row_of namespace_id row.now.id s.content.namespaces ≡ Some row.now)) result }
+    ensures { let s = asked.now.state.now.rows in
+        Judges (no_namespace s catalog levels.now)
+        (λ row. (namespace_named catalog levels.now s.content ≡ Some row.now)
+        × (row_of namespace_id row.now.id s.content.namespaces ≡ Some row.now)) result }
 {
     let _levels = levels.levels();
     match asked
@@ -51,14 +55,15 @@ pub fn parent_there(
 }
 
 /// No namespace of the catalogue has the levels.
-#[tactic(auto, unfolding(crate::specs::Rules::namespace_taken))]
+#[tactic(auto, unfolding(crate::specs::Rules::name_taken))]
 pub fn levels_free(
     asked: &Asked<'_>,
     catalog: &CatalogRow,
     levels: &Namespace,
 ) -> Result<(), Undone>
     requires { IsSound asked.now.state.now.rows }
-    ensures { Tells (namespace_taken asked.now.state.now.rows levels.now catalog.now) (λ _. ⊤) result }
+    ensures { let found = namespace_named catalog.now.id levels.now asked.now.state.now.rows.content in
+        Tells (name_taken found (dotted levels.now)) (λ _. ⊤) result }
 {
     let content = asked.state.content();
     if content.namespace(catalog.id, levels).is_some() {

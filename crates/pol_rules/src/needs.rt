@@ -40,7 +40,8 @@ pub fn allowed_on_catalog(
     catalog: &CatalogRow,
 ) -> Result<(), Undone>
     requires { IsSound asked.now.state.now.rows }
-    ensures { Judges (forbidden asked.now.state.now.rows asked.now.command.now (on_catalog privilege catalog.now)) (λ _. ⊤) result }
+    ensures { Judges (forbidden asked.now.state.now.rows asked.now.command.now
+        (on_catalog privilege catalog.now)) (λ _. ⊤) result }
 {
     let need = Need {
         privilege,
@@ -57,7 +58,8 @@ pub fn allowed_on_path(
     catalog: &CatalogRow,
 ) -> Result<(), Undone>
     requires { IsSound asked.now.state.now.rows }
-    ensures { let s = asked.now.state.now.rows in Judges (forbidden s asked.now.command.now (on_path s privilege levels.now catalog.now)) (λ _. ⊤) result }
+    ensures { let s = asked.now.state.now.rows in
+        Judges (forbidden s asked.now.command.now (on_path s privilege levels.now catalog.now)) (λ _. ⊤) result }
 {
     let content = asked.state.content();
     let on = content.deepest(asked.alloc, catalog.id, levels)?;
@@ -72,7 +74,9 @@ pub fn allowed_on_parent(
     catalog: &CatalogRow,
 ) -> Result<(), Undone>
     requires { IsSound asked.now.state.now.rows }
-    ensures { let s = asked.now.state.now.rows in Judges (forbidden s asked.now.command.now (on_parent s privilege (option_copied parent.entry) catalog.now)) (λ _. ⊤) result }
+    ensures { let s = asked.now.state.now.rows in
+        Judges (forbidden s asked.now.command.now
+        (on_parent s privilege (option_copied parent.entry) catalog.now)) (λ _. ⊤) result }
 {
     match parent {
         Some(levels) => allowed_on_path(asked, privilege, levels, catalog),
@@ -113,7 +117,8 @@ fn first_unmet(asked: &Asked<'_>, needs: &[Need]) -> Result<Option<Need>, OutOfM
 /// Whether the caller has what it needs.
 fn caller_may(asked: &Asked<'_>, time: u64, need: &Need) -> Result<bool, OutOfMemory>
     requires { IsSound asked.now.state.now.rows }
-    ensures { let s = asked.now.state.now.rows in IfOk result (λ may. may ≡ caller_may s time asked.now.command.now.caller need.now) }
+    ensures { let s = asked.now.state.now.rows in
+        IfOk result (λ may. may ≡ caller_may s time asked.now.command.now.caller need.now) }
 {
     match &asked.command.caller {
         Caller::Nobody => Ok(false),

@@ -28,7 +28,10 @@ pub fn in_realm(asked: &Asked<'_>) -> Result<(), Undone>
 /// The catalogue of the name, whose access the caller may manage.
 pub fn in_catalog<'a>(asked: &Asked<'a>, name: &Plain) -> Result<&'a CatalogRow, Undone>
     requires { IsSound asked.now.state.now.rows }
-    ensures { let s = asked.now.state.now.rows in Enters (in_catalog s asked.now.command.now name.now) (λ row. (catalog_named name.now s.content ≡ Some row.now) × (row_of catalog_id row.now.id s.content.catalogs ≡ Some row.now)) result }
+    ensures { let s = asked.now.state.now.rows in
+        Enters (in_catalog s asked.now.command.now name.now)
+        (λ row. (catalog_named name.now s.content ≡ Some row.now)
+        × (row_of catalog_id row.now.id s.content.catalogs ≡ Some row.now)) result }
 {
     signed_in(asked)?;
     let row = catalog_there(asked, name)?;

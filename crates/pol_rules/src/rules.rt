@@ -1,5 +1,4 @@
 ghost use Rattle.std.specs.Prelude.{◌≡◌, ◌+◌, ◌<◌, ◌≤◌, ◌^◌, []};
-ghost use Rattle.std.specs.Bool.{⊤};
 ghost use Rattle.pol_rules.specs.Judged.{Sees};
 ghost use Rattle.pol_state.specs.Bounds.{above};
 ghost use Rattle.pol_rules.specs.Rules.{run_full, time_of};

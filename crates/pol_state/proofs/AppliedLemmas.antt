@@ -1,4 +1,4 @@
--- Changes applied: from a list that is emptied from its end, and the drops of what names a row.
+-- Changes applied one after the other: drops of facts and rows that pass a test.
 use Rattle.std.proofs.Common.{◌≡◌, ℕ, Bool, true, false, not, ◌&&◌, ◌||◌, List, [], ◌∷◌, ◌++◌, filter, map, refl, sym, ap, subst, ◌∙◌, true≢false, cond}
 use Rattle.std.specs.Coded.{Coded}
 use Rattle.std.specs.List.{fold, AllByRecursion}
@@ -6,31 +6,36 @@ use Rattle.std.specs.declared.cmp.Ordering.{Ordering}
 use Rattle.std.proofs.lemmas.Bool.{or_parts}
 use Rattle.std.proofs.lemmas.List.{append-nil}
 use Rattle.std.proofs.lemmas.List.Sums.{fold-append}
-use Rattle.pol_access.specs.Access.{catalog_role_id}
-use Rattle.pol_access.specs.Order.{grant_cmp, grants_in_order, join_cmp, joins_in_order, member_cmp, members_in_order}
-use Rattle.pol_access.specs.contracts.rows.CatalogRoleRow as catalog_role
-use Rattle.pol_access.specs.contracts.rows.GrantRow as grant
-use Rattle.pol_access.specs.contracts.rows.JoinRow as join
-use Rattle.pol_access.specs.declared.rows.CatalogRoleRow.{CatalogRoleRow}
-use Rattle.pol_access.specs.declared.rows.GrantRow.{GrantRow}
-use Rattle.pol_access.specs.declared.rows.JoinRow.{JoinRow}
-use Rattle.pol_access.specs.contracts.rows.MemberRow as member
-use Rattle.pol_access.specs.declared.rows.MemberRow.{MemberRow}
-use Rattle.pol_tables.specs.Order.{in_order}
+use Rattle.pol_tables.specs.Changes.{gone_ids}
 use Rattle.pol_tables.specs.Facts.{facts_without, holds}
+use Rattle.pol_tables.specs.Order.{in_order}
 use Rattle.pol_tables.specs.Rising.{KeysBelow, KeysRise}
 use Rattle.pol_tables.specs.Same.{same}
-use Rattle.pol_tables.specs.Table.{knows}
-use Rattle.pol_tables.proofs.ChangesLemmas.{each_held_itself, each_known, table_changes-filter}
+use Rattle.pol_tables.specs.Table.{knows, rows_with, rows_without}
+use Rattle.pol_tables.proofs.ChangesLemmas.{each_held_itself, each_known, gone_ids-filter, new_rows-filter}
 use Rattle.pol_tables.proofs.FactChangesLemmas.{any-in_order, holds-filter}
 use Rattle.pol_tables.proofs.ListLemmas.{and_true, each-all, each-filter, each-weaken, filter-alike, filter-every}
-use Rattle.pol_tables.proofs.ReplayLemmas.{rows-replayed}
+use Rattle.pol_tables.proofs.ReplayLemmas.{rebuilt-new}
 use Rattle.pol_tables.proofs.RisingLemmas.{IdsDiffer-rising, KeysRise-filter}
 use Rattle.pol_tables.proofs.SameLemmas.{same-symmetric}
 use Rattle.pol_content.specs.declared.change.Change.{Change}
-use Rattle.pol_content.specs.declared.change.Change.TheVariants.{PutCatalogRole, DropCatalogRole, DropGrant, DropJoin, DropMember}
 use Rattle.pol_state.specs.Applied.{changed}
 use Rattle.pol_state.specs.Rows.{Rows}
+use Rattle.pol_state.proofs.ChangesLemmas.{filter-twice}
+
+-- the rows that changes make, and those that more changes make of these
+pub record Makes (s : Rows) (changes : List Change) (next : Rows) : Type 0 where
+  pub is : fold changed s changes ≡ next
+
+pub and_then : {s next last : Rows} {first rest : List Change} → Makes s first next → Makes next rest last → Makes s (first ++ rest) last
+and_then {s = s} {first = first} {rest = rest} made more =
+    record { is = fold-append changed s first rest ∙ ap (λ (now : Rows). fold changed now rest) made.is ∙ more.is }
+
+-- changes of one kind touch their own list alone
+module _ {R X : Type 0} (holding : List R → Rows) (step : List R → X → List R) (change : X → Change) (acts : (rows : List R) (x : X) → changed (holding rows) (change x) ≡ holding (step rows x)) where
+  alone : (rows : List R) (xs : List X) → fold changed (holding rows) (map change xs) ≡ holding (fold step rows xs)
+  alone rows [] = refl
+  alone rows (x ∷ xs) = ap (λ (now : Rows). fold changed now (map change xs)) (acts rows x) ∙ alone (step rows x) xs
 
 -- facts that are taken away one after the other
 module _ {T : Type 0} (code : Coded T) where
@@ -63,68 +68,19 @@ module _ {T : Type 0} (code : Coded T) where
       (each-all (λ kept. (not (same code fact kept) && not (holds code kept gone)) ≡ not (holds code kept (fact ∷ gone))) facts (λ kept. ap (λ b. not b && not (holds code kept gone)) (same-symmetric code fact kept) ∙ apart (same code kept fact) (holds code kept gone)))
 
   -- those that pass a test, in order, leave those that don't
-  pub without-passing : (cmp : T → T → Ordering) (gone : T → Bool) (facts : List T) → without_each facts (in_order cmp (filter gone facts)) ≡ filter (λ fact. not (gone fact)) facts
+  without-passing : (cmp : T → T → Ordering) (gone : T → Bool) (facts : List T) → without_each facts (in_order cmp (filter gone facts)) ≡ filter (λ fact. not (gone fact)) facts
   without-passing cmp gone facts =
       without-others facts (in_order cmp (filter gone facts))
       ∙ filter-alike (λ fact. not (holds code fact (in_order cmp (filter gone facts)))) (λ fact. not (gone fact)) facts
       (each-weaken (λ fact. holds code fact facts ≡ true) (λ fact. not (holds code fact (in_order cmp (filter gone facts))) ≡ not (gone fact)) facts
       (λ fact held. ap not (any-in_order cmp (same code fact) (filter gone facts) ∙ holds-filter code fact gone facts ∙ ap (λ b. gone fact && b) held ∙ and_true (gone fact))) (each_held_itself code facts))
 
--- the rows with these joins, these grants and these catalogue roles
-abbrev pub with_joins : Rows → List JoinRow → Rows
-with_joins s joins = record s { access = record s.access { joins = joins } }
+  pub facts-dropped : (cmp : T → T → Ordering) (drop : T → Change) (holding : List T → Rows) → ((facts : List T) (fact : T) → changed (holding facts) (drop fact) ≡ holding (facts_without code fact facts)) → (gone : T → Bool) (facts : List T)
+      → Makes (holding facts) (map drop (in_order cmp (filter gone facts))) (holding (filter (λ fact. not (gone fact)) facts))
+  facts-dropped cmp drop holding drops gone facts =
+      record { is = alone holding (λ kept fact. facts_without code fact kept) drop drops facts (in_order cmp (filter gone facts)) ∙ ap holding (without-passing cmp gone facts) }
 
-abbrev pub with_grants : Rows → List GrantRow → Rows
-with_grants s grants = record s { access = record s.access { grants = grants } }
-
-abbrev pub with_roles : Rows → List CatalogRoleRow → Rows
-with_roles s roles = record s { access = record s.access { catalog_roles = roles } }
-
-joins-gone : (s : Rows) (gone : List JoinRow) → fold changed s (map DropJoin gone) ≡ with_joins s (fold (λ kept row. facts_without join.the_row.coded row kept) s.access.joins gone)
-joins-gone s [] = refl
-joins-gone s (row ∷ gone) = joins-gone (changed s (DropJoin row)) gone
-
-pub joins-dropped : (s : Rows) (gone : JoinRow → Bool) → fold changed s (map DropJoin (joins_in_order (filter gone s.access.joins))) ≡ with_joins s (filter (λ row. not (gone row)) s.access.joins)
-joins-dropped s gone =
-    joins-gone s (joins_in_order (filter gone s.access.joins)) ∙ ap (with_joins s) (without-passing join.the_row.coded join_cmp gone s.access.joins)
-
-grants-gone : (s : Rows) (gone : List GrantRow) → fold changed s (map DropGrant gone) ≡ with_grants s (fold (λ kept row. facts_without grant.the_row.coded row kept) s.access.grants gone)
-grants-gone s [] = refl
-grants-gone s (row ∷ gone) = grants-gone (changed s (DropGrant row)) gone
-
-pub grants-dropped : (s : Rows) (gone : GrantRow → Bool) → fold changed s (map DropGrant (grants_in_order (filter gone s.access.grants))) ≡ with_grants s (filter (λ row. not (gone row)) s.access.grants)
-grants-dropped s gone =
-    grants-gone s (grants_in_order (filter gone s.access.grants)) ∙ ap (with_grants s) (without-passing grant.the_row.coded grant_cmp gone s.access.grants)
-
--- drops of catalogue roles change these alone
-roles-alone : (s : Rows) (ids : List ℕ) → fold changed s (map DropCatalogRole ids) ≡ with_roles s (fold changed s (map DropCatalogRole ids)).access.catalog_roles
-roles-alone s [] = refl
-roles-alone s (id ∷ ids) = roles-alone (changed s (DropCatalogRole id)) ids
-
-each_own : (roles : List CatalogRoleRow) → AllByRecursion (λ row. knows catalog_role_id (catalog_role_id row) roles ≡ true) roles
-each_own roles =
-    subst (λ rows. AllByRecursion (λ row. knows catalog_role_id (catalog_role_id row) rows ≡ true) roles) (append-nil roles) (each_known catalog_role.the_row.coded catalog_role_id roles [])
-
-pub roles-dropped : (s : Rows) (keep : CatalogRoleRow → Bool) → KeysRise catalog_role_id s.access.catalog_roles
-    → fold changed s (map DropCatalogRole (map catalog_role_id (filter (λ row. not (keep row)) s.access.catalog_roles))) ≡ with_roles s (filter keep s.access.catalog_roles)
-roles-dropped s keep rise =
-    let roles = s.access.catalog_roles in
-    let ids = map catalog_role_id (filter (λ row. not (keep row)) roles) in
-    let known = each-filter (λ row. knows catalog_role_id (catalog_role_id row) roles ≡ true) keep roles (each_own roles) in
-    let above = each-weaken (λ row. knows catalog_role_id (catalog_role_id row) roles ≡ true) (λ row. knows catalog_role_id (catalog_role_id row) roles ≡ false → KeysBelow catalog_role_id (catalog_role_id row) roles) (filter keep roles) (λ row here none. absurd (true≢false (sym here ∙ none))) known in
-    roles-alone s ids
-    ∙ ap (with_roles s) (
-    ap (λ changes. (fold changed s changes).access.catalog_roles) (sym (table_changes-filter catalog_role.the_row.coded catalog_role_id PutCatalogRole DropCatalogRole keep roles (IdsDiffer-rising catalog_role_id roles rise)))
-    ∙ rows-replayed catalog_role_id catalog_role.the_row.coded PutCatalogRole DropCatalogRole changed (λ state. state.access.catalog_roles) (record { puts = λ state row. refl; drops = λ state id. refl }) s (filter keep roles) rise (KeysRise-filter catalog_role_id keep roles rise) above
-    )
-
--- and all three one after the other
-pub three-dropped : (s : Rows) (roles joins grants : List Change) → fold changed s (roles ++ joins ++ grants) ≡ fold changed (fold changed (fold changed s roles) joins) grants
-three-dropped s roles joins grants =
-    fold-append changed s (roles ++ joins) grants ∙ ap (λ after. fold changed after grants) (fold-append changed s roles joins)
-
--- a fact that isn't there is taken away without a change
-module _ {T : Type 0} (code : Coded T) where
+  -- a fact that isn't there is taken away without a change
   each-other : (fact : T) (facts : List T) → holds code fact facts ≡ false → AllByRecursion (λ kept. not (same code fact kept) ≡ true) facts
   each-other fact [] none = tt
   each-other fact (first ∷ facts) none =
@@ -135,14 +91,19 @@ module _ {T : Type 0} (code : Coded T) where
   unfolding facts_without
   facts_without-unknown fact facts none = filter-every (λ kept. not (same code fact kept)) facts (each-other fact facts none)
 
--- the rows with these members
-abbrev pub with_members : Rows → List MemberRow → Rows
-with_members s members = record s { access = record s.access { members = members } }
+-- rows whose ids rise that pass a test leave those that don't
+module _ {R : Type 0} (code : Coded R) (key : R → ℕ) where
+  without-gone : (gone : R → Bool) (rows : List R) → KeysRise key rows → fold (λ kept id. rows_without key id kept) rows (map key (filter gone rows)) ≡ filter (λ row. not (gone row)) rows
+  without-gone gone rows rise =
+      let keep : R → Bool = λ row. not (gone row) in
+      let own = subst (λ all. AllByRecursion (λ row. knows key (key row) all ≡ true) rows) (append-nil rows) (each_known code key rows []) in
+      let known = each-filter (λ row. knows key (key row) rows ≡ true) keep rows own in
+      let above = each-weaken (λ row. knows key (key row) rows ≡ true) (λ row. knows key (key row) rows ≡ false → KeysBelow key (key row) rows) (filter keep rows) (λ row here none. absurd (true≢false (sym here ∙ none))) known in
+      ap (λ ids. fold (λ kept id. rows_without key id kept) rows ids) (sym (gone_ids-filter code key keep rows (IdsDiffer-rising key rows rise) ∙ ap (map key) (filter-twice gone rows)))
+      ∙ ap (λ more. fold (λ kept id. rows_without key id kept) (fold (λ kept row. rows_with key row kept) rows more) (gone_ids key rows (filter keep rows))) (sym (new_rows-filter code keep rows))
+      ∙ rebuilt-new key code rows (filter keep rows) rise (KeysRise-filter key keep rows rise) above
 
-members-gone : (s : Rows) (gone : List MemberRow) → fold changed s (map DropMember gone) ≡ with_members s (fold (λ kept row. facts_without member.the_row.coded row kept) s.access.members gone)
-members-gone s [] = refl
-members-gone s (row ∷ gone) = members-gone (changed s (DropMember row)) gone
-
-pub members-dropped : (s : Rows) (gone : MemberRow → Bool) → fold changed s (map DropMember (members_in_order (filter gone s.access.members))) ≡ with_members s (filter (λ row. not (gone row)) s.access.members)
-members-dropped s gone =
-    members-gone s (members_in_order (filter gone s.access.members)) ∙ ap (with_members s) (without-passing member.the_row.coded member_cmp gone s.access.members)
+  pub rows-dropped : (drop : ℕ → Change) (holding : List R → Rows) → ((rows : List R) (id : ℕ) → changed (holding rows) (drop id) ≡ holding (rows_without key id rows)) → (gone : R → Bool) (rows : List R) → KeysRise key rows
+      → Makes (holding rows) (map drop (map key (filter gone rows))) (holding (filter (λ row. not (gone row)) rows))
+  rows-dropped drop holding drops gone rows rise =
+      record { is = alone holding (λ kept id. rows_without key id kept) drop drops rows (map key (filter gone rows)) ∙ ap holding (without-gone gone rows rise) }

@@ -41,7 +41,18 @@ impl Model for State {
 
     ghost Value = { Held };
 
-    ghost view = { λ state. record { rows = record { access = state.access.rows; content = state.content.rows; tokens = state.tokens.rows; time = state.time; next_id = state.next_id; next_serial = state.next_serial; charged = state.charged }; room = record { access = state.access.room; content = state.content.room; tokens = state.tokens.room } } };
+    ghost view = { λ state. record {
+      rows = record {
+        access = state.access.rows;
+        content = state.content.rows;
+        tokens = state.tokens.rows;
+        time = state.time;
+        next_id = state.next_id;
+        next_serial = state.next_serial;
+        charged = state.charged;
+      };
+      room = record { access = state.access.room; content = state.content.room; tokens = state.tokens.room };
+    } };
 }
 
 impl State {
@@ -200,7 +211,14 @@ impl Clone for State {
 
 /// How many rows of each kind of access the changes put.
 fn access_room(changes: &[Change]) -> AccessRoom
-    ensures { result ≡ record { principals = count_by (puts kind.Principal) changes.now; principal_roles = count_by (puts kind.PrincipalRole) changes.now; catalog_roles = count_by (puts kind.CatalogRole) changes.now; members = count_by (puts kind.Member) changes.now; joins = count_by (puts kind.Join) changes.now; grants = count_by (puts kind.Grant) changes.now } }
+    ensures { result ≡ record {
+      principals = count_by (puts kind.Principal) changes.now;
+      principal_roles = count_by (puts kind.PrincipalRole) changes.now;
+      catalog_roles = count_by (puts kind.CatalogRole) changes.now;
+      members = count_by (puts kind.Member) changes.now;
+      joins = count_by (puts kind.Join) changes.now;
+      grants = count_by (puts kind.Grant) changes.now;
+    } }
 {
     AccessRoom {
         principals: count_put(changes, RowKind::Principal),

@@ -1,4 +1,4 @@
-use Rattle.std.proofs.Common.{ap, sym, ◌∙◌}
+use Rattle.std.proofs.Common.{Some, ap, sym, ◌∙◌}
 use Rattle.pol_commands.specs.declared.reply.Answer.TheVariants.{SessionOpened}
 use Rattle.pol_content_actions.proofs.SessionsLemmas.{changes-acting, changes-made, none-refused}
 use Rattle.pol_content_actions.proofs.sessions.open_session.Goals as goal
@@ -12,7 +12,7 @@ returns c =
     let judged = rw (c.as_str.ensures, c.as_str-2.ensures) at c.in_ok-principal.ensures in
     let time_is = c.time_of-time.ensures in (
       none-refused s command scopes c.args.client_id.now c.args.secret.now principal judged.0 judged.1 c.in_ok-scopes_there.ensures.0,
-      ap (λ serial. SessionOpened serial command.words.a command.words.b) c.next_serial-serial.ensures,
+      ap (λ serial. Some (SessionOpened serial command.words.a command.words.b)) c.next_serial-serial.ensures,
       c.from.ensures ∙ c.in_ok-vec.ensures.items
           ∙ changes-made s command scopes principal c.next_serial-serial.result c.in_ok-scope.scope c.time_of-time.result c.next_serial-serial.ensures c.in_ok-scope.ensures time_is
           ∙ sym (changes-acting s command scopes c.args.client_id.now c.args.secret.now principal judged.0 judged.1 c.requires.sound),

@@ -11,3 +11,7 @@ returns-in-CreateCatalog c =
 pub returns-in-ListJoins : goal.returns-in-ListJoins
 returns-in-ListJoins c =
     subst (λ (action : Action). Acts c.args.asked.now (λ s command. acting s command action) c.list_joins.result) (sym c.in-ListJoins.is) c.list_joins.ensures
+
+pub returns-in-CreatePrincipal : goal.returns-in-CreatePrincipal
+returns-in-CreatePrincipal c =
+    subst (λ (action : Action). Acts c.args.asked.now (λ s command. acting s command action) c.create_principal.result) (sym c.in-CreatePrincipal.is) c.create_principal.ensures

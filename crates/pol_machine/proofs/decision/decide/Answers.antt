@@ -1,10 +1,10 @@
 use Rattle.std.proofs.Common.{◌≡◌, None, Some, Ok, Err, ap, sym, ◌∙◌}
 use Rattle.pol_state.specs.Bounds.{first_refusal}
 use Rattle.pol_state.specs.Changes.{changes_between}
-use Rattle.pol_commands.specs.declared.reply.Reply.TheVariants.{Answered}
+use Rattle.pol_commands.specs.declared.reply.Reply.TheVariants.{Answered, Refused}
 use Rattle.pol_rules.proofs.RulesLemmas.{refusal-stops}
-use Rattle.pol_machine.specs.Machine.{rules_of}
-use Rattle.pol_machine.proofs.DecisionLemmas.{bounds-judged, changes-refused, first-of, next-answered, reply-answered, reply-refused}
+use Rattle.pol_machine.specs.Machine.{rules_of, reply_with}
+use Rattle.pol_machine.proofs.DecisionLemmas.{answer-is, bounds-judged, changes-refused, first-of, next-answered, reply-answered, reply-refused}
 use Rattle.pol_machine.proofs.decision.decide.Goals as goal
 
 pub returns-in-Err-clause-reply : goal.returns-in-Err-clause-reply
@@ -21,7 +21,7 @@ returns-in-Ok-within_bounds-clause-reply c =
     let command = c.args.command.now in
     let within = bounds-judged s command _ (Ok tt) c.requires.sound c.requires.moment c.in_default.ensures.0 c.in-Ok.ensures.0 c.in-Ok.ensures.2 c.in-Ok-within_bounds.ensures in
     let passed : first_refusal (rules_of s command) ≡ None = first-of s command None c.in_default.ensures.0 c.in-Ok.ensures.0 ∙ within.0 in
-    ap Answered c.in-Ok.ensures.1 ∙ sym (reply-answered s command passed)
+    ap reply_with c.in-Ok.ensures.1 ∙ sym (reply-answered s command passed)
 
 pub returns-in-Ok-within_bounds-clause-changes : goal.returns-in-Ok-within_bounds-clause-changes
 returns-in-Ok-within_bounds-clause-changes c =
@@ -64,3 +64,18 @@ returns-in-Err-Refused-clause-changes c =
     let refused = rw c.in-Err-Refused.field-0-is at c.in-Err-Refused.ensures in
     let fails : first_refusal (rules_of s command) ≡ Some c.in-Err-Refused.why = first-of s command (Some c.in-Err-Refused.why) c.in_default.ensures.0 refused in
     c.refused-in-Err-Refused.ensures.changes ∙ sym (changes-refused s command c.in-Err-Refused.why fails)
+
+pub returns-in-Ok-within_bounds-clause-given : goal.returns-in-Ok-within_bounds-clause-given
+returns-in-Ok-within_bounds-clause-given c answer told =
+    sym c.in-Ok.ensures.1 ∙ ap Some (answer-is _ answer told)
+
+pub returns-in-Err-clause-given : goal.returns-in-Err-clause-given
+returns-in-Err-clause-given c answer told = let contrary : Refused c.in-Err.why ≡ Answered answer = sym c.refused.ensures.reply ∙ told in cc
+
+pub returns-in-Err-within_bounds-clause-given : goal.returns-in-Err-within_bounds-clause-given
+returns-in-Err-within_bounds-clause-given c answer told =
+    let contrary : Refused c.in-Err-within_bounds.why ≡ Answered answer = sym c.refused-in-Err-within_bounds.ensures.reply ∙ told in cc
+
+pub returns-in-Err-Refused-clause-given : goal.returns-in-Err-Refused-clause-given
+returns-in-Err-Refused-clause-given c answer told =
+    let contrary : Refused c.in-Err-Refused.why ≡ Answered answer = sym c.refused-in-Err-Refused.ensures.reply ∙ told in cc

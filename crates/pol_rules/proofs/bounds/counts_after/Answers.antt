@@ -1,4 +1,4 @@
-use Rattle.std.proofs.Common.{◌≡◌, List, length, rules}
+use Rattle.std.proofs.Common.{◌≡◌, length, rules}
 use Rattle.pol_content.specs.declared.change.RowKind.TheVariants as kind
 use Rattle.pol_rules.specs.Counted.{count_after}
 use Rattle.pol_rules.proofs.bounds.counts_after.Goals as goal

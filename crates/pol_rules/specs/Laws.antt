@@ -1,0 +1,29 @@
+-- Laws of rules.
+use Rattle.std.specs.Prelude.{◌≡◌, ◌⊎◌, ℕ, List, Option, Some}
+use Rattle.std.specs.List.{AllByRecursion}
+use Rattle.pol_access.specs.declared.privilege.Privilege.{Privilege}
+use Rattle.pol_access.specs.declared.securable.Securable.{Securable}
+use Rattle.pol_commands.specs.declared.securables.SecurableName.TheVariants as name
+use Rattle.pol_content.specs.Content.{catalog_named}
+use Rattle.pol_content.specs.declared.rows.CatalogRow.{CatalogRow}
+use Rattle.pol_state.specs.Rows.{Rows}
+use Rattle.pol_state.specs.Sound.{IsSound}
+use Rattle.pol_rules.specs.Needs.{on_catalog, on_parent, on_path, shown}
+use Rattle.pol_rules.specs.declared.needs.Need.{Need}
+
+-- a securable is shown as the catalogue, or as a namespace in it
+abbrev pub IsShownIn : Rows → CatalogRow → Securable → Type 0
+IsShownIn s catalog on =
+    (shown s on ≡ name.Catalog catalog.name) ⊎ ((levels : List (List ℕ)) × (shown s on ≡ name.Namespace catalog.name levels))
+
+-- and so is what each of these needs is on
+abbrev pub AreShownIn : Rows → CatalogRow → List Need → Type 0
+AreShownIn s catalog needs = AllByRecursion (λ need. IsShownIn s catalog need.on) needs
+
+-- needs on a catalogue that is there, on a path in it and on a parent are shown so
+abbrev pub NeedsAreShown : Type 0
+NeedsAreShown =
+    (s : Rows) (text : List ℕ) (catalog : CatalogRow) (privilege : Privilege) → IsSound s → catalog_named text s.content ≡ Some catalog
+    → AreShownIn s catalog (on_catalog privilege catalog)
+    × ((levels : List (List ℕ)) → AreShownIn s catalog (on_path s privilege levels catalog))
+    × ((parent : Option (List (List ℕ))) → AreShownIn s catalog (on_parent s privilege parent catalog))
