@@ -34,7 +34,7 @@ MOMENT = 1000
 
 
 class NotMade(Exception):
-    """A table that can't be made, with the word for it."""
+    """A table, or a change of one, that can't be made, with the word for it."""
 
 
 def told(content):

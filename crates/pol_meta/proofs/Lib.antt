@@ -1,2 +1,3 @@
 pub mod CreationLemmas
 pub mod ValidLemmas
+pub mod WeightLemmas

@@ -1,5 +1,5 @@
--- What a metadata weighs: the lengths of all its texts, and 64 for each field of a schema, of a partition spec and of a
--- sort order, for each snapshot, reference, entry of a log and property.
+-- What a metadata weighs, and what a table is asked for with: the lengths of all its texts, and 64 for each field of a
+-- schema, of a partition spec and of a sort order, for each snapshot, reference, entry of a log and property.
 use Rattle.std.specs.Prelude.{ℕ, ◌+◌, ◌*◌, ◌-◌, ◌^◌, List, length, min, sum_by}
 use Rattle.std.specs.Option.{option_map_or}
 use Rattle.pol_properties.specs.declared.property.Property.{Property}
@@ -10,10 +10,13 @@ use Rattle.pol_meta.specs.declared.log.MetadataLogEntry.{MetadataLogEntry}
 use Rattle.pol_meta.specs.declared.metadata.TableMetadata.{TableMetadata}
 use Rattle.pol_meta.specs.declared.partition.PartitionField.{PartitionField}
 use Rattle.pol_meta.specs.declared.partition.PartitionSpec.{PartitionSpec}
+use Rattle.pol_meta.specs.declared.partition.UnboundField.{UnboundField}
+use Rattle.pol_meta.specs.declared.partition.UnboundSpec.{UnboundSpec}
 use Rattle.pol_meta.specs.declared.reference.NamedRef.{NamedRef}
 use Rattle.pol_meta.specs.declared.schema.Schema.{Schema}
 use Rattle.pol_meta.specs.declared.snapshot.Snapshot.{Snapshot}
 use Rattle.pol_meta.specs.declared.sort.SortOrder.{SortOrder}
+use Rattle.pol_meta.specs.declared.sort.UnboundOrder.{UnboundOrder}
 
 -- a weight as 64 bits tell it: those that are too large for them are the largest that they have
 unfoldable pub capped : ℕ → ℕ
@@ -25,6 +28,9 @@ pair_weight pair = length pair.key + length pair.value
 
 abbrev pub pairs_weight : List Property → ℕ
 pairs_weight pairs = sum_by pair_weight pairs
+
+abbrev pub properties_weight : List Property → ℕ
+properties_weight properties = 64 * length properties + pairs_weight properties
 
 -- the texts of a column
 abbrev pub part_weight : Part → ℕ
@@ -63,9 +69,27 @@ metadata_weight meta =
     length meta.location
     + sum_by log_entry_weight meta.metadata_log
     + sum_by partition_spec_weight meta.partition_specs
-    + (64 * length meta.properties + pairs_weight meta.properties)
+    + properties_weight meta.properties
     + sum_by named_ref_weight meta.refs
     + sum_by schema_weight meta.schemas
     + 64 * length meta.snapshot_log
     + sum_by snapshot_weight meta.snapshots
     + sum_by sort_order_weight meta.sort_orders
+
+-- what a table is asked for with
+abbrev pub unbound_field_weight : UnboundField → ℕ
+unbound_field_weight field = 64 + length field.name
+
+abbrev pub unbound_spec_weight : UnboundSpec → ℕ
+unbound_spec_weight spec = sum_by unbound_field_weight spec.fields
+
+abbrev pub unbound_order_weight : UnboundOrder → ℕ
+unbound_order_weight order = 64 * length order.fields
+
+abbrev pub asked_weight : List ℕ → Schema → UnboundSpec → UnboundOrder → List Property → ℕ
+asked_weight location schema spec order properties =
+    length location
+    + schema_weight schema
+    + unbound_spec_weight spec
+    + unbound_order_weight order
+    + properties_weight properties

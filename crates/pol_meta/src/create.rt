@@ -4,6 +4,7 @@ ghost use Rattle.indexmap.specs.IndexSet.{contains};
 ghost use Rattle.pol_meta.specs.Columns.{column_ids, has_column};
 ghost use Rattle.pol_meta.specs.Creation.{IsAskedFor, IsCreateRefusal, assembled, bound, create_refusal, created, field_ids, first_order, first_schema, first_spec, highest, highest_given, is_same_field, is_same_given, is_same_name, numbered, stands_twice, unnumbered};
 ghost use Rattle.pol_meta.specs.Valid.{IsValid};
+ghost use Rattle.pol_meta.specs.Weight.{asked_weight, metadata_weight};
 
 use crate::{
     Column, CreateRefused, PartitionField, PartitionSpec, Schema, SortField, SortOrder,
@@ -23,6 +24,7 @@ impl TableMetadata {
     /// and its order id 1, or 0 where nothing is sorted. Partition fields without an id get the ids after the highest
     /// one given, and at least 1000. A spec is refused for a source that is no column, then for an id or a name that
     /// stands twice, then for an id above 2,147,483,647; after it an order is refused for a source that is no column.
+    /// The metadata weighs as much as what the table is asked for with.
     #[tactic(auto, unfolding(crate::specs::Creation::created))]
     pub fn create(
         alloc: Global,
@@ -38,6 +40,8 @@ impl TableMetadata {
         ensures passes { OnOk result (create_refusal schema spec order ≡ None) }
         ensures refused { IfErr result (IsCreateRefusal schema spec order) }
         ensures valid { IsAskedFor schema spec order moment → IfOk result IsValid }
+        ensures weight { IfOk result (λ meta. metadata_weight meta
+            ≡ asked_weight location.now schema spec order properties) }
     {
         let highest = judge(alloc, &schema, &spec, &order)?;
         let spec = first_spec(alloc, spec, highest)?;

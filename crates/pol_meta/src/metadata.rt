@@ -1,10 +1,11 @@
+ghost use Rattle.std.specs.Prelude.{◌≡◌, IfOk};
 ghost use Rattle.std.proofs.Common.{rules};
 
 use crate::{
     MetadataLogEntry, NamedRef, PartitionSpec, Schema, Snapshot, SnapshotLogEntry, SortOrder,
 };
 use pol_properties::Properties;
-use pol_types::{Exact, Listed, Text};
+use pol_types::{Exact, Listed, OutOfMemory, Text};
 use uuid::Uuid;
 
 /// The metadata of a table, with the fields of the Iceberg table spec. Times are in milliseconds since the Unix
@@ -30,6 +31,15 @@ pub struct TableMetadata {
     pub snapshots: Listed<Snapshot>,
     pub sort_orders: Listed<SortOrder>,
     pub table_uuid: Uuid,
+}
+
+impl TableMetadata {
+    /// An equal metadata.
+    pub fn copy(&self) -> Result<Self, OutOfMemory>
+        ensures { IfOk result (λ copy. copy ≡ self.now) }
+    {
+        Ok(self.clone()?)
+    }
 }
 
 impl Exact for TableMetadata {

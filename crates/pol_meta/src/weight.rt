@@ -1,6 +1,6 @@
-ghost use Rattle.std.specs.Prelude.{◌≡◌, ℕ, ◌+◌, ◌*◌, length, option_copied, sum_by};
+ghost use Rattle.std.specs.Prelude.{◌≡◌, ◌<◌, ◌^◌, ℕ, ◌+◌, ◌*◌, length, option_copied, sum_by};
 ghost use Rattle.std.specs.Option.{option_map_or};
-ghost use Rattle.pol_meta.specs.Weight.{capped, column_weight, log_entry_weight, metadata_weight, named_ref_weight, pair_weight, pairs_weight, part_weight, partition_field_weight, partition_spec_weight, schema_weight, snapshot_weight, sort_order_weight};
+ghost use Rattle.pol_meta.specs.Weight.{capped, column_weight, log_entry_weight, metadata_weight, named_ref_weight, pair_weight, pairs_weight, part_weight, partition_field_weight, partition_spec_weight, properties_weight, schema_weight, snapshot_weight, sort_order_weight};
 
 use crate::{
     Column, MetadataLogEntry, NamedRef, Part, PartitionField, PartitionSpec, Schema, Snapshot,
@@ -11,22 +11,32 @@ use pol_types::Text;
 
 impl TableMetadata {
     /// The lengths of all texts of this metadata, and 64 for each field of a schema, of a partition spec and of a sort
-    /// order, for each snapshot, reference, entry of a log and property; 2^64 - 1 where the sum is above it.
+    /// order, for each snapshot, reference, entry of a log and property; 2^64 - 1 where the sum is above it. The
+    /// metadata of a new table weighs as much as what the table is asked for with. Updates that weigh at most 2^32 make
+    /// of a metadata of at most 2^32 one of at most 2^40 (`pol_updatelaws`). So the weight of each of these is exact.
+    #[tactic(auto, unfolding(crate::specs::Weight::capped))]
     pub fn weight(&self) -> u64
-        ensures { result ≡ capped (metadata_weight self.now) }
+        ensures value { result ≡ capped (metadata_weight self.now) }
+        ensures exact { metadata_weight self.now < 2 ^ 64 → result ≡ metadata_weight self.now }
     {
-        let weight = plus(
-            of_text(&self.location),
-            of_all(self.metadata_log.as_slice()),
-        );
-        let weight = plus(weight, of_all(self.partition_specs.as_slice()));
-        let weight = plus(weight, of_properties(&self.properties));
-        let weight = plus(weight, of_all(self.refs.as_slice()));
-        let weight = plus(weight, of_all(self.schemas.as_slice()));
-        let weight = plus(weight, of_items(self.snapshot_log.len()));
-        let weight = plus(weight, of_all(self.snapshots.as_slice()));
-        plus(weight, of_all(self.sort_orders.as_slice()))
+        of_metadata(self)
     }
+}
+
+fn of_metadata(meta: &TableMetadata) -> u64
+    ensures { result ≡ capped (metadata_weight meta.now) }
+{
+    let weight = plus(
+        of_text(&meta.location),
+        of_all(meta.metadata_log.as_slice()),
+    );
+    let weight = plus(weight, of_all(meta.partition_specs.as_slice()));
+    let weight = plus(weight, of_properties(&meta.properties));
+    let weight = plus(weight, of_all(meta.refs.as_slice()));
+    let weight = plus(weight, of_all(meta.schemas.as_slice()));
+    let weight = plus(weight, of_items(meta.snapshot_log.len()));
+    let weight = plus(weight, of_all(meta.snapshots.as_slice()));
+    plus(weight, of_all(meta.sort_orders.as_slice()))
 }
 
 /// A part of a metadata that weighs something.
@@ -177,7 +187,7 @@ fn of_pairs(pairs: &Properties) -> u64
 }
 
 fn of_properties(properties: &Properties) -> u64
-    ensures { result ≡ capped (64 * length properties.now + pairs_weight properties.now) }
+    ensures { result ≡ capped (properties_weight properties.now) }
 {
     plus(of_items(properties.len()), of_pairs(properties))
 }

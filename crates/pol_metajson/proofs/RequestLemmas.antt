@@ -17,10 +17,10 @@ use Rattle.pol_readers.specs.Reading.{Gives}
 use Rattle.pol_readers.specs.declared.error.ReadError.{ReadError}
 use Rattle.pol_metajson.specs.Order.{sort_field, unbound_order}
 use Rattle.pol_metajson.specs.Partition.{unbound_field, unbound_spec}
-use Rattle.pol_metajson.specs.Table.{IsFormed, given_order, given_spec, table_request}
+use Rattle.pol_metajson.specs.Table.{IsFormed, create_table, given_order, given_spec}
 use Rattle.pol_metajson.specs.Transform.{transform}
 use Rattle.pol_metakeys.specs.declared.keys.TheConstants.{FIELD_ID, PARTITION_SPEC, WRITE_ORDER}
-use Rattle.pol_metajson.specs.declared.table.TableRequest.{TableRequest}
+use Rattle.pol_metajson.specs.declared.table.CreateTable.{CreateTable}
 use Rattle.pol_metajson.proofs.FormLemmas.{schema_formed}
 use Rattle.pol_metajson.proofs.WordLemmas.{transform_within}
 
@@ -77,13 +77,13 @@ given_order_formed : (d : Data) (given : Option UnboundOrder) → MayHaveField W
 given_order_formed d None so = All-nil IsSortField
 given_order_formed d (Some order) so = order_formed so.0 order so.3
 
-request_formed : (d : Data) (request : TableRequest) → table_request.stands d request → IsFormed request
-unfolding table_request
+request_formed : (d : Data) (request : CreateTable) → create_table.stands d request → IsFormed request
+unfolding create_table
 request_formed d request so moment time =
     let columns = so.2.2.2 in
     let parted = columns.2 in
     let sorted = parted.2 in
-    subst (λ (other : TableRequest). IsAskedFor other.schema other.partition_spec other.write_order moment) (sym so.2.2.2.2.2.2.2.2)
+    subst (λ (other : CreateTable). IsAskedFor other.schema other.partition_spec other.write_order moment) (sym so.2.2.2.2.2.2.2.2)
     (record {
       schema_form = schema_formed columns.1.0 columns.0 columns.1.2;
       spec_fields = given_spec_formed d parted.0 parted.1;
@@ -92,8 +92,8 @@ request_formed d request so moment time =
     })
 
 -- what is read of a body has its forms
-pub body_formed : (bytes : List ℕ) (outcome : Result TableRequest ReadError) → Gives outcome (body table_request.read bytes) → IfOk outcome IsFormed
+pub body_formed : (bytes : List ℕ) (outcome : Result CreateTable ReadError) → Gives outcome (body create_table.read bytes) → IfOk outcome IsFormed
 body_formed bytes (Ok request) is =
-    let so = (bodies_exact table_request.exact).sound bytes request is in
+    let so = (bodies_exact create_table.exact).sound bytes request is in
     request_formed so.0 request so.4
 body_formed bytes (Err error) is = tt

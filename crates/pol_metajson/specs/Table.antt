@@ -12,7 +12,7 @@ use Rattle.pol_metajson.specs.Order.{unbound_order}
 use Rattle.pol_metajson.specs.Partition.{unbound_spec}
 use Rattle.pol_metajson.specs.Schema.{schema}
 use Rattle.pol_metakeys.specs.declared.keys.TheConstants.{LOCATION, NAME, PARTITION_SPEC, PROPERTIES, SCHEMA, STAGE_CREATE, WRITE_ORDER}
-use Rattle.pol_metajson.specs.declared.table.TableRequest.{TableRequest}
+use Rattle.pol_metajson.specs.declared.table.CreateTable.{CreateTable}
 
 -- the name of a table
 unfoldable pub table_name : Shape (List ℕ)
@@ -42,8 +42,8 @@ abbrev pub given_order : Option UnboundOrder → UnboundOrder
 given_order None = record { fields = [] }
 given_order (Some order) = order
 
-unfoldable pub table_request : Shape TableRequest
-table_request = do
+unfoldable pub create_table : Shape CreateTable
+create_table = do
   _ ← an_object
   named ← field NAME.now table_name
   placed ← optional LOCATION.now text
@@ -63,6 +63,6 @@ table_request = do
   })
 
 -- a request with the forms that the metadata of a new table asks for, at any moment
-abbrev pub IsFormed : TableRequest → Type 0
+abbrev pub IsFormed : CreateTable → Type 0
 IsFormed request =
     (moment : ℕ) → IsLong moment → IsAskedFor request.schema request.partition_spec request.write_order moment

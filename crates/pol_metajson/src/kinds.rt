@@ -101,7 +101,8 @@ fn read_inner(
     seen: &mut Seen,
 ) -> Result<Inner, ReadError>
     requires { depth + left ≤ 32 }
-    ensures reading { Gives result ((spec.inner_form (spec.kind_form left) id_key.now key.now depth seen.old).read (view value.now)) }
+    ensures reading { Gives result ((spec.inner_form (spec.kind_form left) id_key.now key.now depth seen.old).read
+        (view value.now)) }
     ensures seen { IfOk result (λ inner. seen.new ≡ seen.old ++ inner.id ∷ column_ids inner.columns) }
 {
     let id = read_id(alloc, value, id_key, seen)?;
@@ -201,7 +202,8 @@ fn read_fields_at(
     seen: &mut Seen,
 ) -> Result<Listed<Column>, ReadError>
     requires { depth + left ≤ 32 }
-    ensures reading { Gives result (form.field key.now (spec.struct_fields (spec.kind_form left) depth seen.old).read (view value.now)) }
+    ensures reading { Gives result (form.field key.now (spec.struct_fields (spec.kind_form left) depth seen.old).read
+        (view value.now)) }
     ensures seen { IfOk result (λ columns. seen.new ≡ seen.old ++ column_ids columns) }
 {
     let Some(member) = value.get(key) else {
@@ -252,7 +254,8 @@ fn read_field(
     beside: &Siblings,
 ) -> Result<Listed<Column>, ReadError>
     requires { beside.now.depth + left ≤ 32 }
-    ensures reading { Gives result ((spec.struct_field (spec.kind_form left) beside.now.depth seen.old beside.now.columns).read (view value.now)) }
+    ensures reading { Gives result ((spec.struct_field (spec.kind_form left) beside.now.depth seen.old
+        beside.now.columns).read (view value.now)) }
     ensures seen { IfOk result (λ columns. seen.new ≡ seen.old ++ column_ids columns) }
 {
     object(alloc, value)?;

@@ -1,5 +1,5 @@
-//! The JSON (RFC 8259) of bodies that create a table is read, and of the parts that whole metadata share with them, each
-//! with the path to its first bad field.
+//! The JSON (RFC 8259) of bodies that create a table is read, and of the parts that whole metadata share with them,
+//! each with the path to its first bad field.
 #![tactic(auto)]
 
 mod body;
@@ -21,4 +21,4 @@ mod transform;
 
 pub use body::{Body, values};
 pub use ids::{ColumnId, FieldId, Id};
-pub use table::{TableRequest, read_create_table};
+pub use table::{CreateTable, read_create_table};

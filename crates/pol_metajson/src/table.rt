@@ -17,7 +17,7 @@ use std::alloc::Global;
 /// What a table is asked for with: its name, where it is to lie, its schema, spec, order and properties, and whether it
 /// is only to be staged.
 #[derive(Drop)]
-pub struct TableRequest {
+pub struct CreateTable {
     pub name: Name,
     pub location: Option<Text>,
     pub schema: Schema,
@@ -30,8 +30,8 @@ pub struct TableRequest {
 /// Reads a body that creates a table (Iceberg REST OpenAPI, CreateTableRequest). Its fields are tested in the order
 /// name, location, schema, partition-spec, write-order, stage-create, properties.
 #[tactic(auto, using(crate::proofs::RequestLemmas::body_formed))]
-pub fn read_create_table(alloc: Global, body: &[u8]) -> Result<TableRequest, ReadError>
-    ensures reading { Gives result (form.body spec.table_request.read body.now) }
+pub fn read_create_table(alloc: Global, body: &[u8]) -> Result<CreateTable, ReadError>
+    ensures reading { Gives result (form.body spec.create_table.read body.now) }
     ensures formed { IfOk result spec.IsFormed }
 {
     read_body(alloc, body)
@@ -74,9 +74,9 @@ fn properties_of(alloc: Global, entries: Entries<Text>) -> Result<Properties, Ou
     Properties::of_pairs(alloc, pairs)
 }
 
-#[tactic(auto, unfolding(crate::specs::Table::table_request))]
-impl Form for TableRequest {
-    ghost shape = { spec.table_request };
+#[tactic(auto, unfolding(crate::specs::Table::create_table))]
+impl Form for CreateTable {
+    ghost shape = { spec.create_table };
 
     fn read(alloc: Global, value: &Value) -> Result<Self, ReadError> {
         object(alloc, value)?;
@@ -87,7 +87,7 @@ impl Form for TableRequest {
         let write_order = optional(alloc, value, keys::WRITE_ORDER)?;
         let stage_create: Option<bool> = optional(alloc, value, keys::STAGE_CREATE)?;
         let properties = optional(alloc, value, keys::PROPERTIES)?;
-        Ok(TableRequest {
+        Ok(CreateTable {
             name: name.into_value(),
             location,
             schema: schema.into_value(),

@@ -16,7 +16,8 @@ use std::alloc::Global;
 /// `read_table` reads by gives the same metadata of it.
 pub fn table_text(alloc: Global, meta: &TableMetadata) -> Result<String, OutOfMemory>
     ensures text { IfOk result (λ text. string_bytes text ≡ compact_text (table_json meta.now)) }
-    ensures reads_back { HasForms meta.now → IfOk result (λ text. form.body table_metadata.read (string_bytes text) ≡ Ok meta.now) }
+    ensures reads_back { HasForms meta.now
+        → IfOk result (λ text. form.body table_metadata.read (string_bytes text) ≡ Ok meta.now) }
 {
     each_is_held(meta);
     let value = table_value(alloc, meta)?;

@@ -145,7 +145,8 @@ fn part_value(alloc: Global, part: &Part, id: u32, json: Value) -> Result<Value,
 
 /// The members, and a text about a field if it is there.
 fn with_doc(alloc: Global, members: Members, doc: &Option<Text>) -> Result<Members, OutOfMemory>
-    ensures { IfOk result (λ all. members_view all.entries ≡ spec.put_text DOC.now doc.now (members_view members.entries)) }
+    ensures { IfOk result (λ all. members_view all.entries
+        ≡ spec.put_text DOC.now doc.now (members_view members.entries)) }
 {
     match doc {
         Some(doc) => with_text(alloc, members, keys::DOC, doc.as_str()),

@@ -26,7 +26,8 @@ pub(crate) fn with(
     key: &str,
     value: Value,
 ) -> Result<Members, OutOfMemory>
-    ensures { IfOk result (λ all. members_view all.entries ≡ with_put key.now (view value) (members_view members.entries)) }
+    ensures { IfOk result (λ all. members_view all.entries
+        ≡ with_put key.now (view value) (members_view members.entries)) }
 {
     let mut all = members;
     put(&mut all, alloc, key, value)?;
@@ -40,7 +41,8 @@ pub(crate) fn with_text(
     key: &str,
     text: &str,
 ) -> Result<Members, OutOfMemory>
-    ensures { IfOk result (λ all. members_view all.entries ≡ with_put key.now (string text.now) (members_view members.entries)) }
+    ensures { IfOk result (λ all. members_view all.entries
+        ≡ with_put key.now (string text.now) (members_view members.entries)) }
 {
     let value = Value::try_from_str(alloc, text)?;
     with(alloc, members, key, value)
@@ -53,7 +55,8 @@ pub(crate) fn with_number(
     key: &str,
     number: u64,
 ) -> Result<Members, OutOfMemory>
-    ensures { IfOk result (λ all. members_view all.entries ≡ with_put key.now (spec.number_json number) (members_view members.entries)) }
+    ensures { IfOk result (λ all. members_view all.entries
+        ≡ with_put key.now (spec.number_json number) (members_view members.entries)) }
 {
     with(alloc, members, key, Value::from(number))
 }
@@ -65,7 +68,8 @@ pub(crate) fn with_optional(
     key: &str,
     number: Option<u64>,
 ) -> Result<Members, OutOfMemory>
-    ensures { IfOk result (λ all. members_view all.entries ≡ spec.put_number key.now number (members_view members.entries)) }
+    ensures { IfOk result (λ all. members_view all.entries
+        ≡ spec.put_number key.now number (members_view members.entries)) }
 {
     match number {
         Some(number) => with_number(alloc, members, key, number),

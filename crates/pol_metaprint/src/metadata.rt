@@ -20,8 +20,8 @@ use serde_json::Value;
 use std::alloc::Global;
 use uuid::Uuid;
 
-/// The JSON of a metadata, in which no number is a float. Where the metadata's parts have their forms, it nests no deeper
-/// than JSON that is read may.
+/// The JSON of a metadata, in which no number is a float. Where the metadata's parts have their forms, it nests no
+/// deeper than JSON that is read may.
 #[tactic(auto, using(crate::proofs::WholeLemmas::table_whole, crate::proofs::DepthLemmas::table_nests))]
 pub fn table_value(alloc: Global, meta: &TableMetadata) -> Result<Value, OutOfMemory>
     ensures json { IfOk result (λ value. view value ≡ spec.table_json meta.now) }
@@ -71,7 +71,8 @@ fn with_snapshots(
     members: Members,
     meta: &TableMetadata,
 ) -> Result<Members, OutOfMemory>
-    ensures { IfOk result (λ all. members_view all.entries ≡ spec.put_snapshots meta.now (members_view members.entries)) }
+    ensures { IfOk result (λ all. members_view all.entries
+        ≡ spec.put_snapshots meta.now (members_view members.entries)) }
 {
     let metadata_log = list(alloc, meta.metadata_log.as_slice())?;
     let refs = refs(alloc, meta.refs.as_slice())?;

@@ -87,7 +87,8 @@ pub(crate) fn kind_text(alloc: Global, kind: Kind) -> Result<Text, OutOfMemory>
 }
 
 fn decimal(alloc: Global, precision: u32, scale: u32) -> Result<Text, OutOfMemory>
-    ensures { IfOk result (λ text. text ≡ codes "decimal(" ++ (decimal precision ++ (codes ", " ++ (decimal scale ++ codes ")")))) }
+    ensures { IfOk result (λ text. text
+        ≡ codes "decimal(" ++ (decimal precision ++ (codes ", " ++ (decimal scale ++ codes ")")))) }
 {
     Ok(Text::from(format!(in alloc; "decimal({precision}, {scale})")?))
 }

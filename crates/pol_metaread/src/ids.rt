@@ -4,7 +4,7 @@ use pol_readers::Ranged;
 pub(crate) type LastFieldId = Ranged<999, 2_147_483_647>;
 
 /// The id of a snapshot, a sequence number, or a time in milliseconds since the Unix epoch.
-pub(crate) type Long = Ranged<0, 9_223_372_036_854_775_807>;
+pub type Long = Ranged<0, 9_223_372_036_854_775_807>;
 
 /// What is to be kept of a reference.
 pub(crate) type Kept = Ranged<1, 9_223_372_036_854_775_807>;

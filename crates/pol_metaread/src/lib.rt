@@ -7,4 +7,6 @@ mod numbered;
 mod snapshot;
 mod stored;
 
+pub use ids::Long;
 pub use metadata::read_table;
+pub use stored::Stored;

@@ -6,7 +6,7 @@ use std::marker::Model;
 
 /// A part of a metadata that is read with all that is stored of it, as its ids, which contracts see as that part.
 #[derive(Drop)]
-pub(crate) struct Stored<T> {
+pub struct Stored<T> {
     value: T,
 }
 
@@ -17,7 +17,7 @@ impl<T> Model for Stored<T> {
 }
 
 impl<T> Stored<T> {
-    pub fn new(value: T) -> Self
+    pub(crate) fn new(value: T) -> Self
         ensures { result ≡ value }
     {
         Stored { value }
