@@ -26,8 +26,10 @@ impl Example {
         status: u8,
         reason: &str,
     ) -> Result<Option<Difference>, OutOfMemory>
-        ensures agrees { IfOk result (λ difference. (difference ≡ None) ↔ Agrees self.now output.now status reason.now) }
-        ensures line { IfOk result (λ difference. IfSome difference (λ shown. IsShownAt self.now output.now shown.line)) }
+        ensures agrees { IfOk result
+            (λ difference. (difference ≡ None) ↔ Agrees self.now output.now status reason.now) }
+        ensures line { IfOk result
+            (λ difference. IfSome difference (λ shown. IsShownAt self.now output.now shown.line)) }
     {
         if let Some(place) = first_difference(self.script.output.as_slice(), output) {
             let difference = self.output_difference(alloc, output, place)?;
@@ -47,7 +49,8 @@ impl Example {
         output: &[u8],
         place: usize,
     ) -> Result<Difference, AllocError>
-        ensures { IfOk result (λ difference. difference.line ≡ unwrap_or (line_at self.now.script.parts.items place) self.now.line) }
+        ensures { IfOk result (λ difference. difference.line
+            ≡ unwrap_or (line_at self.now.script.parts.items place) self.now.line) }
     {
         let wanted = self.script.output.as_slice();
         let what = format!(in alloc; "byte {place} of all that came is another")?;

@@ -1,4 +1,7 @@
 //! Examples while their lines are read.
+ghost use Rattle.std.specs.Prelude.{◌≡◌, IfOk};
+ghost use Rattle.pol_examples.specs.Draft.{IsWhole};
+
 use crate::example::{End, Example, Opening};
 use crate::numbers::number_of;
 use crate::settings::Settings;
@@ -44,7 +47,11 @@ impl Draft {
         title: &str,
         line: usize,
         is_opening: bool,
-    ) -> Result<Self, AllocError> {
+    ) -> Result<Self, AllocError>
+        ensures kind { IfOk result (λ draft. draft.is_opening ≡ is_opening) }
+        ensures title { IfOk result (λ draft. draft.title ≡ title.now) }
+        ensures line { IfOk result (λ draft. draft.line ≡ line) }
+    {
         let status = 0;
         let reason = Text::from(String::from_str(alloc, "done")?);
         Ok(Draft {
@@ -64,7 +71,9 @@ impl Draft {
     }
 
     /// The example or the opening, whose lines are all read.
-    pub(crate) fn finish(self, alloc: Global) -> Result<Whole, AllocError> {
+    pub(crate) fn finish(self, alloc: Global) -> Result<Whole, AllocError>
+        ensures { IfOk result (IsWhole self) }
+    {
         let Draft {
             is_opening,
             title,

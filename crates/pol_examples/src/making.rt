@@ -1,4 +1,6 @@
 //! The bytes of requests and answers.
+ghost use Rattle.std.specs.Prelude.{◌≡◌, [], None};
+
 use http::StatusCode;
 use pol_types::Text;
 use std::alloc::{AllocError, Global};
@@ -94,7 +96,10 @@ impl Answer {
 
 impl Said {
     /// Nothing is said.
-    pub(crate) fn new(alloc: Global) -> Self {
+    pub(crate) fn new(alloc: Global) -> Self
+        ensures fields { result.fields.items ≡ [] }
+        ensures body { result.body ≡ None }
+    {
         Said {
             fields: Vec::new(alloc),
             body: None,

@@ -1,10 +1,14 @@
 //! The lines of files, and the examples that they tell.
+ghost use Rattle.std.specs.Prelude.{◌≡◌, ◌+◌, ◌-◌, ◌^◌, OnErr, OnOk, min};
+
 use crate::draft::{Draft, Whole, is_remark};
 use crate::example::{Example, Opening};
 use pol_values::Unread;
 use std::alloc::Global;
+use std::marker::Model;
 
 /// Reads files line by line. The openings of the first file serve all, and those of another one that file alone.
+/// Contracts see the number of the line that was read last.
 #[derive(Drop)]
 pub struct Reader {
     openings: Vec<Opening>,
@@ -14,9 +18,19 @@ pub struct Reader {
     line: usize,
 }
 
+impl Model for Reader {
+    ghost use Rattle.std.specs.Prelude.{ℕ};
+
+    ghost Value = { ℕ };
+
+    ghost view = { λ reader. reader.line };
+}
+
 impl Reader {
     /// No file was read.
-    pub fn new(alloc: Global) -> Self {
+    pub fn new(alloc: Global) -> Self
+        ensures { result ≡ 0 }
+    {
         Reader {
             openings: Vec::new(alloc),
             shared: None,
@@ -26,12 +40,16 @@ impl Reader {
     }
 
     /// The number of the line that was read last, counted from 1.
-    pub fn line(&self) -> usize {
+    pub fn line(&self) -> usize
+        ensures { result ≡ self.now }
+    {
         self.line
     }
 
     /// Reads the next line of a file, and gives the example that ends before it.
-    pub fn read(&mut self, alloc: Global, text: &str) -> Result<Option<Example>, Unread> {
+    pub fn read(&mut self, alloc: Global, text: &str) -> Result<Option<Example>, Unread>
+        ensures { self.new ≡ min (self.old + 1) (2 ^ 64 - 1) }
+    {
         self.line = self.line.saturating_add(1);
         if let Some(title) = text.strip_prefix("== ") {
             return self.begin(alloc, title, false);
@@ -48,7 +66,10 @@ impl Reader {
     }
 
     /// The file has no more lines; gives its last example.
-    pub fn end(&mut self, alloc: Global) -> Result<Option<Example>, Unread> {
+    pub fn end(&mut self, alloc: Global) -> Result<Option<Example>, Unread>
+        ensures ended { OnOk result (self.new ≡ 0) }
+        ensures left { OnErr result (self.new ≡ self.old) }
+    {
         let example = self.finish(alloc)?;
         let shared = match self.shared {
             Some(shared) => shared,
@@ -66,14 +87,18 @@ impl Reader {
         alloc: Global,
         title: &str,
         is_opening: bool,
-    ) -> Result<Option<Example>, Unread> {
+    ) -> Result<Option<Example>, Unread>
+        ensures { self.new ≡ self.old }
+    {
         let example = self.finish(alloc)?;
         self.draft = Some(Draft::new(alloc, title, self.line, is_opening)?);
         Ok(example)
     }
 
     /// The lines of the example are all read. Where they are those of an opening, it is kept.
-    fn finish(&mut self, alloc: Global) -> Result<Option<Example>, Unread> {
+    fn finish(&mut self, alloc: Global) -> Result<Option<Example>, Unread>
+        ensures { self.new ≡ self.old }
+    {
         let Some(draft) = self.draft.take() else {
             return Ok(None);
         };

@@ -36,7 +36,12 @@ pub struct Token {
 
 impl Script {
     /// No bytes.
-    pub(crate) fn new(alloc: Global) -> Self {
+    pub(crate) fn new(alloc: Global) -> Self
+        ensures input { result.input.items ≡ [] }
+        ensures output { result.output.items ≡ [] }
+        ensures parts { result.parts.items ≡ [] }
+        ensures tokens { result.tokens.items ≡ [] }
+    {
         Script {
             input: Vec::new(alloc),
             output: Vec::new(alloc),

@@ -1,4 +1,6 @@
 //! What an example is played with.
+ghost use Rattle.std.specs.Prelude.{◌≡◌, ◌∷◌, [], IfOk, None};
+
 use crate::numbers::{number_of, numbers};
 use pol_types::{Listed, Text};
 use pol_values::{Unread, unescaped_text};
@@ -33,7 +35,13 @@ pub enum Pieces {
 
 impl Settings {
     /// The settings of an example that says none.
-    pub(crate) fn usual(alloc: Global) -> Result<Self, AllocError> {
+    pub(crate) fn usual(alloc: Global) -> Result<Self, AllocError>
+        ensures moments { IfOk result (λ settings. settings.moments.items ≡ 1000 ∷ []) }
+        ensures drawn { IfOk result (λ settings. settings.drawn ≡ None) }
+        ensures takes { IfOk result (λ settings. settings.takes.items ≡ []) }
+        ensures gives { IfOk result (λ settings. settings.gives.items ≡ []) }
+        ensures draws { IfOk result (λ settings. settings.draws.items ≡ []) }
+    {
         let mut words = Vec::new(alloc);
         for word in ["exec", "--root-secret", "s3cr3t"] {
             words.push(Text::from(String::from_str(alloc, word)?))?;
@@ -54,7 +62,7 @@ impl Settings {
     /// Reads a setting, which begins with this word.
     pub(crate) fn read(&mut self, alloc: Global, word: &str, rest: &str) -> Result<(), Unread> {
         match word {
-            "line" => self.words = Listed::from(words_of(alloc, rest)?),
+            "line" => self.words = Listed::from(words_in(alloc, rest)?),
             "clock" => self.moments = numbers(alloc, rest)?,
             "words" => self.drawn = Some(Listed::from(numbers(alloc, rest)?)),
             "pieces" => self.pieces = pieces_of(alloc, rest)?,
@@ -81,7 +89,7 @@ impl Settings {
 }
 
 /// The words between single spaces.
-fn words_of(alloc: Global, line: &str) -> Result<Vec<Text>, Unread> {
+fn words_in(alloc: Global, line: &str) -> Result<Vec<Text>, Unread> {
     let mut words = Vec::new(alloc);
     if line.is_empty() {
         return Ok(words);

@@ -1,4 +1,6 @@
 //! Requests and answers in turn while their lines are read.
+ghost use Rattle.std.specs.Prelude.{◌≡◌, []};
+
 use crate::errors::{error_body, given_token};
 use crate::making::{Answer, Field, Request, Said};
 use crate::numbers::number_of;
@@ -26,7 +28,10 @@ enum Turn {
 }
 
 impl Turns {
-    pub(crate) fn new(alloc: Global) -> Self {
+    pub(crate) fn new(alloc: Global) -> Self
+        ensures input { result.script.input.items ≡ [] }
+        ensures output { result.script.output.items ≡ [] }
+    {
         Turns {
             script: Script::new(alloc),
             last: Turn::Nothing,

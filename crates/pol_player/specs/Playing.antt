@@ -9,7 +9,7 @@ use Rattle.pol_cli.specs.declared.words.Plan.TheVariants.{ExecFresh}
 use Rattle.pol_server.specs.Ends.{Ends}
 use Rattle.pol_wire.specs.CountingDraw.{counted_words, first_count}
 use Rattle.pol_wire.specs.MemoryClock.{ClockState, first_clock, moments_of}
-use Rattle.pol_wire.specs.MemoryDraw.{first_draw, words_of}
+use Rattle.pol_wire.specs.MemoryDraw.{first_draw, words_left}
 use Rattle.pol_wire.specs.MemorySink.{SinkState}
 use Rattle.pol_wire.specs.MemorySource.{SourceState, left_of}
 use Rattle.pol_wire.specs.declared.link.Link.{Link}
@@ -31,7 +31,7 @@ pub record Ran (words : List (List ℕ)) (before after : Ends) (report : Report)
 -- the words that an example's draw gives
 abbrev pub drawn_of : Option (List ℕ) → List ℕ → Option (ℕ → ℕ)
 drawn_of None failing = Some (counted_words (first_count failing))
-drawn_of (Some words) failing = Some (words_of (first_draw words failing))
+drawn_of (Some words) failing = Some (words_left (first_draw words failing))
 
 -- what the ends of a link in memory tell
 abbrev pub memory_ends : {W : Type 0} → (W → Option (ℕ → ℕ)) → (W → ℕ) → Link SourceState SinkState ClockState W → Ends

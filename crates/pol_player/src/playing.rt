@@ -87,7 +87,8 @@ fn play_over<R: AllocGlobal, W: Draw + Drop>(
     draw: W,
 ) -> Result<Option<Difference>, OutOfMemory>
     ensures { IfOk result (IsPlayedOver example.now
-        (ends_before example.now.script.input.items example.now.settings.moments.items (W.words draw) (W.faults draw))) }
+        (ends_before example.now.script.input.items example.now.settings.moments.items
+        (W.words draw) (W.faults draw))) }
 {
     let words = Words {
         list: example.settings.words.clone()?,
@@ -108,7 +109,8 @@ fn run_link<R: AllocGlobal, W: Draw>(
     words: &Words,
     link: Link<MemorySource, MemorySink, MemoryClock, W>,
 ) -> (Report, Devices<MemorySource, MemorySink, MemoryClock, W>)
-    ensures { Ran words.now.list (memory_ends W.words W.faults link) (memory_ends W.words W.faults result.1.link) result.0 }
+    ensures { Ran words.now.list (memory_ends W.words W.faults link)
+        (memory_ends W.words W.faults result.1.link) result.0 }
 {
     run(rt, words, Devices { link })
 }
@@ -121,7 +123,8 @@ fn link_of<W: Draw + Drop>(
     draw: W,
 ) -> Result<Link<MemorySource, MemorySink, MemoryClock, W>, OutOfMemory>
     ensures { IfOk result (λ link. memory_ends W.words W.faults link
-        ≡ ends_before example.now.script.input.items example.now.settings.moments.items (W.words draw) (W.faults draw)) }
+        ≡ ends_before example.now.script.input.items example.now.settings.moments.items
+        (W.words draw) (W.faults draw)) }
 {
     let source = source_of(alloc, example, ends)?;
     let sink = sink_of(alloc, example)?;
@@ -140,7 +143,8 @@ fn source_of(
     example: &Example,
     ends: Vec<usize>,
 ) -> Result<MemorySource, OutOfMemory>
-    ensures { IfOk result (λ source. source ≡ first_source example.now.script.input.items ends.items example.now.settings.takes.items) }
+    ensures { IfOk result (λ source. source
+        ≡ first_source example.now.script.input.items ends.items example.now.settings.takes.items) }
 {
     let input = Vec::from_slice(alloc, example.script.input.as_slice())?;
     let failing = Vec::from_slice(alloc, example.settings.takes.as_slice())?;

@@ -46,6 +46,3 @@ fn play_file(
     played.text = String::new(rt.alloc());
     Ok(is_read)
 }
-
-#[cfg(test)]
-mod tests;

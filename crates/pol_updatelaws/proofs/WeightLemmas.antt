@@ -23,7 +23,7 @@ use Rattle.pol_drafts.specs.Ids.{has_id}
 use Rattle.pol_drafts.specs.Partitions.{asked_fields, bound_fields, ids_of}
 use Rattle.pol_drafts.specs.declared.draft.Draft.{Draft}
 use Rattle.pol_meta.specs.Creation.{bound}
-use Rattle.pol_meta.specs.Weight.{log_entry_weight, metadata_weight, named_ref_weight, pair_weight, pairs_weight, partition_field_weight, partition_spec_weight, schema_weight, snapshot_weight, sort_order_weight}
+use Rattle.pol_meta.specs.Weight.{log_entry_weight, metadata_weight, named_ref_weight, pair_weight, pairs_weight, partition_field_weight, partition_spec_weight, schema_weight, snapshot_weight, sort_order_weight, unbound_field_weight}
 use Rattle.pol_meta.specs.declared.log.MetadataLogEntry.{MetadataLogEntry}
 use Rattle.pol_meta.specs.declared.metadata.TableMetadata.{TableMetadata}
 use Rattle.pol_meta.specs.declared.partition.PartitionField.{PartitionField}
@@ -38,7 +38,7 @@ use Rattle.pol_updates.specs.Updates.{after_one, finished, is_there, settled, se
 use Rattle.pol_updates.specs.declared.update.Update.{Update}
 use Rattle.pol_updates.specs.declared.update.Update.TheVariants.{AssignUuid, UpgradeFormatVersion, AddSchema, SetCurrentSchema, AddSpec, SetDefaultSpec, AddSortOrder, SetDefaultSortOrder, AddSnapshot, SetSnapshotRef, RemoveSnapshots, RemoveSnapshotRef, SetLocation, SetProperties, RemoveProperties, RemovePartitionSpecs, RemoveSchemas, Unsupported}
 use Rattle.pol_updatelaws.specs.Laws.{WeightKeepsBound}
-use Rattle.pol_updatelaws.specs.Weights.{unbound_field_weight, update_weight, updates_weight}
+use Rattle.pol_updatelaws.specs.Weights.{update_weight, updates_weight}
 use Rattle.pol_updatelaws.proofs.ChainLemmas.{made_kept, same_kept}
 use Rattle.pol_updatelaws.proofs.ListLemmas.{after_cases, each_sums}
 use Rattle.pol_updatelaws.proofs.OrderLemmas.{add_order_cases, set_default_order_cases}

@@ -16,7 +16,7 @@ use crate::text_updates::{
 use crate::update::Update;
 use indexmap::IndexSet;
 use pol_drafts::{
-    Draft, Stop, add_order, add_schema, add_spec, copied, remove_schemas, remove_specs,
+    Draft, Stop, add_order, add_schema, add_spec, remove_schemas, remove_specs,
     set_current_schema, set_default_order, set_default_spec, taken,
 };
 use pol_locations::{Location, LocationRefused, Steps};
@@ -49,7 +49,7 @@ pub fn apply<L: Ledger>(
     ensures bounded { steps.new ≤ steps.old + length updates.now }
 {
     if updates.is_empty() {
-        return Ok(copied(meta)?);
+        return Ok(meta.copy()?);
     }
     let mut draft = begun(meta)?;
     apply_each(alloc, &mut draft, moment, updates, steps)?;
@@ -57,11 +57,11 @@ pub fn apply<L: Ledger>(
 }
 
 /// A metadata before a list of updates.
-fn begun(meta: &TableMetadata) -> Result<Draft, AllocError>
+fn begun(meta: &TableMetadata) -> Result<Draft, OutOfMemory>
     ensures { IfOk result (λ draft. draft ≡ begun meta.now) }
 {
     Ok(Draft {
-        meta: copied(meta)?,
+        meta: meta.copy()?,
         last_schema: None,
         last_spec: None,
         last_order: None,

@@ -9,8 +9,8 @@ use Rattle.pol_meta.specs.declared.metadata.TableMetadata.{TableMetadata}
 use Rattle.pol_meta.specs.declared.why.Why.{Why}
 use Rattle.pol_meta.specs.declared.why.Why.TheVariants as why
 use Rattle.pol_metaread.specs.Metadata.{table_metadata}
-use Rattle.pol_metajson.specs.Table.{table_request}
-use Rattle.pol_metajson.specs.declared.table.TableRequest.{TableRequest}
+use Rattle.pol_metajson.specs.Table.{create_table}
+use Rattle.pol_metajson.specs.declared.table.CreateTable.{CreateTable}
 use Rattle.pol_metaprint.specs.Metadata.{table_json}
 
 -- the word of a refusal
@@ -30,23 +30,23 @@ word_of why.BranchOnly = codes "BranchOnly"
 word_of why.InUse = codes "InUse"
 
 -- where a table lies: where it is asked to, or below one location by its name
-abbrev pub location_of : TableRequest → List ℕ
+abbrev pub location_of : CreateTable → List ℕ
 location_of request = unwrap_or request.location (codes "lake://b/" ++ request.name)
 
 -- the metadata of a table that is asked for, with one uuid and at one moment
 abbrev pub uuid : List ℕ
 uuid = 0 ∷ 1 ∷ 2 ∷ 3 ∷ 4 ∷ 5 ∷ 6 ∷ 7 ∷ 8 ∷ 9 ∷ 10 ∷ 11 ∷ 12 ∷ 13 ∷ 14 ∷ 15 ∷ []
 
-abbrev pub made : TableRequest → TableMetadata
+abbrev pub made : CreateTable → TableMetadata
 made request =
     created uuid (location_of request) request.schema request.partition_spec request.write_order request.properties 1000
 
 -- why no such table is made
-abbrev pub refusal : TableRequest → Option Why
+abbrev pub refusal : CreateTable → Option Why
 refusal request = create_refusal request.schema request.partition_spec request.write_order
 
 -- a table is told by the JSON of its metadata, and what can't be made by why
-abbrev pub TellsRequest : TableRequest → List ℕ → Type 0
+abbrev pub TellsRequest : CreateTable → List ℕ → Type 0
 TellsRequest request told =
     ((refusal request ≡ None) × (told ≡ compact_text (table_json (made request))))
     ⊎ ((reason : Why) × (refusal request ≡ Some reason) × (told ≡ word_of reason))
@@ -54,8 +54,8 @@ TellsRequest request told =
 -- a body is told by the table that it asks for, and what is none by the path to its first bad field
 abbrev pub TellsTable : List ℕ → List ℕ → Type 0
 TellsTable body told =
-    ((request : TableRequest) × (form.body table_request.read body ≡ Ok request) × TellsRequest request told)
-    ⊎ ((path : List Step) × (form.body table_request.read body ≡ Err path) × (told ≡ codes "Unreadable: " ++ path_text path))
+    ((request : CreateTable) × (form.body create_table.read body ≡ Ok request) × TellsRequest request told)
+    ⊎ ((path : List Step) × (form.body create_table.read body ≡ Err path) × (told ≡ codes "Unreadable: " ++ path_text path))
 
 -- a metadata is told by the JSON that it is printed as, and what is none by the path to its first bad field
 abbrev pub TellsMetadata : List ℕ → List ℕ → Type 0

@@ -8,6 +8,7 @@ use Rattle.pol_names.specs.declared.namespace.NamespaceRefused.{NamespaceRefused
 use Rattle.pol_locations.specs.Location.{IsLocation, IsParseRefusal, is_cover, is_overlap, location_text, segments_of}
 use Rattle.pol_locations.specs.LocationRefused.{word_of}
 use Rattle.pol_locations.specs.declared.refused.LocationRefused.{LocationRefused}
+use Rattle.pol_values.specs.Commits.{TellsCommit, TellsTransaction}
 use Rattle.pol_values.specs.Tables.{TellsMetadata, TellsTable}
 use Rattle.pol_values.specs.declared.values.Question.{Question}
 use Rattle.pol_values.specs.declared.values.Question.TheVariants as question
@@ -81,6 +82,8 @@ Tells question.Covers arguments told = OfTwo (λ a b. TellsTest (is_cover (segme
 Tells question.Overlaps arguments told = OfTwo (λ a b. TellsTest (is_overlap (segments_of a) (segments_of b)) told) arguments
 Tells question.TableRequest arguments told = OfOne (λ body. TellsTable body told) arguments
 Tells question.TableMetadata arguments told = OfOne (λ text. TellsMetadata text told) arguments
+Tells question.TableCommit arguments told = OfTwo (λ text body. TellsCommit text body told) arguments
+Tells question.TableTransaction arguments told = OfOne (λ body. TellsTransaction body told) arguments
 
 -- a value is told to be what is wanted
 abbrev pub IsAsWanted : Value → Type 0

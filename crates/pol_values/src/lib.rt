@@ -2,6 +2,7 @@
 //! what all lines have in common: texts with escapes, and why a line can't be read.
 #![tactic(auto)]
 
+mod commits;
 mod difference;
 mod escapes;
 mod tables;

@@ -7,7 +7,7 @@ ghost use Rattle.pol_values.specs.Tables as spec;
 
 use crate::unread::Unread;
 use pol_meta::{CreateRefused, TableMetadata, Why};
-use pol_metajson::{TableRequest, read_create_table};
+use pol_metajson::{CreateTable, read_create_table};
 use pol_metalaws::table_text;
 use pol_metaread::read_table;
 use pol_readers::ReadError;
@@ -40,7 +40,7 @@ pub(crate) fn metadata(alloc: Global, text: &str) -> Result<String, Unread>
 }
 
 /// How a table that is asked for is told.
-fn request_text(alloc: Global, request: TableRequest) -> Result<String, Unread>
+fn request_text(alloc: Global, request: CreateTable) -> Result<String, Unread>
     ensures { IfOk result (λ told. spec.TellsRequest request (string_bytes told)) }
 {
     match created(alloc, request) {
@@ -51,13 +51,13 @@ fn request_text(alloc: Global, request: TableRequest) -> Result<String, Unread>
 }
 
 /// The metadata of a table that is asked for.
-fn created(alloc: Global, request: TableRequest) -> Result<TableMetadata, CreateRefused>
+fn created(alloc: Global, request: CreateTable) -> Result<TableMetadata, CreateRefused>
     ensures made { IfOk result (λ meta. meta ≡ spec.made request) }
     ensures passes { OnOk result (spec.refusal request ≡ None) }
     ensures refused { IfErr result (IsCreateRefusal request.schema request.partition_spec request.write_order) }
 {
     let location = location_of(alloc, &request)?;
-    let TableRequest {
+    let CreateTable {
         schema,
         partition_spec,
         write_order,
@@ -78,7 +78,7 @@ fn created(alloc: Global, request: TableRequest) -> Result<TableMetadata, Create
 }
 
 /// Where a table lies: where it is asked to, or below `lake://b` by its name.
-fn location_of(alloc: Global, request: &TableRequest) -> Result<String, AllocError>
+fn location_of(alloc: Global, request: &CreateTable) -> Result<String, AllocError>
     ensures { IfOk result (λ location. string_bytes location ≡ spec.location_of request.now) }
 {
     match &request.location {
@@ -91,14 +91,14 @@ fn location_of(alloc: Global, request: &TableRequest) -> Result<String, AllocErr
 }
 
 /// The JSON that a metadata is printed as.
-fn metadata_text(alloc: Global, meta: &TableMetadata) -> Result<String, Unread>
+pub(crate) fn metadata_text(alloc: Global, meta: &TableMetadata) -> Result<String, Unread>
     ensures { IfOk result (λ text. string_bytes text ≡ compact_text (table_json meta.now)) }
 {
     Ok(table_text(alloc, meta)?)
 }
 
 /// The word of a refusal.
-fn word_of(why: Why) -> &'static str
+pub(crate) fn word_of(why: Why) -> &'static str
     ensures { result.now ≡ spec.word_of why }
 {
     match why {

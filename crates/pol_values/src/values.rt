@@ -3,6 +3,7 @@ ghost use Rattle.std.specs.Prelude.{◌≡◌, ◌++◌, IfOk, IfSome, None, All
 ghost use Rattle.pol_locations.specs.Location.{is_cover, is_overlap, segments_of};
 ghost use Rattle.pol_values.specs.Values.{Differs, IsAnother, IsAsWanted, Tells, TellsJoin, TellsLevels, TellsLocation, TellsName, TellsPlain, TellsSegment, TellsTest};
 
+use crate::commits::{commit, transaction};
 use crate::difference::Difference;
 use crate::escapes::{shown, unescaped, unescaped_text};
 use crate::tables::{metadata, table};
@@ -36,11 +37,15 @@ pub enum Question {
     Overlaps,
     TableRequest,
     TableMetadata,
+    TableCommit,
+    TableTransaction,
 }
 
 impl Value {
     /// Reads a line that begins with this word.
-    pub fn read(alloc: Global, word: &str, rest: &str, line: usize) -> Result<Self, Unread> {
+    pub fn read(alloc: Global, word: &str, rest: &str, line: usize) -> Result<Self, Unread>
+        ensures { IfOk result (λ value. value.line ≡ line) }
+    {
         let Some(question) = Question::of(word) else {
             return Err(Unread::Form);
         };
@@ -92,6 +97,8 @@ impl Question {
             "overlaps" => Some(Question::Overlaps),
             "table-request" => Some(Question::TableRequest),
             "table-metadata" => Some(Question::TableMetadata),
+            "table-commit" => Some(Question::TableCommit),
+            "table-transaction" => Some(Question::TableTransaction),
             _ => None,
         }
     }
@@ -112,6 +119,8 @@ fn told(alloc: Global, question: Question, arguments: &[Text]) -> Result<String,
         (Question::Overlaps, [a, b]) => overlap(alloc, a.as_str(), b.as_str()),
         (Question::TableRequest, [body]) => table(alloc, body.as_str()),
         (Question::TableMetadata, [text]) => metadata(alloc, text.as_str()),
+        (Question::TableCommit, [meta, body]) => commit(alloc, meta.as_str(), body.as_str()),
+        (Question::TableTransaction, [body]) => transaction(alloc, body.as_str()),
         _ => Err(Unread::Form),
     }
 }
@@ -239,7 +248,8 @@ impl Value {
     /// Where what it is told to be differs from what is wanted.
     fn difference(&self, alloc: Global) -> Result<Option<Difference>, Unread>
         ensures agrees { IfOk result (λ difference. difference ≡ None → IsAsWanted self.now) }
-        ensures differs { IfOk result (λ difference. IfSome difference (λ shown. (shown.line ≡ self.now.line) × IsAnother self.now)) }
+        ensures differs { IfOk result
+            (λ difference. IfSome difference (λ shown. (shown.line ≡ self.now.line) × IsAnother self.now)) }
     {
         let got = told(alloc, self.question, self.arguments.as_slice())?;
         if got.as_bytes() == self.wanted.as_slice() {
