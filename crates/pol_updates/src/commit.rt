@@ -16,8 +16,8 @@ use crate::text_updates::{
 use crate::update::Update;
 use indexmap::IndexSet;
 use pol_drafts::{
-    Draft, Stop, add_order, add_schema, add_spec, remove_schemas, remove_specs,
-    set_current_schema, set_default_order, set_default_spec, taken,
+    Draft, Stop, add_order, add_schema, add_spec, remove_schemas, remove_specs, set_current_schema,
+    set_default_order, set_default_spec, taken,
 };
 use pol_locations::{Location, LocationRefused, Steps};
 use pol_meta::{MetadataLogEntry, Snapshot, SnapshotLogEntry, TableMetadata};
