@@ -1,1 +1,2 @@
+pub mod FormLemmas
 mod WordLemmas

@@ -1,3 +1,4 @@
+ghost use Rattle.std.specs.Prelude.{IfOk};
 ghost use Rattle.pol_readers.specs.Forms as form;
 ghost use Rattle.pol_readers.specs.Reading.{Gives};
 ghost use Rattle.pol_commitjson.specs.Commits as spec;
@@ -14,16 +15,20 @@ use std::alloc::Global;
 
 /// Reads a body that commits to a table (Iceberg REST OpenAPI, CommitTableRequest). Its requirements are tested before
 /// its updates.
+#[tactic(auto, using(crate::proofs::FormLemmas::commit_formed))]
 pub fn read_commit(alloc: Global, body: &[u8]) -> Result<TableCommit, ReadError>
-    ensures { Gives result (form.body spec.table_commit.read body.now) }
+    ensures reading { Gives result (form.body spec.table_commit.read body.now) }
+    ensures formed { IfOk result spec.IsFormed }
 {
     let commit: Asked<TableCommit> = read_body(alloc, body)?;
     Ok(commit.into_value())
 }
 
 /// Reads a body that commits to several tables (Iceberg REST OpenAPI, CommitTransactionRequest).
+#[tactic(auto, using(crate::proofs::FormLemmas::transaction_formed))]
 pub fn read_transaction(alloc: Global, body: &[u8]) -> Result<Listed<TableChange>, ReadError>
-    ensures { Gives result (form.body spec.transaction.read body.now) }
+    ensures reading { Gives result (form.body spec.transaction.read body.now) }
+    ensures formed { IfOk result spec.AreFormed }
 {
     let changes: Asked<Listed<TableChange>> = read_body(alloc, body)?;
     Ok(changes.into_value())

@@ -53,7 +53,7 @@ items_hold P grammar each (item d ds) [] ordered so = absurd so
 items_hold P grammar each (item d ds) (value ∷ values) ordered so =
     All-cons P value values (each d value ordered.0 so.0) (items_hold P grammar each ds values ordered.1 so.1)
 
-list_holds : {A : Type 0} (P : A → Type 0) (grammar : Data → A → Type 0)
+pub list_holds : {A : Type 0} (P : A → Type 0) (grammar : Data → A → Type 0)
     → ((d : Data) (value : A) → IsOrdered d → grammar d value → P value)
     → (name : List ℕ) (d : Data) (values : List A) → IsOrdered d → HasField name (IsList grammar) d values
     → All P values
@@ -116,7 +116,7 @@ spec_holds d value ordered so =
           so.2.2.1;
     })
 
-sort_field_holds : (d : Data) (value : SortField) → IsOrdered d → sort_field.stands d value → IsSortField value
+pub sort_field_holds : (d : Data) (value : SortField) → IsOrdered d → sort_field.stands d value → IsSortField value
 sort_field_holds d value ordered so = sort_field_formed d value so
 
 order_holds : (d : Data) (value : SortOrder) → IsOrdered d → sort_order.stands d value → IsSortOrder value
@@ -151,7 +151,7 @@ operation_told d pairs found ordered texts so =
 same_held : (first second : Data) (o : Option Data) → o ≡ Some first → o ≡ Some second → second ≡ first
 same_held first second o one other = cc
 
-snapshot_holds : (d : Data) (value : Snapshot) → IsOrdered d → snapshot.stands d value → IsSnapshot value
+pub snapshot_holds : (d : Data) (value : Snapshot) → IsOrdered d → snapshot.stands d value → IsSnapshot value
 unfolding snapshot TellsOperation
 snapshot_holds d value ordered so =
     let named = so.2 in
@@ -177,7 +177,7 @@ snapshot_holds d value ordered so =
     })
 
 -- references under their names
-reference_holds : (name : List ℕ) (d : Data) (value : SnapshotRef) → reference.stands d value
+pub reference_holds : (name : List ℕ) (d : Data) (value : SnapshotRef) → reference.stands d value
     → IsNamedRef (record { name = name; reference = value })
 unfolding reference
 reference_holds name d value so =

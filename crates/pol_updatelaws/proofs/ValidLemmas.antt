@@ -11,12 +11,12 @@ use Rattle.pol_meta.specs.declared.metadata.TableMetadata.{TableMetadata}
 use Rattle.pol_meta.specs.declared.reference.NamedRef.{NamedRef}
 use Rattle.pol_meta.specs.declared.reference.SnapshotRef.{SnapshotRef}
 use Rattle.pol_meta.specs.declared.why.Why.TheVariants.{FormatVersion, UuidDiffers}
+use Rattle.pol_updates.specs.Forms.{HasForm}
 use Rattle.pol_updates.specs.Snapshots.{has_snapshot, main, with_current_snapshot, with_named_ref, with_snapshot_ref, without_ref, without_snapshots}
 use Rattle.pol_updates.specs.Texts.{with_location, with_values, without_keys}
 use Rattle.pol_updates.specs.Updates.{after_one, finished}
 use Rattle.pol_updates.specs.declared.update.Update.{Update}
 use Rattle.pol_updates.specs.declared.update.Update.TheVariants.{AssignUuid, UpgradeFormatVersion, AddSchema, SetCurrentSchema, AddSpec, SetDefaultSpec, AddSortOrder, SetDefaultSortOrder, AddSnapshot, SetSnapshotRef, RemoveSnapshots, RemoveSnapshotRef, SetLocation, SetProperties, RemoveProperties, RemovePartitionSpecs, RemoveSchemas, Unsupported}
-use Rattle.pol_updatelaws.specs.Forms.{HasForm}
 use Rattle.pol_updatelaws.specs.Laws.{StaysValid}
 use Rattle.pol_updatelaws.proofs.ChainLemmas.{made_kept, same_kept}
 use Rattle.pol_updatelaws.proofs.ListLemmas.{after_cases, each_keeps}

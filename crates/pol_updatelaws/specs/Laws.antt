@@ -6,8 +6,8 @@ use Rattle.pol_drafts.specs.declared.draft.Draft.{Draft}
 use Rattle.pol_meta.specs.Valid.{IsLong, IsValid, snapshot_named}
 use Rattle.pol_meta.specs.Weight.{metadata_weight}
 use Rattle.pol_meta.specs.declared.metadata.TableMetadata.{TableMetadata}
-use Rattle.pol_updatelaws.specs.Forms.{HasForm}
 use Rattle.pol_updatelaws.specs.Weights.{updates_weight}
+use Rattle.pol_updates.specs.Forms.{HasForm}
 use Rattle.pol_updates.specs.Updates.{Place, after_each, after_one, metadata_after}
 use Rattle.pol_updates.specs.declared.update.Update.{Update}
 

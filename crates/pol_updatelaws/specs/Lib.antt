@@ -1,3 +1,2 @@
-pub mod Forms
 pub mod Laws
 pub mod Weights

@@ -1,3 +1,4 @@
+pub mod Forms
 pub mod Locations
 pub mod Snapshots
 pub mod Texts

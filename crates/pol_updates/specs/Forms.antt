@@ -1,4 +1,4 @@
--- What reading a commit promises of its updates: each part has its form.
+-- Updates each of whose parts has its form, as reading a commit promises.
 use Rattle.std.specs.Prelude.{All}
 use Rattle.std.specs.Bool.{⊤}
 use Rattle.pol_meta.specs.Valid.{IsNamedRef, IsSchema, IsSnapshot, IsSortField, IsUnboundField}
