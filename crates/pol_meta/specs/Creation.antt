@@ -147,3 +147,7 @@ pub record IsAskedFor (schema : Schema) (spec : UnboundSpec) (order : UnboundOrd
   pub spec_fields : All IsUnboundField spec.fields
   pub order_fields : All IsSortField order.fields
   pub time : IsLong moment
+
+-- what a table is asked for with has the forms of its parts, at any moment
+abbrev pub HaveForms : Schema → UnboundSpec → UnboundOrder → Type 0
+HaveForms schema spec order = (moment : ℕ) → IsLong moment → IsAskedFor schema spec order moment

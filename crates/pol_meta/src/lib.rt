@@ -4,6 +4,7 @@
 
 mod column;
 mod create;
+mod file_names;
 mod ids;
 mod log;
 mod metadata;
@@ -17,6 +18,7 @@ mod weight;
 mod why;
 
 pub use column::{Column, Kind, Part};
+pub use file_names::metadata_file;
 pub use ids::Ids;
 pub use log::{MetadataLogEntry, SnapshotLogEntry};
 pub use metadata::TableMetadata;

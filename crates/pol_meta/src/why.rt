@@ -2,8 +2,9 @@ ghost use Rattle.std.specs.Prelude.{◌≡◌};
 ghost use Rattle.pol_meta.specs.declared.why.CreateRefused.TheVariants.{OutOfMemory};
 
 use std::alloc::{AllocError, AllocFailed};
+use std::fmt;
 
-/// Why a table can't be made or changed as it is asked.
+/// Why a table can't be made or changed as it is asked. Each prints as its name.
 #[derive(Clone, Copy, Debug, PartialEq, Eq)]
 pub enum Why {
     /// The table has another uuid.
@@ -32,6 +33,31 @@ pub enum Why {
     BranchOnly,
     /// The current or default member is to be removed.
     InUse,
+}
+
+impl fmt::Display for Why {
+    ghost use Rattle.std.specs.Prelude.{Some};
+    ghost use Rattle.pol_meta.specs.Why.{word_of};
+
+    ghost output = { λ why. Some (word_of why) };
+
+    fn fmt<W: fmt::Write>(&self, f: &mut fmt::Formatter<W>) -> fmt::Result {
+        f.write_str(match self {
+            Why::UuidDiffers => "UuidDiffers",
+            Why::FormatVersion => "FormatVersion",
+            Why::IdsUsedUp => "IdsUsedUp",
+            Why::NoneAdded => "NoneAdded",
+            Why::NoSuchId => "NoSuchId",
+            Why::NoSuchField => "NoSuchField",
+            Why::FieldTwice => "FieldTwice",
+            Why::SnapshotThere => "SnapshotThere",
+            Why::SequenceNotAbove => "SequenceNotAbove",
+            Why::NoSuchSnapshot => "NoSuchSnapshot",
+            Why::MainNotBranch => "MainNotBranch",
+            Why::BranchOnly => "BranchOnly",
+            Why::InUse => "InUse",
+        })
+    }
 }
 
 /// Why `create` makes no metadata.

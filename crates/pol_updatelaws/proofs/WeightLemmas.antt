@@ -23,6 +23,7 @@ use Rattle.pol_drafts.specs.Ids.{has_id}
 use Rattle.pol_drafts.specs.Partitions.{asked_fields, bound_fields, ids_of}
 use Rattle.pol_drafts.specs.declared.draft.Draft.{Draft}
 use Rattle.pol_meta.specs.Creation.{bound}
+use Rattle.pol_meta.specs.FileNames.{file_text, metadata_file, zeros_before}
 use Rattle.pol_meta.specs.Weight.{log_entry_weight, metadata_weight, named_ref_weight, pair_weight, pairs_weight, partition_field_weight, partition_spec_weight, schema_weight, snapshot_weight, sort_order_weight, unbound_field_weight}
 use Rattle.pol_meta.specs.declared.log.MetadataLogEntry.{MetadataLogEntry}
 use Rattle.pol_meta.specs.declared.metadata.TableMetadata.{TableMetadata}
@@ -31,7 +32,6 @@ use Rattle.pol_meta.specs.declared.partition.UnboundField.{UnboundField}
 use Rattle.pol_meta.specs.declared.partition.UnboundSpec.{UnboundSpec}
 use Rattle.pol_meta.specs.declared.reference.SnapshotRef.{SnapshotRef}
 use Rattle.pol_meta.specs.declared.why.Why.TheVariants.{FormatVersion, UuidDiffers}
-use Rattle.pol_updates.specs.Locations.{file_text, metadata_file, zeros_before}
 use Rattle.pol_updates.specs.Snapshots.{compared, main, with_current_snapshot, with_named_ref, with_ref, with_snapshot_ref, without_ref, without_snapshots}
 use Rattle.pol_updates.specs.Texts.{all_removed, all_set, with_location, with_values, without_keys}
 use Rattle.pol_updates.specs.Updates.{after_one, finished, is_there, settled, settled_by}

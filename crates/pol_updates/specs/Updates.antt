@@ -5,13 +5,13 @@ use Rattle.std.specs.Bool.{⊤}
 use Rattle.std.specs.List.{suffix_len}
 use Rattle.pol_locations.specs.Location.{location_text, parse_refusal, segments_of}
 use Rattle.pol_locations.specs.declared.refused.LocationRefused.{LocationRefused}
+use Rattle.pol_meta.specs.FileNames.{metadata_file}
 use Rattle.pol_meta.specs.declared.log.MetadataLogEntry.{MetadataLogEntry}
 use Rattle.pol_meta.specs.declared.log.SnapshotLogEntry.{SnapshotLogEntry}
 use Rattle.pol_meta.specs.declared.metadata.TableMetadata.{TableMetadata}
 use Rattle.pol_meta.specs.declared.snapshot.Snapshot.{Snapshot}
 use Rattle.pol_meta.specs.declared.why.Why.{Why}
 use Rattle.pol_drafts.specs.Drafts.{begun}
-use Rattle.pol_updates.specs.Locations.{metadata_file}
 use Rattle.pol_drafts.specs.Orders.{add_order, set_default_order}
 use Rattle.pol_drafts.specs.Partitions.{add_spec, remove_specs, set_default_spec}
 use Rattle.pol_drafts.specs.Schemas.{add_schema, remove_schemas, set_current_schema}

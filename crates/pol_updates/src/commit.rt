@@ -7,7 +7,6 @@ ghost use Rattle.pol_updates.specs.Snapshots.{has_snapshot};
 ghost use Rattle.pol_updates.specs.Updates.{IsRefusal, after_each, after_one, finished, last_items};
 ghost use Rattle.pol_updates.specs.Updates.{log_left, logged, metadata_after, refused_at, settled};
 
-use crate::file_names::metadata_file;
 use crate::refused::ApplyRefused;
 use crate::snapshot_updates::{add_snapshot, remove_ref, remove_snapshots, set_snapshot_ref};
 use crate::text_updates::{
@@ -20,7 +19,7 @@ use pol_drafts::{
     set_default_order, set_default_spec, taken,
 };
 use pol_locations::{Location, LocationRefused, Steps};
-use pol_meta::{MetadataLogEntry, Snapshot, SnapshotLogEntry, TableMetadata};
+use pol_meta::{MetadataLogEntry, Snapshot, SnapshotLogEntry, TableMetadata, metadata_file};
 use pol_types::{Listed, OutOfMemory, Text};
 use std::alloc::{AllocError, Global};
 use std::sync::ledger::Ledger;

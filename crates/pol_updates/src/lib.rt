@@ -3,7 +3,6 @@
 
 mod change;
 mod commit;
-mod file_names;
 mod refused;
 mod snapshot_updates;
 mod text_updates;
@@ -11,7 +10,6 @@ mod update;
 
 pub use change::{TableChange, TableCommit};
 pub use commit::apply;
-pub use file_names::metadata_file;
 pub use pol_drafts::MemberId;
 pub use pol_locations::Steps;
 pub use pol_requirements::{Requirement, first_unmet};

@@ -5,6 +5,7 @@ use Rattle.serde_json.specs.Written.{compact_text}
 use Rattle.pol_readers.specs.Forms as form
 use Rattle.pol_readers.specs.Path.{path_text}
 use Rattle.pol_readers.specs.declared.path.Step.{Step}
+use Rattle.pol_meta.specs.Why.{word_of}
 use Rattle.pol_meta.specs.declared.metadata.TableMetadata.{TableMetadata}
 use Rattle.pol_metaprint.specs.Metadata.{table_json}
 use Rattle.pol_metaread.specs.Metadata.{table_metadata}
@@ -15,7 +16,6 @@ use Rattle.pol_updates.specs.declared.change.TableChange.{TableChange}
 use Rattle.pol_updates.specs.declared.change.TableCommit.{TableCommit}
 use Rattle.pol_updates.specs.declared.update.Update.{Update}
 use Rattle.pol_commitjson.specs.Commits.{table_commit, transaction}
-use Rattle.pol_values.specs.Tables.{word_of}
 
 -- the place of the first requirement that doesn't hold of a metadata
 abbrev pub unmet : TableMetadata → List Requirement → Option ℕ

@@ -6,28 +6,12 @@ use Rattle.pol_readers.specs.Path.{path_text}
 use Rattle.pol_readers.specs.declared.path.Step.{Step}
 use Rattle.pol_meta.specs.Creation.{create_refusal, created}
 use Rattle.pol_meta.specs.declared.metadata.TableMetadata.{TableMetadata}
+use Rattle.pol_meta.specs.Why.{word_of}
 use Rattle.pol_meta.specs.declared.why.Why.{Why}
-use Rattle.pol_meta.specs.declared.why.Why.TheVariants as why
 use Rattle.pol_metaread.specs.Metadata.{table_metadata}
 use Rattle.pol_metajson.specs.Table.{create_table}
 use Rattle.pol_metajson.specs.declared.table.CreateTable.{CreateTable}
 use Rattle.pol_metaprint.specs.Metadata.{table_json}
-
--- the word of a refusal
-abbrev pub word_of : Why → List ℕ
-word_of why.UuidDiffers = codes "UuidDiffers"
-word_of why.FormatVersion = codes "FormatVersion"
-word_of why.IdsUsedUp = codes "IdsUsedUp"
-word_of why.NoneAdded = codes "NoneAdded"
-word_of why.NoSuchId = codes "NoSuchId"
-word_of why.NoSuchField = codes "NoSuchField"
-word_of why.FieldTwice = codes "FieldTwice"
-word_of why.SnapshotThere = codes "SnapshotThere"
-word_of why.SequenceNotAbove = codes "SequenceNotAbove"
-word_of why.NoSuchSnapshot = codes "NoSuchSnapshot"
-word_of why.MainNotBranch = codes "MainNotBranch"
-word_of why.BranchOnly = codes "BranchOnly"
-word_of why.InUse = codes "InUse"
 
 -- where a table lies: where it is asked to, or below one location by its name
 abbrev pub location_of : CreateTable → List ℕ

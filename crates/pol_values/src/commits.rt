@@ -3,7 +3,7 @@ ghost use Rattle.std.specs.Prelude.{◌≡◌, ◌<◌, Ok, IfErr, IfOk, string_
 ghost use Rattle.pol_updates.specs.Updates.{IsRefusal};
 ghost use Rattle.pol_values.specs.Commits as spec;
 
-use crate::tables::{metadata_text, word_of};
+use crate::tables::metadata_text;
 use crate::unread::Unread;
 use pol_commitjson::{read_commit, read_transaction};
 use pol_meta::TableMetadata;
@@ -59,8 +59,7 @@ fn updates_text(alloc: Global, meta: &TableMetadata, updates: &[Update]) -> Resu
     match applied::<Brand>(alloc, Blank::new(1), meta, updates) {
         Ok(made) => metadata_text(alloc, &made),
         Err(ApplyRefused::Refused { index, why }) => {
-            let word = word_of(why);
-            Ok(format!(in alloc; "Refused: {index} {word}")?)
+            Ok(format!(in alloc; "Refused: {index} {why}")?)
         }
         Err(ApplyRefused::OutOfMemory) => Err(Unread::NoMemory),
     }

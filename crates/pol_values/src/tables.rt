@@ -6,7 +6,7 @@ ghost use Rattle.pol_metaprint.specs.Metadata.{table_json};
 ghost use Rattle.pol_values.specs.Tables as spec;
 
 use crate::unread::Unread;
-use pol_meta::{CreateRefused, TableMetadata, Why};
+use pol_meta::{CreateRefused, TableMetadata};
 use pol_metajson::{CreateTable, read_create_table};
 use pol_metalaws::table_text;
 use pol_metaread::read_table;
@@ -46,7 +46,7 @@ fn request_text(alloc: Global, request: CreateTable) -> Result<String, Unread>
     match created(alloc, request) {
         Ok(meta) => metadata_text(alloc, &meta),
         Err(CreateRefused::OutOfMemory) => Err(Unread::NoMemory),
-        Err(CreateRefused::Refused { why }) => Ok(String::from_str(alloc, word_of(why))?),
+        Err(CreateRefused::Refused { why }) => Ok(why.to_string(alloc)?),
     }
 }
 
@@ -95,25 +95,4 @@ pub(crate) fn metadata_text(alloc: Global, meta: &TableMetadata) -> Result<Strin
     ensures { IfOk result (λ text. string_bytes text ≡ compact_text (table_json meta.now)) }
 {
     Ok(table_text(alloc, meta)?)
-}
-
-/// The word of a refusal.
-pub(crate) fn word_of(why: Why) -> &'static str
-    ensures { result.now ≡ spec.word_of why }
-{
-    match why {
-        Why::UuidDiffers => "UuidDiffers",
-        Why::FormatVersion => "FormatVersion",
-        Why::IdsUsedUp => "IdsUsedUp",
-        Why::NoneAdded => "NoneAdded",
-        Why::NoSuchId => "NoSuchId",
-        Why::NoSuchField => "NoSuchField",
-        Why::FieldTwice => "FieldTwice",
-        Why::SnapshotThere => "SnapshotThere",
-        Why::SequenceNotAbove => "SequenceNotAbove",
-        Why::NoSuchSnapshot => "NoSuchSnapshot",
-        Why::MainNotBranch => "MainNotBranch",
-        Why::BranchOnly => "BranchOnly",
-        Why::InUse => "InUse",
-    }
 }

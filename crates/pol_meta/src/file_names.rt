@@ -1,5 +1,5 @@
 ghost use Rattle.std.specs.Prelude.{◌≡◌, IfOk, codes, drop, length};
-ghost use Rattle.pol_updates.specs.Locations.{file_text, metadata_file};
+ghost use Rattle.pol_meta.specs.FileNames.{file_text, metadata_file};
 
 use pol_types::Text;
 use std::alloc::{AllocError, Global};
@@ -7,7 +7,7 @@ use uuid::Uuid;
 
 /// Where the metadata of a version of a table stands: below its location, under the version, in at least five digits,
 /// and its uuid.
-#[tactic(auto, unfolding(crate::specs::Locations::metadata_file))]
+#[tactic(auto, unfolding(crate::specs::FileNames::metadata_file))]
 pub fn metadata_file(
     alloc: Global,
     location: &str,
@@ -23,7 +23,7 @@ pub fn metadata_file(
     file_text(alloc, location, zeros, digits.as_str(), uuid)
 }
 
-#[tactic(auto, unfolding(crate::specs::Locations::file_text))]
+#[tactic(auto, unfolding(crate::specs::FileNames::file_text))]
 fn file_text(
     alloc: Global,
     location: &str,
