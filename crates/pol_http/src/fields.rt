@@ -69,7 +69,7 @@ fn number(digits: &[u8]) -> Option<usize>
 }
 
 /// Whether a field of that name lists the word, in any case.
-pub(crate) fn lists(bytes: &[u8], fields: &[HeaderSpan], name: &[u8], word: &[u8]) -> bool
+pub fn lists(bytes: &[u8], fields: &[HeaderSpan], name: &[u8], word: &[u8]) -> bool
     requires { All (IsHeaderWithin (length bytes.now)) fields.now }
     ensures { result ≡ spec.lists name.now word.now (map (header_bytes bytes.now) fields.now) }
 {

@@ -12,5 +12,6 @@ mod target;
 
 pub use answer::{Answer, Body, CONTINUE, INSUFFICIENT_STORAGE, write_answer};
 pub use cut::cut_messages;
+pub use fields::lists;
 pub use head::{BODY_LIMIT, FIELD_LIMIT, HEAD_LIMIT, Head, HeadRefused};
 pub use next::{Next, missing_bytes, next_message};

@@ -1,12 +1,14 @@
 ghost use Rattle.std.specs.Prelude.{◌≡◌, ◌≢◌, ◌≤◌, ◌<◌, ◌+◌, ◌↔◌, [], false, not, true, All, Any, IsOk, IsTrue, MatchOption, OnErr, OnOk};
 ghost use Rattle.std.specs.List.{list_any};
+ghost use Rattle.std.proofs.Common.{rules};
+ghost use Rattle.pol_types.specs.Exact.{exactness};
 ghost use Rattle.pol_locations.specs.Location.{Overlaps, is_overlap};
 ghost use Rattle.pol_locations.specs.declared.location_set.Member.{Member};
 ghost use Rattle.pol_locations.specs.LocationSet.{AreApart, Gains, clash_of, is_clash};
 
 use crate::{Location, overlaps};
-use pol_types::OutOfMemory;
-use std::alloc::Global;
+use pol_types::{Exact, OutOfMemory};
+use std::alloc::{AllocError, Global};
 use std::marker::Model;
 
 /// A member of a set: a location and the id of its owner.
@@ -14,6 +16,12 @@ use std::marker::Model;
 pub struct Member {
     pub owner: u64,
     pub location: Location,
+}
+
+impl Exact for Member {
+    ghost clones_exactly = { Prim.search rules };
+
+    ghost compares_exactly = { Prim.grind exactness };
 }
 
 /// Locations with their owners. No two members have one owner, and no two locations overlap. Contracts see the
@@ -105,6 +113,16 @@ impl LocationSet {
         };
         self.members.remove(place);
         true
+    }
+}
+
+impl Clone for LocationSet {
+    ghost is_clone = { λ source clone. clone.members ≡ source.members };
+
+    fn clone(&self) -> Result<Self, AllocError> {
+        Ok(LocationSet {
+            members: self.members.clone()?,
+        })
     }
 }
 

@@ -1,0 +1,4 @@
+pub mod NamesLemmas
+pub mod OverlapLemmas
+pub mod PlacesLemmas
+pub mod TablesLemmas

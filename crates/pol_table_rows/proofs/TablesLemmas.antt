@@ -1,0 +1,119 @@
+-- The places of tables, once one is put or taken away, and the table that overlaps a location.
+use Rattle.std.proofs.Common.{◌≡◌, ℕ, Bool, true, false, not, cond, ◌&&◌, ◌||◌, List, [], ◌∷◌, filter, map, nat_eq, refl, sym, ap, ◌∙◌, inl, inr, true≢false}
+use Rattle.std.specs.List.{list_any}
+use Rattle.std.proofs.lemmas.Bool.{cases_Bool, eq-eqb, eqb-true}
+use Rattle.std.proofs.lemmas.List.Folds.{list_any-append}
+use Rattle.pol_locations.specs.contracts.location_set.Member.{the_row}
+use Rattle.pol_locations.specs.declared.location_set.Member.{Member}
+use Rattle.pol_table_rows.specs.Places.{IsPut, IsTaken, is_owner}
+use Rattle.pol_table_rows.specs.Tables.{ArePlaced, member_of, table_id}
+use Rattle.pol_table_rows.specs.declared.row.TableRow.{TableRow}
+use Rattle.pol_tables.specs.Same.{same}
+use Rattle.pol_tables.specs.Table.{has_id, knows, rows_with, rows_without}
+use Rattle.pol_tables.proofs.ListLemmas.{and_false, or_false}
+use Rattle.pol_tables.proofs.SameLemmas.{same-true}
+use Rattle.pol_tables.proofs.TableLemmas.{rows_with-known, rows_with-new}
+
+module _ (other : Member) where
+  abbrev lies : TableRow → Bool
+  lies row = same the_row.coded other (member_of row)
+
+  -- a table that has the member as its place owns it
+  owns : (row : TableRow) → is_owner row.id other ≡ false → lies row ≡ false
+  owns row apart = elim (cases_Bool (lies row)) [
+    | inl is ↦ absurd (true≢false (sym (eq-eqb other.owner row.id (ap (λ (member : Member). member.owner) (same-true the_row.coded other (member_of row) is))) ∙ apart))
+    | inr fails ↦ fails
+  ]
+
+  -- a table of the owner's id, and one of another
+  owner-of : (id : ℕ) (row : TableRow) → has_id table_id id row ≡ true → is_owner id other ≡ is_owner row.id other
+  owner-of id row has = ap (nat_eq other.owner) (eqb-true id row.id has)
+
+  owner-not : (id : ℕ) (row : TableRow) → is_owner id other ≡ true → has_id table_id id row ≡ false → is_owner row.id other ≡ false
+  owner-not id row is apart = ap (λ n. nat_eq n row.id) (eqb-true other.owner id is) ∙ apart
+
+  -- the places of the rows without those of an id
+  pub lies-without : (id : ℕ) (rows : List TableRow) → list_any lies (rows_without table_id id rows) ≡ (not (is_owner id other) && list_any lies rows)
+  unfolding rows_without
+  lies-without id rows = by (is_owner id other) refl rows
+    where
+      one : (owned : Bool) → is_owner id other ≡ owned → (row : TableRow) (kept rest : List TableRow) → list_any lies kept ≡ (not owned && list_any lies rest) → (has : Bool) → has_id table_id id row ≡ has
+          → list_any lies (cond (not has) (row ∷ kept) kept) ≡ (not owned && (lies row || list_any lies rest))
+      one true is row kept rest before true has = before
+      one true is row kept rest before false apart = (λ i. owns row (owner-not id row is apart) i || before i)
+      one false is row kept rest before true has =
+          before ∙ ap (λ b. b || list_any lies rest) (sym (owns row (sym (owner-of id row has) ∙ is)))
+      one false is row kept rest before false apart = ap (λ b. lies row || b) before
+
+      by : (owned : Bool) → is_owner id other ≡ owned → (rows : List TableRow) → list_any lies (filter (λ row. not (has_id table_id id row)) rows) ≡ (not owned && list_any lies rows)
+      by true is [] = refl
+      by false is [] = refl
+      by owned is (row ∷ rows) =
+          one owned is row (filter (λ row. not (has_id table_id id row)) rows) rows (by owned is rows) (has_id table_id id row) refl
+
+  module _ (row : TableRow) where
+    abbrev in_place : TableRow → TableRow
+    in_place kept = cond (has_id table_id row.id kept) row kept
+
+    -- where the member is another owner's, the rows that are replaced and the row itself don't have it
+    replaced-other : is_owner row.id other ≡ false → (rows : List TableRow) → list_any lies (map in_place rows) ≡ list_any lies rows
+    replaced-other apart [] = refl
+    replaced-other apart (kept ∷ rows) = λ i. by (has_id table_id row.id kept) refl i || replaced-other apart rows i
+      where
+        by : (has : Bool) → has_id table_id row.id kept ≡ has → lies (cond has row kept) ≡ lies kept
+        by false elsewhere = refl
+        by true has = owns row apart ∙ sym (owns kept (sym (owner-of row.id kept has) ∙ apart))
+
+    -- where it is the owner's, the row alone may have it
+    replaced-own : is_owner row.id other ≡ true → (rows : List TableRow) → list_any lies (map in_place rows) ≡ (lies row && knows table_id row.id rows)
+    replaced-own is [] = sym (and_false (lies row))
+    replaced-own is (kept ∷ rows) = by (has_id table_id row.id kept) refl (replaced-own is rows)
+      where
+        whole : (a b : Bool) → (a || (a && b)) ≡ (a && true)
+        whole true b = refl
+        whole false b = refl
+
+        by : (has : Bool) → has_id table_id row.id kept ≡ has → list_any lies (map in_place rows) ≡ (lies row && knows table_id row.id rows)
+            → (lies (cond has row kept) || list_any lies (map in_place rows)) ≡ (lies row && (has || knows table_id row.id rows))
+        by true has rest = ap (λ b. lies row || b) rest ∙ whole (lies row) (knows table_id row.id rows)
+        by false elsewhere rest = λ i. owns kept (owner-not row.id kept is elsewhere) i || rest i
+
+    -- none of the rows of other ids has it
+    none-own : is_owner row.id other ≡ true → (rows : List TableRow) → knows table_id row.id rows ≡ false → list_any lies rows ≡ false
+    none-own is [] unknown = refl
+    none-own is (kept ∷ rows) unknown =
+        by (has_id table_id row.id kept) refl unknown (λ rest. none-own is rows rest)
+      where
+        by : (has : Bool) → has_id table_id row.id kept ≡ has → (has || knows table_id row.id rows) ≡ false → (knows table_id row.id rows ≡ false → list_any lies rows ≡ false) → list_any lies (kept ∷ rows) ≡ false
+        by true has some others = absurd (true≢false some)
+        by false elsewhere rest others = λ i. owns kept (owner-not row.id kept is elsewhere) i || others rest i
+
+    -- the places of the rows with one that is put
+    pub lies-with : (rows : List TableRow) → list_any lies (rows_with table_id row rows) ≡ (lies row || (not (is_owner row.id other) && list_any lies rows))
+    lies-with rows = elim (cases_Bool (knows table_id row.id rows)) [
+      | inl known ↦ ap (list_any lies) (rows_with-known table_id row rows known) ∙ replaced known (is_owner row.id other) refl
+      | inr unknown ↦ ap (list_any lies) (rows_with-new table_id row rows unknown) ∙ list_any-append lies rows (row ∷ []) ∙ pushed unknown (is_owner row.id other) refl
+    ]
+      where
+        only : (a : Bool) → (a && true) ≡ (a || false)
+        only true = refl
+        only false = refl
+
+        replaced : knows table_id row.id rows ≡ true → (owned : Bool) → is_owner row.id other ≡ owned → list_any lies (map in_place rows) ≡ (lies row || (not owned && list_any lies rows))
+        replaced known true is = replaced-own is rows ∙ ap (λ b. lies row && b) known ∙ only (lies row)
+        replaced known false apart =
+            replaced-other apart rows ∙ ap (λ b. b || list_any lies rows) (sym (owns row apart))
+
+        pushed : knows table_id row.id rows ≡ false → (owned : Bool) → is_owner row.id other ≡ owned → (list_any lies rows || (lies row || false)) ≡ (lies row || (not owned && list_any lies rows))
+        pushed unknown true is = ap (λ b. b || (lies row || false)) (none-own is rows unknown)
+        pushed unknown false apart =
+            ap (λ b. list_any lies rows || (b || false)) (owns row apart) ∙ or_false (list_any lies rows) ∙ ap (λ b. b || list_any lies rows) (sym (owns row apart))
+
+-- members stay the places of the tables once a table and its location are put, or both are taken
+pub placed-put : (row : TableRow) (rows : List TableRow) (old new : List Member) → ArePlaced old rows → IsPut (member_of row) old new → ArePlaced new (rows_with table_id row rows)
+placed-put row rows old new placed put other =
+    put other ∙ ap (λ b. same the_row.coded other (member_of row) || (not (is_owner row.id other) && b)) (placed other) ∙ sym (lies-with other row rows)
+
+pub placed-taken : (id : ℕ) (rows : List TableRow) (old new : List Member) → ArePlaced old rows → IsTaken id old new → ArePlaced new (rows_without table_id id rows)
+placed-taken id rows old new placed taken other =
+    taken other ∙ ap (λ b. not (is_owner id other) && b) (placed other) ∙ sym (lies-without other id rows)

@@ -1,0 +1,5 @@
+pub mod Exactness
+pub mod Numbers
+pub mod Places
+pub mod Sound
+pub mod Tables
