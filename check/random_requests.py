@@ -4,7 +4,9 @@ import json
 from random import Random
 from urllib.parse import urlencode
 
+from odd_values import ODD_VALUES, places_in
 from privileges import GRANTABLE, PRIVILEGES
+from random_tables import RandomTables
 from routes import ROUTES
 
 NAMES = {
@@ -13,20 +15,26 @@ NAMES = {
     "principal": ["ann", "bob", "root"],
     "role": ["readers", "writers", "service_admin"],
     "catalog_role": ["reads", "reads", "writes", "catalog_admin"],
+    "table": ["t", "t", "t", "u", "v"],
 }
 ODD_NAMES = ["a b", "é", "x" * 129, "a.b", "", "..", "A-_9"]
+ODD_TABLES = ["..", ".", "a/b", "é x", "t\n", "x" * 129, ""]
 LEVELS = ["a", "b", "c", "é x", "B"]
 ODD_LEVELS = ["", "\x1f", "a\n", "x" * 129, "\x7f"]
 KEYS = ["k1", "k2", "k3", "é", "default-base-location"]
 VALUES = ["v", "w", "", "é\n"]
 LOCATIONS = ["lake://b", "lake://b/x", "lake://c/", "lake://é/y z"]
 ODD_LOCATIONS = ["lake://", "lake:///", "lake://b//", "lake://b/../c", "lake://b/.", "Lake://b", "", "lake://b/\n"]
+TABLE_LOCATIONS = ["lake://b/t", "lake://b/t/", "lake://b/t/x", "lake://b/t1", "lake://b/x/u", "lake://c/t", "lake://d/t"]
+TABLE_LOCATIONS += ["lake://é/y z/t", "lake://b", "lake://b/a/t", "lake://b/a/t/x", "lake://b/a", "lake://c/a/b"]
 LONG_LOCATIONS = ["lake://" + "a" * 1017, "lake://" + "a" * 1018, "lake://" + "a" * 1017 + "/", "x" * 1025]
-ODD_VALUES = [None, 1, True, "x", "", [], {}, ["a"], {"a": 1}, 1.5, "é", [1], {"b": None}]
 # Values of JSON at and past what is read: numbers by size, arrays by depth within a body, and surrogates.
 ODD_TEXTS = ["1e308", "1e400", "-1e400", "1" + "0" * 308, "1" + "0" * 400, '"\\ud800\\udc00"', '"\\ud800"', '"\\udc00"']
 ODD_TEXTS += ["[" * depth + "]" * depth for depth in (126, 127, 200)]
 WAREHOUSES = ["", "warehouse", "x=1&warehouse=lake", "w%61rehouse=lake", "warehouse=%ff", "warehouse=la+ke"]
+SNAPSHOTS = ["snapshots=all", "snapshots=refs", "snapshots=", "snapshots=x", "snapshots=refs&snapshots=all"]
+PURGES = ["purgeRequested=true", "purgeRequested=false", "purgeRequested=", "purgeRequested=1"]
+DELEGATIONS = ["vended-credentials", "remote-signing, Vended-Credentials", "remote-signing", "vended", ",vended-credentials "]
 PARENTS = ["", "parent=", "parent=%ff", "parent=%1F"]
 SCOPES = ["ALL", "readers", "readers", "writers", "service_admin", "", "no one"]
 
@@ -40,6 +48,7 @@ class RandomRequests:
 
     def __init__(self, seed):
         self.random = Random(seed)
+        self.tables = RandomTables(seed)
         self.tokens = []
         self.secrets = {"root": "s3cr3t"}
 
@@ -58,6 +67,9 @@ class RandomRequests:
         if self.seldom(0.02):
             method = self.random.choice(["GET", "POST", "PUT", "DELETE", "HEAD", "PATCH", "get"])
         fields, bearer = self.bearer()
+        if self.seldom(0.03):
+            name = self.random.choice(["x-iceberg-access-delegation", "X-Iceberg-Access-Delegation"])
+            fields = [*fields, (name, self.random.choice(DELEGATIONS))]
         return method, target, fields, content, bearer
 
     # Targets
@@ -75,7 +87,8 @@ class RandomRequests:
             return "b/x"
         if parameter == "namespace":
             return self.encoded("\x1f".join(self.levels()))
-        return self.encoded(self.pick(NAMES.get(parameter, ["t"]), ODD_NAMES))
+        odd = ODD_TABLES if parameter == "table" else ODD_NAMES
+        return self.encoded(self.pick(NAMES.get(parameter, ["t"]), odd))
 
     def encoded(self, text):
         """A text as a segment, in which more bytes than need be may be encoded, and seldom wrongly."""
@@ -96,6 +109,8 @@ class RandomRequests:
         if action == "list_namespaces":
             named = f"parent={self.segment('namespace')}"
             return self.pick([None, named, f"parent=zz&{named}"], PARENTS, 0.3)
+        if action in ("load_table", "drop_table"):
+            return self.pick([None], SNAPSHOTS if action == "load_table" else PURGES, 0.3)
         return "x=y" if self.seldom(0.03) else None
 
     # Contents
@@ -152,13 +167,24 @@ class RandomRequests:
     def service(self):
         return "SERVICE"
 
+    def new_table(self):
+        """What a table is asked for with, at a location that is often taken."""
+        body = self.tables.body() | {"name": self.pick(NAMES["table"], ODD_TABLES), "location": None}
+        if self.seldom(0.6):
+            body["location"] = self.pick(TABLE_LOCATIONS, ODD_LOCATIONS + LONG_LOCATIONS, 0.1)
+        body["stage-create"] = self.seldom()
+        body["properties"] = self.texts()
+        if self.seldom(0.2):
+            body["properties"]["format-version"] = self.pick(["2"], ["1", "3", "02", ""], 0.3)
+        return body
+
     def grant(self):
         kind = self.random.choice(["catalog", "namespace", "namespace", "table", "view"])
         grant = {"type": kind, "privilege": self.pick(sorted(GRANTABLE[kind]), PRIVILEGES)}
         if kind != "catalog":
             grant["namespace"] = self.levels()
         if kind in ("table", "view"):
-            grant[f"{kind}Name"] = self.pick(["t"], ["", "t\n"], 0.1)
+            grant[f"{kind}Name"] = self.pick(NAMES["table"], ODD_TABLES, 0.1)
         return grant
 
     def altered(self, body):
@@ -207,9 +233,3 @@ class RandomRequests:
             ([("authorization", f"Bearer  {token}")], f" {token}"),
         ]
         return self.random.choice(odd) if self.seldom() else (fields, token)
-
-
-def places_in(value):
-    """Each place of a value of JSON, as what holds it and its key there."""
-    members = list(value.items() if isinstance(value, dict) else enumerate(value) if isinstance(value, list) else [])
-    return [place for key, part in members for place in [(value, key), *places_in(part)]]

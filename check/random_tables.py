@@ -3,7 +3,7 @@
 import json
 from random import Random
 
-from random_requests import ODD_VALUES, places_in
+from odd_values import ODD_VALUES, places_in
 
 NAMES = ["a", "b", "c", "d", "é", "x y", "a.b", 'q"\\', "\x01", "k[0]"]
 DOCS = ["", "said", None, "two\nlines"]

@@ -4,7 +4,7 @@ place."""
 import json
 from copy import deepcopy
 
-from random_requests import places_in
+from odd_values import places_in
 from random_tables import NUMBERS, UUIDS, RandomTables
 from reading import Refused, compact
 from tables import NotMade

@@ -17,7 +17,10 @@ STATUS_AND_TYPE = {
     "NameTaken": (409, "AlreadyExistsException"),
     "NotEmpty": (409, "NamespaceNotEmptyException"),
     "KeyTwice": (422, "UnprocessableEntityException"),
+    "Update 0 of table 0 refused": (400, "BadRequestException"),
     "BadLocation of table 0": (400, "BadRequestException"),
+    "LocationOutside": (400, "BadRequestException"),
+    "LocationOverlap": (400, "BadRequestException"),
     "Unsupported": (406, "UnsupportedOperationException"),
     "Limit": (400, "BadRequestException"),
     "Reserved": (400, "BadRequestException"),
@@ -73,19 +76,30 @@ def location_of(text):
     scheme = b"lake://"
     if text.startswith(scheme) and text[len(scheme) :].endswith(b"/"):
         text = text[:-1]
-    segments = text[len(scheme) :].split(b"/")
     if len(text) > 1024:
         refuse("BadLocation of table 0", b"TooLong")
     if not text.startswith(scheme):
         refuse("BadLocation of table 0", b"BadScheme")
+    return location_below(text[len(scheme) :].split(b"/"))
+
+
+def location_below(segments):
+    """The location of these segments. What is none is refused."""
+    if len(location_text(segments)) > 1024:
+        refuse("BadLocation of table 0", b"TooLong")
     for segment in segments:
         if not segment:
             refuse("BadLocation of table 0", b"EmptySegment")
         if segment in (b".", b".."):
             refuse("BadLocation of table 0", b"DotSegment")
-        if any(byte < 0x20 or byte == 0x7F for byte in segment):
+        if any(byte < 0x20 or byte in b"/\x7f" for byte in segment):
             refuse("BadLocation of table 0", b"ControlByte")
     return segments
+
+
+def covers(upper, lower):
+    """Whether a location is another one, or that one lies below it."""
+    return lower[: len(upper)] == upper
 
 
 def location_text(segments):
@@ -111,6 +125,13 @@ def segment_text(segment):
 def plain_segment(segment):
     name = segment_text(segment)
     if not is_plain(name):
+        refuse("Unreadable", b"path")
+    return name
+
+
+def name_segment(segment):
+    name = segment_text(segment)
+    if not is_name(name):
         refuse("Unreadable", b"path")
     return name
 

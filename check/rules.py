@@ -13,6 +13,7 @@ from reading import (
     Refused,
     body_of,
     compact,
+    covers,
     dotted,
     form_pairs,
     is_name,
@@ -20,9 +21,11 @@ from reading import (
     is_plain,
     is_utf8,
     levels,
+    location_below,
     location_of,
     location_text,
     meeting,
+    name_segment,
     namespace_segment,
     object_at,
     optional,
@@ -37,11 +40,13 @@ from reading import (
     unreadable,
 )
 from routes import ENDPOINTS, route_of
+from tables import NotMade, created, request_of
 
 plain = meeting(is_plain)
 BASE = b"default-base-location"
 FIRST_GRANTS = ("CATALOG_MANAGE_ACCESS", "CATALOG_MANAGE_CONTENT")
 SCOPE = b"PRINCIPAL_ROLE:"
+UUID = "[0-9a-f]{8}-[0-9a-f]{4}-4[0-9a-f]{3}-[89ab][0-9a-f]{3}-[0-9a-f]{12}"
 TOKEN = {
     "expires_in": 3600,
     "issued_token_type": "urn:ietf:params:oauth:token-type:access_token",
@@ -70,6 +75,18 @@ class Catalog:
 class Namespace:
     id: int
     properties: dict
+    tables: dict = field(default_factory=dict)
+
+
+@dataclass
+class Table:
+    id: int
+    location: list
+    metadata: dict
+
+    def shown(self):
+        place = b"%b/metadata/00000-%b.metadata.json" % (location_text(self.location), self.metadata["table-uuid"].encode())
+        return {"config": {}, "metadata": self.metadata, "metadata-location": place, "storage-credentials": []}
 
 
 @dataclass
@@ -81,10 +98,17 @@ class Request:
     bearer: str
     content: bytes
     answered: str = ""
+    fields: tuple = ()
 
     @property
     def query(self):
         return self.target.partition(b"?")[2]
+
+    @property
+    def is_delegated(self):
+        """Whether a storage token is asked for."""
+        lists = [value for name, value in self.fields if name.lower() == "x-iceberg-access-delegation"]
+        return any(word.strip().lower() == "vended-credentials" for value in lists for word in value.split(","))
 
     def body(self):
         return body_of(self.content)
@@ -146,6 +170,8 @@ class Rules:
         """The status of the answer to a request, and its body, if it has one."""
         try:
             action, segments = route_of(request.method, request.target.partition(b"?")[0])
+            if action in ("create_table", "load_table") and request.is_delegated:
+                refuse("Not built")
             status, body = getattr(self, action)(request, *segments)
         except Refused as refused:
             status, body = refused.status, refused.body
@@ -195,18 +221,22 @@ class Rules:
             refuse("NoCatalogue", name)
         return self.catalogs[name]
 
-    def in_catalog(self, request, name, privilege, path=()):
-        """The catalogue of a name, on which, or on the deepest part of a path in it, the caller has a privilege."""
+    def in_catalog(self, request, name, privilege, path=(), part=None):
+        """The catalogue of a name, on which, or on the deepest part of a path in it, the caller has a privilege. The
+        path may lead on to a table."""
         roles = self.active_roles(request)
         catalog = self.catalog(name)
+        table = catalog.namespaces[path].tables.get(part) if path in catalog.namespaces else None
         while path and path not in catalog.namespaces:
             path = path[:-1]
         above = [path[:depth] for depth in range(1, len(path) + 1)]
         chain = [("catalog", catalog.id)] + [("namespace", catalog.namespaces[part].id) for part in above]
+        chain += [("table", table.id)] if table else []
         joined = {catalog_role for role, catalog_role in self.joins if role in roles}
         held = {grant[1] for grant in self.grants if grant[0] in joined and grant[2] in chain}
         if not any(privilege in IMPLIED[word] for word in held):
             where = b"namespace %b/%b" % (name, dotted(path)) if path else b"catalogue %b" % name
+            where = b"table %b/%b" % (name, dotted([*path, part])) if table else where
             refuse("Forbidden", b"%b on %b" % (privilege.encode(), where))
         return catalog
 
@@ -315,7 +345,7 @@ class Rules:
     def drop_namespace(self, request, segment, second):
         name, path = plain_segment(segment), namespace_segment(second)
         row, namespace = self.in_namespace(request, name, path, "NAMESPACE_DROP")
-        if any(other[: len(path)] == path and other != path for other in row.namespaces):
+        if namespace.tables or any(other[: len(path)] == path and other != path for other in row.namespaces):
             refuse("NotEmpty", dotted(path))
         del row.namespaces[path]
         self.grants = [grant for grant in self.grants if grant[2] != ("namespace", namespace.id)]
@@ -336,6 +366,77 @@ class Rules:
         namespace.properties = after
         lists = {"missing": set(removals) - set(before), "removed": set(removals) & set(before), "updated": set(updates)}
         return 200, compact({key: sorted(keys) for key, keys in lists.items()})
+
+    # Tables
+
+    def list_tables(self, request, segment, second):
+        name, path = plain_segment(segment), namespace_segment(second)
+        _, namespace = self.in_namespace(request, name, path, "TABLE_LIST")
+        return 200, compact({"identifiers": [{"name": part, "namespace": path} for part in sorted(namespace.tables)]})
+
+    def create_table(self, request, segment, second):
+        name, path = plain_segment(segment), namespace_segment(second)
+        asked = request_of(request.content)
+        row, namespace = self.in_namespace(request, name, path, "TABLE_CREATE")
+        if asked["name"] in namespace.tables:
+            refuse("NameTaken", asked["name"])
+        version = asked["properties"].pop(b"format-version", b"2")
+        metadata = made(asked, request)
+        given = asked["location"]
+        location = location_below([*row.base, *path, asked["name"]]) if given is None else location_of(given)
+        if not any(covers(upper, location) for upper in [row.base, *row.allowed]):
+            refuse("LocationOutside", location_text(location))
+        self.refuse_overlap(location)
+        if asked["staged"]:
+            refuse("Unsupported", b"stage-create")
+        if version != b"2":
+            refuse("Unsupported", b"format-version")
+        refuse_many(asked["properties"])
+        table = Table(self.new_id(), location, metadata | {"location": location_text(location)})
+        namespace.tables[asked["name"]] = table
+        return 200, compact(table.shown())
+
+    def refuse_overlap(self, location):
+        """Refuses a location that overlaps that of a table, of several that of the oldest one."""
+        namespaces = [namespace for row in self.catalogs.values() for namespace in row.namespaces.values()]
+        tables = [table for namespace in namespaces for table in namespace.tables.values()]
+        for table in sorted(tables, key=lambda table: table.id):
+            if covers(table.location, location) or covers(location, table.location):
+                refuse("LocationOverlap", b"%b and %b" % (location_text(location), location_text(table.location)))
+
+    def at_table(self, request, name, path, part, privilege):
+        """The namespace of a path and the table of a name in it, which must be there."""
+        row = self.in_catalog(request, name, privilege, path, part)
+        refuse_missing(row, path)
+        namespace = row.namespaces[path]
+        if part not in namespace.tables:
+            refuse("NoTable", dotted([*path, part]))
+        return namespace, namespace.tables[part]
+
+    def load_table(self, request, segment, second, third):
+        place = plain_segment(segment), namespace_segment(second), name_segment(third)
+        shown = query_value(request.query, b"snapshots")
+        if shown not in (None, b"all", b"refs"):
+            unreadable("snapshots")
+        _, table = self.at_table(request, *place, "TABLE_READ_PROPERTIES")
+        return 200, compact(table.shown())
+
+    def head_table(self, request, segment, second, third):
+        place = plain_segment(segment), namespace_segment(second), name_segment(third)
+        self.at_table(request, *place, "TABLE_READ_PROPERTIES")
+        return 204, None
+
+    def report_metrics(self, request, segment, second, third):
+        return self.head_table(request, segment, second, third)
+
+    def drop_table(self, request, segment, second, third):
+        place = plain_segment(segment), namespace_segment(second), name_segment(third)
+        if query_value(request.query, b"purgeRequested") not in (None, b"true", b"false"):
+            unreadable("purgeRequested")
+        namespace, table = self.at_table(request, *place, "TABLE_DROP")
+        del namespace.tables[place[2]]
+        self.grants = [grant for grant in self.grants if grant[2] != ("table", table.id)]
+        return 204, None
 
     # Principals and principal roles
 
@@ -514,9 +615,14 @@ class Rules:
         row = self.managed(request, name)
         role = catalog_role(row, role_name)
         paths = {namespace.id: path for path, namespace in row.namespaces.items()}
+        tables = {
+            table.id: {"namespace": path, "tableName": part}
+            for path, namespace in row.namespaces.items()
+            for part, table in namespace.tables.items()
+        }
         listed = []
         for _, privilege, (kind, id) in sorted(filter(lambda grant: grant[0] == role, self.grants), key=place_of_grant):
-            within = {"namespace": paths[id]} if kind == "namespace" else {}
+            within = {"namespace": paths[id]} if kind == "namespace" else tables.get(id, {})
             listed.append({**within, "privilege": privilege, "type": kind})
         return 200, compact({"grants": listed})
 
@@ -525,9 +631,12 @@ class Rules:
         kind, privilege, path, part = required(request.body(), "grant", new_grant)
         row = self.managed(request, name)
         refuse_missing(row, path or ())
-        if part is not None:
-            refuse({"table": "NoTable", "view": "NoView"}[kind], b"%b.%b" % (dotted(path), part))
         on = ("namespace", row.namespaces[path].id) if path else ("catalog", row.id)
+        if part is not None:
+            table = row.namespaces[path].tables.get(part) if kind == "table" else None
+            if table is None:
+                refuse({"table": "NoTable", "view": "NoView"}[kind], dotted([*path, part]))
+            on = ("table", table.id)
         return row, (catalog_role(row, role_name), privilege, on)
 
     def add_grant(self, request, segment, second):
@@ -550,6 +659,16 @@ def drawn(request, pattern):
     """What the program drew, as its answer tells it. An answer that tells none is another one than is due."""
     found = re.search(pattern, request.answered)
     return found.group(1) if found else "nothing was drawn"
+
+
+def made(asked, request):
+    """The metadata of a new table, with the moment and the uuid that its answer tells."""
+    uuid = drawn(request, f'"table-uuid":"({UUID})"')
+    moment = drawn(request, r'"last-updated-ms":([0-9]+)')
+    try:
+        return created(asked, uuid, int(moment) if moment.isdigit() else moment)
+    except NotMade as why:
+        refuse("Update 0 of table 0 refused", str(why).encode())
 
 
 def add(facts, fact):
@@ -576,7 +695,8 @@ def refuse_many(properties):
 
 
 def place_of_grant(grant):
-    """Grants are listed by privilege, then by what they are on: the catalogue first, then namespaces by their ids."""
+    """Grants are listed by privilege, then by what they are on: the catalogue first, then namespaces and then tables, each
+    by their ids."""
     _, privilege, on = grant
     return PRIVILEGES.index(privilege), on
 

@@ -331,7 +331,7 @@ def judge_sources(fields, columns):
         raise NotMade("NoSuchField")
 
 
-def created(request):
+def created(request, uuid=UUID, moment=MOMENT):
     """The metadata of a new table, as it is printed."""
     schema, spec, order = request["schema"], request["spec"], request["order"]
     judge_sources(spec, schema.columns)
@@ -348,7 +348,7 @@ def created(request):
         "last-column-id": max(schema.columns, default=0),
         "last-partition-id": max([999, *(field["field-id"] for field in spec)]),
         "last-sequence-number": 0,
-        "last-updated-ms": MOMENT,
+        "last-updated-ms": moment,
         "location": b"lake://b/" + request["name"] if request["location"] is None else request["location"],
         "metadata-log": [],
         "partition-specs": [{"fields": spec, "spec-id": 0}],
@@ -358,5 +358,5 @@ def created(request):
         "snapshot-log": [],
         "snapshots": [],
         "sort-orders": [{"fields": order, "order-id": 1 if order else 0}],
-        "table-uuid": UUID,
+        "table-uuid": uuid,
     }

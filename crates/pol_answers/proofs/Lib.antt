@@ -1,3 +1,4 @@
 pub mod JsonLemmas
 pub mod ManagementJsonLemmas
+mod TableJsonLemmas
 pub mod TokenLemmas

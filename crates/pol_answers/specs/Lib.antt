@@ -1,4 +1,5 @@
 pub mod Json
 pub mod ManagementJson
 pub mod Refusals
+pub mod TableJson
 pub mod Texts

@@ -1,8 +1,10 @@
 -- The status, the message and the type of each refusal of a command.
 use Rattle.std.specs.Prelude.{ℕ, List, ◌∷◌, ◌++◌, Option, Some, None, decimal, codes}
+use Rattle.pol_locations.specs.Location.{location_text}
 use Rattle.pol_locations.specs.LocationRefused.{word_of}
+use Rattle.pol_meta.specs.Why as why_refused
 use Rattle.pol_commands.specs.declared.reply.Refusal.{Refusal}
-use Rattle.pol_commands.specs.declared.reply.Refusal.TheVariants.{RunFull, InvalidClient, InvalidScope, Unauthenticated, NoCatalogue, Forbidden, NoNamespace, NoTable, NoView, NoSuchRole, NameTaken, NotEmpty, KeyTwice, BadLocation, Unsupported, Limit, Reserved}
+use Rattle.pol_commands.specs.declared.reply.Refusal.TheVariants.{RunFull, InvalidClient, InvalidScope, Unauthenticated, NoCatalogue, Forbidden, NoNamespace, NoTable, NoView, NoSuchRole, NameTaken, NotEmpty, KeyTwice, UpdateRefused, BadLocation, LocationOutside, LocationOverlap, Unsupported, Limit, Reserved}
 use Rattle.pol_access.specs.Privilege.{text_of}
 use Rattle.pol_commands.specs.Reply.{option_text, quantity_text}
 use Rattle.pol_commands.specs.Securables.{securable_text}
@@ -24,7 +26,10 @@ status_of (NoSuchRole name) = 404
 status_of (NameTaken name) = 409
 status_of (NotEmpty name) = 409
 status_of (KeyTwice key) = 422
+status_of (UpdateRefused table update why) = 400
 status_of (BadLocation place why) = 400
+status_of (LocationOutside location) = 400
+status_of (LocationOverlap location other) = 400
 status_of (Unsupported name) = 406
 status_of (Limit quantity bound) = 400
 status_of (Reserved name) = 400
@@ -44,7 +49,10 @@ kind_of (NoSuchRole name) = Some (codes "NotFoundException")
 kind_of (NameTaken name) = Some (codes "AlreadyExistsException")
 kind_of (NotEmpty name) = Some (codes "NamespaceNotEmptyException")
 kind_of (KeyTwice key) = Some (codes "UnprocessableEntityException")
+kind_of (UpdateRefused table update why) = Some (codes "BadRequestException")
 kind_of (BadLocation place why) = Some (codes "BadRequestException")
+kind_of (LocationOutside location) = Some (codes "BadRequestException")
+kind_of (LocationOverlap location other) = Some (codes "BadRequestException")
 kind_of (Unsupported name) = Some (codes "UnsupportedOperationException")
 kind_of (Limit quantity bound) = Some (codes "BadRequestException")
 kind_of (Reserved name) = Some (codes "BadRequestException")
@@ -68,7 +76,12 @@ message_of (NoSuchRole name) = codes "NoSuchRole: " ++ name
 message_of (NameTaken name) = codes "NameTaken: " ++ name
 message_of (NotEmpty name) = codes "NotEmpty: " ++ name
 message_of (KeyTwice key) = codes "KeyTwice: " ++ key
+message_of (UpdateRefused table update why) =
+    codes "Update " ++ (decimal update ++ (codes " of table " ++ (decimal table ++ (codes " refused: " ++ why_refused.word_of why))))
 message_of (BadLocation place why) = codes "BadLocation of table " ++ (decimal place ++ (codes ": " ++ word_of why))
+message_of (LocationOutside location) = codes "LocationOutside: " ++ location_text location
+message_of (LocationOverlap location other) =
+    codes "LocationOverlap: " ++ (location_text location ++ (codes " and " ++ location_text other))
 message_of (Unsupported name) = codes "Unsupported: " ++ option_text name
 message_of (Limit quantity bound) = codes "Limit: " ++ (quantity_text quantity ++ (codes " " ++ decimal bound))
 message_of (Reserved name) = codes "Reserved: " ++ name

@@ -5,6 +5,7 @@ mod error_body;
 mod json;
 mod management_json;
 mod refusals;
+mod table_json;
 mod texts;
 
 pub use texts::{answer_of, draw_fault_answer, head_refused_answer, refusal_answer};

@@ -35,7 +35,10 @@ pub(crate) fn status_of(refusal: &Refusal) -> u16
 {
     match refusal {
         Refusal::InvalidScope
+        | Refusal::UpdateRefused { .. }
         | Refusal::BadLocation { .. }
+        | Refusal::LocationOutside { .. }
+        | Refusal::LocationOverlap { .. }
         | Refusal::Limit { .. }
         | Refusal::Reserved { .. } => 400,
         Refusal::InvalidClient | Refusal::Unauthenticated => 401,
@@ -68,9 +71,12 @@ pub(crate) fn kind_of(refusal: &Refusal) -> Option<&'static str>
         Refusal::NameTaken { .. } => Some(ALREADY_EXISTS),
         Refusal::NotEmpty { .. } => Some(NAMESPACE_NOT_EMPTY),
         Refusal::KeyTwice { .. } => Some(UNPROCESSABLE_ENTITY),
-        Refusal::BadLocation { .. } | Refusal::Limit { .. } | Refusal::Reserved { .. } => {
-            Some(BAD_REQUEST)
-        }
+        Refusal::UpdateRefused { .. }
+        | Refusal::BadLocation { .. }
+        | Refusal::LocationOutside { .. }
+        | Refusal::LocationOverlap { .. }
+        | Refusal::Limit { .. }
+        | Refusal::Reserved { .. } => Some(BAD_REQUEST),
         Refusal::Unsupported { .. } => Some(UNSUPPORTED_OPERATION),
         Refusal::RunFull { .. } => Some(SERVICE_UNAVAILABLE),
     }
@@ -99,8 +105,15 @@ pub(crate) fn message_of(alloc: Global, refusal: &Refusal) -> Result<String, All
         Refusal::NameTaken { name } => format!(in alloc; "NameTaken: {name}"),
         Refusal::NotEmpty { name } => format!(in alloc; "NotEmpty: {name}"),
         Refusal::KeyTwice { key } => format!(in alloc; "KeyTwice: {key}"),
+        Refusal::UpdateRefused { table, update, why } => format!(in alloc;
+            "Update {update} of table {table} refused: {why}"
+        ),
         Refusal::BadLocation { table, why } => format!(in alloc;
             "BadLocation of table {table}: {why}"
+        ),
+        Refusal::LocationOutside { location } => format!(in alloc; "LocationOutside: {location}"),
+        Refusal::LocationOverlap { location, other } => format!(in alloc;
+            "LocationOverlap: {location} and {other}"
         ),
         Refusal::Unsupported { name } => format!(in alloc; "Unsupported: {name}"),
         Refusal::Limit { quantity, bound } => format!(in alloc; "Limit: {quantity} {bound}"),

@@ -14,6 +14,7 @@ use crate::refusals::{
     BAD_REQUEST, NOT_FOUND, SERVICE_UNAVAILABLE, UNSUPPORTED_OPERATION, kind_of, message_of,
     status_of,
 };
+use crate::table_json::{identifiers_json, loaded_json};
 use pol_commands::{Answer as Done, Refusal, Reply};
 use pol_http::{Answer, Body, HeadRefused};
 use pol_names::Plain;
@@ -35,7 +36,7 @@ pub fn answer_of(alloc: Global, reply: &Reply) -> Result<Answer, OutOfMemory>
 }
 
 /// The answer to a command that is done. Of what has ended or is there nothing is told.
-#[tactic(auto, using(crate::proofs::JsonLemmas::answers_whole, crate::proofs::ManagementJsonLemmas::answers_whole))]
+#[tactic(auto, using(crate::proofs::JsonLemmas::answers_whole, crate::proofs::ManagementJsonLemmas::answers_whole, crate::proofs::TableJsonLemmas::identifiers_whole))]
 fn done_answer(alloc: Global, done: &Done) -> Result<Answer, OutOfMemory>
     ensures { IfOk result (λ answer. answer ≡ spec.done_answer done.now) }
 {
@@ -65,6 +66,17 @@ fn done_answer(alloc: Global, done: &Done) -> Result<Answer, OutOfMemory>
             removed,
             updated,
         } => json_answer(alloc, 200, updated_json(alloc, missing, removed, updated)?),
+        Done::TablesListed(identifiers) => {
+            json_answer(alloc, 200, identifiers_json(alloc, identifiers)?)
+        }
+        Done::TableLoaded {
+            metadata_location,
+            metadata,
+        } => json_answer(
+            alloc,
+            200,
+            loaded_json(alloc, metadata_location, metadata.get())?,
+        ),
         Done::PrincipalsListed(rows) => json_answer(alloc, 200, principals_json(alloc, rows)?),
         Done::PrincipalCreated {
             name,
@@ -88,6 +100,9 @@ fn done_answer(alloc: Global, done: &Done) -> Result<Answer, OutOfMemory>
         Done::CatalogDropped
         | Done::NamespaceThere
         | Done::NamespaceDropped
+        | Done::TableThere
+        | Done::TableDropped
+        | Done::MetricsReported
         | Done::PrincipalDropped
         | Done::RoleDropped
         | Done::MemberEnded

@@ -1,1 +1,2 @@
+pub mod TableBodyLemmas
 pub mod UnreadLemmas

@@ -1,3 +1,4 @@
 pub mod Bodies
 pub mod Body
 pub mod ManagementBodies
+pub mod TableBody

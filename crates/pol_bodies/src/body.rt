@@ -20,7 +20,7 @@ pub fn body_of<F: Form>(alloc: Global, bytes: &[u8]) -> Result<F, Unplanned>
 }
 
 /// Why a body isn't read.
-fn unread(alloc: Global, error: ReadError) -> Unplanned
+pub(crate) fn unread(alloc: Global, error: ReadError) -> Unplanned
     ensures { spec.IsUnread error result }
 {
     match error {

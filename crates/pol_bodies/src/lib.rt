@@ -7,7 +7,9 @@ mod held;
 pub mod keys;
 pub mod laws;
 mod management_bodies;
+mod table_body;
 
 pub use bodies::{CatalogBody, NewCatalog, NewNamespace, PropertyUpdates};
 pub use body::body_of;
 pub use management_bodies::{CatalogRoleBody, GrantBody, PrincipalBody, PrincipalRoleBody};
+pub use table_body::create_table_of;

@@ -3,15 +3,17 @@ use Rattle.std.specs.Prelude.{ℕ, Bool, true, false, List, codes}
 use Rattle.pol_commands.specs.declared.reply.OptionName.{OptionName}
 use Rattle.pol_commands.specs.declared.reply.OptionName.TheVariants as option
 use Rattle.pol_commands.specs.declared.reply.Quantity.{Quantity}
-use Rattle.pol_commands.specs.declared.reply.Quantity.TheVariants.{Catalogs, Principals, PrincipalRoles, CatalogRoles, Members, Joins, Grants, Namespaces, AllowedLocations, Properties, NextId, NextSerial}
+use Rattle.pol_commands.specs.declared.reply.Quantity.TheVariants.{Catalogs, Principals, PrincipalRoles, CatalogRoles, Members, Joins, Grants, Namespaces, Tables, AllowedLocations, Schemas, PartitionSpecs, SortOrders, Refs, Snapshots, Properties, Weight, NextId, NextSerial, Version}
 use Rattle.pol_commands.specs.declared.reply.Refusal.{Refusal}
-use Rattle.pol_commands.specs.declared.reply.Refusal.TheVariants.{RunFull, InvalidClient, InvalidScope, Unauthenticated, NoCatalogue, Forbidden, NoNamespace, NoTable, NoView, NoSuchRole, NameTaken, NotEmpty, KeyTwice, BadLocation, Unsupported, Limit, Reserved}
+use Rattle.pol_commands.specs.declared.reply.Refusal.TheVariants.{RunFull, InvalidClient, InvalidScope, Unauthenticated, NoCatalogue, Forbidden, NoNamespace, NoTable, NoView, NoSuchRole, NameTaken, NotEmpty, KeyTwice, UpdateRefused, BadLocation, LocationOutside, LocationOverlap, Unsupported, Limit, Reserved}
 use Rattle.pol_commands.specs.declared.reply.Reply.{Reply}
 use Rattle.pol_commands.specs.declared.reply.Reply.TheVariants.{Answered, Refused}
 
 -- the name of an option
 abbrev pub option_text : OptionName → List ℕ
 option_text option.Type = codes "type"
+option_text option.StageCreate = codes "stage-create"
+option_text option.FormatVersion = codes "format-version"
 
 -- the name of a quantity
 abbrev pub quantity_text : Quantity → List ℕ
@@ -23,10 +25,18 @@ quantity_text Members = codes "members"
 quantity_text Joins = codes "joins"
 quantity_text Grants = codes "grants"
 quantity_text Namespaces = codes "namespaces"
+quantity_text Tables = codes "tables"
 quantity_text AllowedLocations = codes "allowed locations"
+quantity_text Schemas = codes "schemas"
+quantity_text PartitionSpecs = codes "partition specs"
+quantity_text SortOrders = codes "sort orders"
+quantity_text Refs = codes "refs"
+quantity_text Snapshots = codes "snapshots"
 quantity_text Properties = codes "properties"
+quantity_text Weight = codes "weight"
 quantity_text NextId = codes "next_id"
 quantity_text NextSerial = codes "next_serial"
+quantity_text Version = codes "version"
 
 -- whether a refusal is that the run is full
 abbrev pub is_full : Refusal → Bool
@@ -43,7 +53,10 @@ is_full (NoSuchRole name) = false
 is_full (NameTaken name) = false
 is_full (NotEmpty name) = false
 is_full (KeyTwice key) = false
+is_full (UpdateRefused table update why) = false
 is_full (BadLocation place why) = false
+is_full (LocationOutside location) = false
+is_full (LocationOverlap location other) = false
 is_full (Unsupported name) = false
 is_full (Limit quantity bound) = false
 is_full (Reserved name) = false

@@ -9,3 +9,5 @@ abbrev pub securable_text : SecurableName → List ℕ
 securable_text name.Realm = codes "realm"
 securable_text (name.Catalog catalog) = codes "catalogue " ++ catalog
 securable_text (name.Namespace catalog levels) = codes "namespace " ++ catalog ++ 0x2F ∷ dotted levels
+securable_text (name.Table catalog identifier) =
+    codes "table " ++ catalog ++ 0x2F ∷ dotted identifier.namespace ++ 0x2E ∷ identifier.name

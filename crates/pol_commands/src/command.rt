@@ -1,5 +1,5 @@
-use crate::Grant;
-use pol_names::{Namespace, Plain};
+use crate::{CreateTable, Grant};
+use pol_names::{Identifier, Namespace, Plain};
 use pol_properties::Properties;
 use pol_types::{Bytes, Listed, Text};
 
@@ -32,7 +32,7 @@ pub struct Words4 {
 }
 
 /// What is to be done. Catalogues, principals and roles are named by their names, a namespace by its levels within its
-/// catalogue.
+/// catalogue, and a table by these and its name.
 #[derive(Debug, Drop)]
 pub enum Action {
     /// Opens a session for the principal of a client id, by its secret. A scope is `PRINCIPAL_ROLE:ALL`, or
@@ -87,7 +87,8 @@ pub enum Action {
         catalog: Plain,
         namespace: Namespace,
     },
-    /// Drops a namespace that holds nothing, with the grants on it (Iceberg REST OpenAPI, dropNamespace).
+    /// Drops a namespace that holds neither a namespace nor a table, with the grants on it (Iceberg REST OpenAPI,
+    /// dropNamespace).
     DropNamespace {
         catalog: Plain,
         namespace: Namespace,
@@ -98,6 +99,40 @@ pub enum Action {
         namespace: Namespace,
         removals: Listed<Text>,
         updates: Properties,
+    },
+    /// Lists the tables of a namespace (Iceberg REST OpenAPI, listTables).
+    ListTables {
+        catalog: Plain,
+        namespace: Namespace,
+    },
+    /// Creates a table in a namespace (Iceberg REST OpenAPI, createTable). Where its location isn't given, it is the
+    /// catalogue's base with the levels and the table's name below. Its uuid is made of the first two words.
+    CreateTable {
+        catalog: Plain,
+        namespace: Namespace,
+        request: CreateTable,
+    },
+    /// Shows a table with its metadata (Iceberg REST OpenAPI, loadTable): with all its snapshots, or with those alone
+    /// that its references name.
+    LoadTable {
+        catalog: Plain,
+        identifier: Identifier,
+        refs_only: bool,
+    },
+    /// Tells whether a table is there (Iceberg REST OpenAPI, tableExists).
+    HeadTable {
+        catalog: Plain,
+        identifier: Identifier,
+    },
+    /// Drops a table with the grants on it; its files stay (Iceberg REST OpenAPI, dropTable).
+    DropTable {
+        catalog: Plain,
+        identifier: Identifier,
+    },
+    /// Takes a report on the use of a table, of which nothing is kept (Iceberg REST OpenAPI, reportMetrics).
+    ReportMetrics {
+        catalog: Plain,
+        identifier: Identifier,
     },
     /// Lists all principals.
     ListPrincipals,

@@ -2,11 +2,13 @@
 #![tactic(auto)]
 
 mod command;
+mod create_table;
 mod grants;
 mod reply;
 mod securables;
 
 pub use command::{Action, Caller, Command, Words4};
+pub use create_table::CreateTable;
 pub use grants::{Grant, GrantedOn};
 pub use reply::{Answer, OptionName, Quantity, Refusal, Reply};
 pub use securables::SecurableName;

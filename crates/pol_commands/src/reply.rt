@@ -3,8 +3,9 @@ ghost use Rattle.pol_commands.specs.Reply.{is_run_full, option_text, quantity_te
 
 use crate::{Grant, SecurableName};
 use pol_access::{PrincipalRow, Privilege};
-use pol_content::CatalogRow;
-use pol_locations::LocationRefused;
+use pol_content::{CatalogRow, Handle};
+use pol_locations::{Location, LocationRefused};
+use pol_meta::{TableMetadata, Why};
 use pol_names::{Identifier, Namespace, Plain};
 use pol_properties::Properties;
 use pol_types::{Listed, Text};
@@ -70,6 +71,20 @@ pub enum Answer {
         removed: Listed<Text>,
         updated: Listed<Text>,
     },
+    /// The tables that were asked for, in byte order of their names.
+    TablesListed(Listed<Identifier>),
+    /// This table was created, or asked for: where its metadata is, and the metadata, shared with its row where all of
+    /// it was asked for.
+    TableLoaded {
+        metadata_location: Text,
+        metadata: Handle<TableMetadata>,
+    },
+    /// A table is there.
+    TableThere,
+    /// A table was dropped.
+    TableDropped,
+    /// A report on a table was taken.
+    MetricsReported,
     /// All principals, in byte order of their names.
     PrincipalsListed(Listed<PrincipalRow>),
     /// This principal was created, with this secret.
@@ -166,10 +181,26 @@ pub enum Refusal {
     KeyTwice {
         key: Text,
     },
+    /// What a table is to be made of, or an update of it, is refused. The places are those of the table and of the
+    /// update in the request, from 0; a table that is created has the place 0 for both.
+    UpdateRefused {
+        table: u64,
+        update: u64,
+        why: Why,
+    },
     /// A text that is to be a location is none. The table is the place of the table in the request, from 0.
     BadLocation {
         table: u64,
         why: LocationRefused,
+    },
+    /// The location lies neither below the catalogue's base nor below a location that is allowed beside it.
+    LocationOutside {
+        location: Location,
+    },
+    /// The location and another table's overlap.
+    LocationOverlap {
+        location: Location,
+        other: Location,
     },
     /// The command holds an option that isn't supported.
     Unsupported {
@@ -191,6 +222,10 @@ pub enum Refusal {
 pub enum OptionName {
     /// The type of a catalogue that isn't internal.
     Type,
+    /// That a table is only to be staged.
+    StageCreate,
+    /// A format version other than 2.
+    FormatVersion,
 }
 
 impl fmt::Display for OptionName {
@@ -199,6 +234,8 @@ impl fmt::Display for OptionName {
     fn fmt<W: fmt::Write>(&self, f: &mut fmt::Formatter<W>) -> fmt::Result {
         match self {
             OptionName::Type => f.write_str("type"),
+            OptionName::StageCreate => f.write_str("stage-create"),
+            OptionName::FormatVersion => f.write_str("format-version"),
         }
     }
 }
@@ -214,10 +251,18 @@ pub enum Quantity {
     Joins,
     Grants,
     Namespaces,
+    Tables,
     AllowedLocations,
+    Schemas,
+    PartitionSpecs,
+    SortOrders,
+    Refs,
+    Snapshots,
     Properties,
+    Weight,
     NextId,
     NextSerial,
+    Version,
 }
 
 impl fmt::Display for Quantity {
@@ -233,10 +278,18 @@ impl fmt::Display for Quantity {
             Quantity::Joins => "joins",
             Quantity::Grants => "grants",
             Quantity::Namespaces => "namespaces",
+            Quantity::Tables => "tables",
             Quantity::AllowedLocations => "allowed locations",
+            Quantity::Schemas => "schemas",
+            Quantity::PartitionSpecs => "partition specs",
+            Quantity::SortOrders => "sort orders",
+            Quantity::Refs => "refs",
+            Quantity::Snapshots => "snapshots",
             Quantity::Properties => "properties",
+            Quantity::Weight => "weight",
             Quantity::NextId => "next_id",
             Quantity::NextSerial => "next_serial",
+            Quantity::Version => "version",
         })
     }
 }

@@ -1,7 +1,7 @@
 ghost use Rattle.std.specs.Prelude.{Some};
 ghost use Rattle.pol_commands.specs.Securables.{securable_text};
 
-use pol_names::{Namespace, Plain};
+use pol_names::{Identifier, Namespace, Plain};
 use std::fmt;
 
 /// A securable as a refusal shows it.
@@ -15,6 +15,10 @@ pub enum SecurableName {
         catalog: Plain,
         namespace: Namespace,
     },
+    Table {
+        catalog: Plain,
+        identifier: Identifier,
+    },
 }
 
 impl fmt::Display for SecurableName {
@@ -27,6 +31,10 @@ impl fmt::Display for SecurableName {
             SecurableName::Namespace { catalog, namespace } => {
                 write!(f, "namespace {catalog}/{namespace}")
             }
+            SecurableName::Table {
+                catalog,
+                identifier,
+            } => write!(f, "table {catalog}/{identifier}"),
         }
     }
 }

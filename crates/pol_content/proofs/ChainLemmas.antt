@@ -12,7 +12,9 @@ use Rattle.pol_access.specs.declared.securable.Securable.TheVariants.{Realm, Cat
 use Rattle.pol_names.specs.Namespace.{parent_of}
 use Rattle.pol_tables.specs.Table.{row_of, IdsDiffer, has_id}
 use Rattle.pol_tables.proofs.TableLemmas.{key-row_of, some_is}
-use Rattle.pol_content.specs.Chain.{first_or, namespace_at, parents_out, Encloses, EnclosesRow, uppers_of_found}
+use Rattle.pol_table_rows.specs.Tables.{table_id}
+use Rattle.pol_table_rows.specs.declared.row.TableRow.{TableRow}
+use Rattle.pol_content.specs.Chain.{first_or, namespace_at, namespace_chain, parents_out, table_uppers, Encloses, EnclosesNamespace, EnclosesRow, uppers_of_found}
 use Rattle.pol_content.specs.Content.{is_namespace_named, lies_below, namespace_id, namespace_named, same_levels, ContentRows, NamespaceNamesDiffer}
 use Rattle.pol_content.specs.Laws.{ChainsHaveWhatContains, DeepestPartsAreFirst}
 use Rattle.pol_content.specs.declared.rows.NamespaceRow.{NamespaceRow}
@@ -169,23 +171,43 @@ first-or-later x y xs has = elim (Contains-append_cases (x ∷ []) xs y has) [ i
 first-has : {X : Type 0} (x y : X) (xs : List X) → y ≡ x → Contains (x ∷ xs) y
 first-has x y xs is = subst (Contains (x ∷ xs)) (sym is) (Contains-append_left (x ∷ []) xs x (Contains-push [] x))
 
-pub chains_have : ChainsHaveWhatContains
-chains_have content Realm one ids names filled = (λ has. inl (sym (only Realm one has)), λ either. elim either [ inl is ↦ first-has Realm one [] is | inr none ↦ absurd none ])
-chains_have content (Catalog id) one ids names filled = (λ has. inl (sym (only (Catalog id) one has)), λ either. elim either [ inl is ↦ first-has (Catalog id) one [] is | inr none ↦ absurd none ])
-chains_have content (Table id) one ids names filled = (λ has. inl (sym (only (Table id) one has)), λ either. elim either [ inl is ↦ first-has (Table id) one [] is | inr none ↦ absurd none ])
-chains_have content (View id) one ids names filled = (λ has. inl (sym (only (View id) one has)), λ either. elim either [ inl is ↦ first-has (View id) one [] is | inr none ↦ absurd none ])
-chains_have content (Namespace id) one ids names filled = (
-  λ has. elim (first-or-later (Namespace id) one (uppers_of_found (row_of namespace_id id content.namespaces) content) has) [
+-- a namespace's chain has it and what contains it
+module _ (content : ContentRows) (ids : IdsDiffer namespace_id content.namespaces) (names : NamespaceNamesDiffer content.namespaces) (filled : AllByRecursion (λ row. 0 < length row.levels) content.namespaces) (id : ℕ) (one : Securable) where
+  encloses : (found : Option NamespaceRow) → row_of namespace_id id content.namespaces ≡ found → Contains (uppers_of_found found content) one → EnclosesNamespace content one id
+  encloses None is has = absurd (omega (arith, has.1))
+  encloses (Some row) is has = (row, is, uppers-enclose content ids row one has)
+
+  namespace-out : Contains (namespace_chain id content) one → (one ≡ Namespace id) ⊎ EnclosesNamespace content one id
+  namespace-out has = elim (first-or-later (Namespace id) one (uppers_of_found (row_of namespace_id id content.namespaces) content) has) [
     | inl is ↦ inl is
     | inr later ↦ inr (encloses (row_of namespace_id id content.namespaces) refl later)
-  ],
-  λ either. elim either [
+  ]
+
+  namespace-in : (one ≡ Namespace id) ⊎ EnclosesNamespace content one id → Contains (namespace_chain id content) one
+  namespace-in either = elim either [
     | inl is ↦ first-has (Namespace id) one (uppers_of_found (row_of namespace_id id content.namespaces) content) is
     | inr has ↦
         Contains-append_right (Namespace id ∷ []) (uppers_of_found (row_of namespace_id id content.namespaces) content) one (subst (λ found. Contains (uppers_of_found found content) one) (sym has.1) (uppers-have content ids names filled has.0 one has.2))
+  ]
+
+pub chains_have : ChainsHaveWhatContains
+chains_have content Realm one ids names filled = (λ has. inl (sym (only Realm one has)), λ either. elim either [ inl is ↦ first-has Realm one [] is | inr none ↦ absurd none ])
+chains_have content (Catalog id) one ids names filled = (λ has. inl (sym (only (Catalog id) one has)), λ either. elim either [ inl is ↦ first-has (Catalog id) one [] is | inr none ↦ absurd none ])
+chains_have content (View id) one ids names filled = (λ has. inl (sym (only (View id) one has)), λ either. elim either [ inl is ↦ first-has (View id) one [] is | inr none ↦ absurd none ])
+chains_have content (Namespace id) one ids names filled =
+    (namespace-out content ids names filled id one, namespace-in content ids names filled id one)
+chains_have content (Table id) one ids names filled = (
+  λ has. elim (first-or-later (Table id) one (table_uppers (row_of table_id id content.tables) content) has) [
+    | inl is ↦ inl is
+    | inr later ↦ inr (table-encloses (row_of table_id id content.tables) refl later)
+  ],
+  λ either. elim either [
+    | inl is ↦ first-has (Table id) one (table_uppers (row_of table_id id content.tables) content) is
+    | inr has ↦
+        Contains-append_right (Table id ∷ []) (table_uppers (row_of table_id id content.tables) content) one (subst (λ found. Contains (table_uppers found content) one) (sym has.1) (namespace-in content ids names filled has.0.namespace one has.2))
   ],
 )
   where
-    encloses : (found : Option NamespaceRow) → row_of namespace_id id content.namespaces ≡ found → Contains (uppers_of_found found content) one → Encloses content one (Namespace id)
-    encloses None is has = absurd (omega (arith, has.1))
-    encloses (Some row) is has = (row, is, uppers-enclose content ids row one has)
+    table-encloses : (found : Option TableRow) → row_of table_id id content.tables ≡ found → Contains (table_uppers found content) one → Encloses content one (Table id)
+    table-encloses None is has = absurd (omega (arith, has.1))
+    table-encloses (Some row) is has = (row, is, namespace-out content ids names filled row.namespace one has)

@@ -1,21 +1,27 @@
--- Sound catalogues and namespaces stay sound once a row is pushed, altered or taken away.
+-- Sound catalogues, namespaces and tables stay sound once a row is pushed, altered or taken away.
 use Rattle.std.proofs.Common.{◌≡◌, ℕ, ◌+◌, ◌-◌, ◌<◌, ◌≤◌, Bool, true, false, not, cond, ◌&&◌, ◌||◌, List, [], ◌∷◌, ◌++◌, map, filter, take, length, Option, Some, None, is_none, is_some, nat_eq, nat_lt, refl, sym, ap, subst, ◌∙◌, inl, inr, true≢false, arith, length-take-le, suc, zero}
 use Rattle.std.specs.Cmp.{IsEquivalence, and_equiv, nat_eq_equiv, on_equiv}
 use Rattle.std.specs.Cmp.Lexicographic.{lists_equiv, nat_list_eq_equiv, same_text}
 use Rattle.std.specs.List.{find, list_any, range_with_len, AllByRecursion, IsDistinct}
-use Rattle.std.proofs.lemmas.Bool.{and_from, and_parts, cases_Bool, eq-eqb, eqb-true, lt-ltb, ltb-true, ne_eqb}
+use Rattle.std.proofs.lemmas.Bool.{and_from, and_parts, cases_Bool, eq-eqb, eqb-true, lt-ltb, ltb-true, ne_eqb, or_parts}
+use Rattle.std.proofs.Math.Bool.{or_comm}
 use Rattle.std.proofs.lemmas.List.{take_all}
 use Rattle.std.proofs.lemmas.Map.Keys.{IsDistinct-cons, IsDistinct-head, IsDistinct-push, IsDistinct-tail}
 use Rattle.pol_types.specs.Exact.{pointwise_exact}
 use Rattle.pol_names.specs.Namespace.{parent_of}
 use Rattle.pol_tables.specs.Table.{has_id, knows, row_of, rows_with, rows_without, IdsDiffer}
-use Rattle.pol_tables.proofs.ListLemmas.{each-all, each-filter, each-join, each-map, each-push, each-weaken}
+use Rattle.pol_locations.specs.LocationSet.{is_clash}
+use Rattle.pol_locations.specs.Location.{is_cover, is_overlap}
+use Rattle.pol_tables.proofs.ListLemmas.{and_true, each-all, each-filter, each-join, each-map, each-push, each-weaken}
 use Rattle.pol_tables.proofs.NamedLemmas.{each-own}
 use Rattle.pol_tables.proofs.NumberedLemmas.{AreNumbered-filter, AreNumbered-map, AreNumbered-more, AreNumbered-push, below-next}
 use Rattle.pol_tables.proofs.RisingLemmas.{IdsDiffer-rising, knows-below}
 use Rattle.pol_tables.proofs.TableLemmas.{is_some-row_of, rows_with-known, some_is}
+use Rattle.pol_table_rows.specs.Sound.{IsSoundTable}
+use Rattle.pol_table_rows.specs.Tables.{holds_table, is_table_named, member_of, overlapping, table_id, table_named}
+use Rattle.pol_table_rows.specs.declared.row.TableRow.{TableRow}
 use Rattle.pol_content.specs.Content.{catalog_id, first_missing, is_catalog_named, is_missing, is_namespace_named, ContentRows, lies_below, namespace_id, none_below, same_levels, catalog_is_empty, catalog_named, is_empty, namespace_named}
-use Rattle.pol_content.specs.Sound.{HasParent, IsParentThere, IsSoundContent}
+use Rattle.pol_content.specs.Sound.{AreSoundTables, HasParent, IsParentThere, IsSoundContent}
 use Rattle.pol_content.specs.declared.rows.CatalogRow.{CatalogRow}
 use Rattle.pol_content.specs.declared.rows.NamespaceRow.{NamespaceRow}
 use Rattle.pol_access.proofs.KeptLemmas.{any-push, any-kept, any-fewer, knows-push, not-true, map-each, goes-last, distinct-kept}
@@ -43,6 +49,13 @@ module _ {X : Type 0} (equal : X → X → Bool) where
   distinct-map alter alike (x ∷ xs) differ =
       IsDistinct-cons equal (alter x) (map alter xs) (each-map (λ other. equal (alter x) other ≡ false) alter xs (each-weaken (λ other. equal x other ≡ false) (λ other. equal (alter x) (alter other) ≡ false) xs (λ other apart. alike x other ∙ apart) (IsDistinct-head equal x xs differ))) (distinct-map alter alike xs (IsDistinct-tail equal x xs differ))
 
+  -- one more that is like none may be pushed, where likeness goes both ways
+  distinct-push : ((left right : X) → equal left right ≡ equal right left) → (xs : List X) (x : X) → IsDistinct equal xs → list_any (equal x) xs ≡ false → IsDistinct equal (xs ++ x ∷ [])
+  distinct-push symmetric [] x differ none = IsDistinct-cons equal x [] tt differ
+  distinct-push symmetric (y ∷ ys) x differ none =
+      let parts = or_parts (equal x y) (list_any (equal x) ys) none in
+      IsDistinct-cons equal y (ys ++ x ∷ []) (each-push (λ other. equal y other ≡ false) ys x (IsDistinct-head equal y ys differ) (symmetric y x ∙ parts.0)) (distinct-push symmetric ys x (IsDistinct-tail equal y ys differ) parts.1)
+
 abbrev same_catalog : CatalogRow → CatalogRow → Bool
 same_catalog left right = is_catalog_named left.name right
 
@@ -55,10 +68,47 @@ same_catalog-equiv = on_equiv (λ row. row.name) nat_list_eq_equiv
 same_namespace-equiv : IsEquivalence same_namespace
 same_namespace-equiv = and_equiv (on_equiv (λ row. row.catalog) nat_eq_equiv) (on_equiv (λ row. row.levels) (lists_equiv nat_list_eq_equiv))
 
+abbrev same_table : TableRow → TableRow → Bool
+same_table left right = is_table_named left.namespace left.name right
+
+same_table-equiv : IsEquivalence same_table
+same_table-equiv = and_equiv (on_equiv (λ row. row.namespace) nat_eq_equiv) (on_equiv (λ row. row.name) nat_list_eq_equiv)
+
+overlap-symmetric : (a b : List (List ℕ)) → is_overlap a b ≡ is_overlap b a
+overlap-symmetric a b = or_comm (is_cover a b) (is_cover b a)
+
+abbrev overlap_rows : TableRow → TableRow → Bool
+overlap_rows left right = is_overlap left.location right.location
+
 module _ {X : Type 0} (test : X → Bool) where
   any-alike : (alter : X → X) → ((x : X) → test (alter x) ≡ test x) → (xs : List X) → list_any test (map alter xs) ≡ list_any test xs
   any-alike alter alike [] = refl
   any-alike alter alike (x ∷ xs) = λ i. alike x i || any-alike alter alike xs i
+
+-- a row of another id than one that goes stays
+other-stays : {R : Type 0} (key : R → ℕ) (id gone : ℕ) → nat_eq id gone ≡ false → (row : R) → has_id key id row ≡ true → not (has_id key gone row) ≡ true
+other-stays key id gone apart row has =
+    ap not (nat_eq_equiv.symm gone (key row) ∙ ap (λ n. nat_eq n gone) (sym (eqb-true id (key row) has)) ∙ apart)
+
+-- tables stay sound where more ids are given out, none of theirs is taken, and each one's namespace is there
+module _ (low high : ℕ) (content : ContentRows) (catalogs : List CatalogRow) (namespaces : List NamespaceRow) where
+  abbrev is_taken : ℕ → Bool
+  is_taken id = knows catalog_id id content.catalogs || knows namespace_id id content.namespaces
+
+  abbrev is_taken_after : ℕ → Bool
+  is_taken_after id = knows catalog_id id catalogs || knows namespace_id id namespaces
+
+  tables_kept : low ≤ high → ((id : ℕ) → id < low → is_taken id ≡ false → is_taken_after id ≡ false)
+      → AllByRecursion (λ row. knows namespace_id row.namespace content.namespaces ≡ true → knows namespace_id row.namespace namespaces ≡ true) content.tables
+      → AreSoundTables low content → AreSoundTables high (record content { catalogs = catalogs; namespaces = namespaces })
+  tables_kept within apart there sound = record {
+    numbered = AreNumbered-more table_id low high within content.tables sound.numbered;
+    ids_differ = each-join (λ row. table_id row < low) (λ row. is_taken row.id ≡ false) (λ row. is_taken_after row.id ≡ false) content.tables (λ row under none. apart row.id under none) (below-next table_id low content.tables sound.numbered) sound.ids_differ;
+    names_differ = sound.names_differ;
+    namespaces = each-join (λ row. knows namespace_id row.namespace content.namespaces ≡ true → knows namespace_id row.namespace namespaces ≡ true) (λ row. knows namespace_id row.namespace content.namespaces ≡ true) (λ row. knows namespace_id row.namespace namespaces ≡ true) content.tables (λ row stays known. stays known) there sound.namespaces;
+    apart = sound.apart;
+    each = sound.each;
+  }
 
 -- rows stay sound where more ids are given out
 pub more_ids : (low high : ℕ) (content : ContentRows) → low ≤ high → IsSoundContent low content → IsSoundContent high content
@@ -70,6 +120,14 @@ more_ids low high content within sound = record {
   namespace_names_differ = sound.namespace_names_differ;
   namespace_catalogs = sound.namespace_catalogs;
   namespace_parents = sound.namespace_parents;
+  tables = record {
+    numbered = AreNumbered-more table_id low high within content.tables sound.tables.numbered;
+    ids_differ = sound.tables.ids_differ;
+    names_differ = sound.tables.names_differ;
+    namespaces = sound.tables.namespaces;
+    apart = sound.tables.apart;
+    each = sound.tables.each;
+  };
 }
 
 one_more : (n : ℕ) → n ≤ n + 1
@@ -87,10 +145,17 @@ pushed_catalog next_id content row sound first is new = record {
   namespace_names_differ = sound.namespace_names_differ;
   namespace_catalogs = each-weaken (λ kept. knows catalog_id kept.catalog content.catalogs ≡ true) (λ kept. knows catalog_id kept.catalog (content.catalogs ++ row ∷ []) ≡ true) content.namespaces (λ kept there. any-push (has_id catalog_id kept.catalog) content.catalogs row there) sound.namespace_catalogs;
   namespace_parents = sound.namespace_parents;
+  tables = tables_kept next_id (next_id + 1) content (content.catalogs ++ row ∷ []) content.namespaces (one_more next_id) untaken (each-all (λ kept. knows namespace_id kept.namespace content.namespaces ≡ true → knows namespace_id kept.namespace content.namespaces ≡ true) content.tables (λ kept known. known)) sound.tables;
 }
   where
     apart : (kept : NamespaceRow) → namespace_id kept < next_id → has_id catalog_id kept.id row ≡ false
     apart kept under = ne_eqb kept.id row.id (λ same. omega (arith, under, is, same))
+
+    untaken : (id : ℕ) → id < next_id → (knows catalog_id id content.catalogs || knows namespace_id id content.namespaces) ≡ false → (knows catalog_id id (content.catalogs ++ row ∷ []) || knows namespace_id id content.namespaces) ≡ false
+    untaken id under none =
+        let parts = or_parts (knows catalog_id id content.catalogs) (knows namespace_id id content.namespaces) none in
+        let new : has_id catalog_id id row ≡ false = ne_eqb id row.id (λ same. omega (arith, under, is, same)) in
+        λ i. (knows-push catalog_id id row content.catalogs ∙ (λ j. parts.0 j || new j)) i || parts.1 i
 
 parent-push : (row : NamespaceRow) (rows : List NamespaceRow) (catalog : ℕ) (parent : Option (List (List ℕ))) → IsParentThere rows catalog parent → IsParentThere (rows ++ row ∷ []) catalog parent
 parent-push row rows catalog None there = tt
@@ -109,7 +174,51 @@ pushed_namespace next_id content row sound first is there parent new = record {
   namespace_names_differ = IsDistinct-push same_namespace-equiv content.namespaces row sound.namespace_names_differ (none-found (is_namespace_named row.catalog row.levels) content.namespaces new);
   namespace_catalogs = each-push (λ kept. knows catalog_id kept.catalog content.catalogs ≡ true) content.namespaces row sound.namespace_catalogs there;
   namespace_parents = each-push (HasParent (content.namespaces ++ row ∷ [])) content.namespaces row (each-weaken (HasParent content.namespaces) (HasParent (content.namespaces ++ row ∷ [])) content.namespaces (λ kept. parent-push row content.namespaces kept.catalog (parent_of kept.levels)) sound.namespace_parents) (parent-push row content.namespaces row.catalog (parent_of row.levels) parent);
+  tables = tables_kept next_id (next_id + 1) content content.catalogs (content.namespaces ++ row ∷ []) (one_more next_id) untaken (each-all (λ kept. knows namespace_id kept.namespace content.namespaces ≡ true → knows namespace_id kept.namespace (content.namespaces ++ row ∷ []) ≡ true) content.tables (λ kept known. any-push (has_id namespace_id kept.namespace) content.namespaces row known)) sound.tables;
 }
+  where
+    untaken : (id : ℕ) → id < next_id → (knows catalog_id id content.catalogs || knows namespace_id id content.namespaces) ≡ false → (knows catalog_id id content.catalogs || knows namespace_id id (content.namespaces ++ row ∷ [])) ≡ false
+    untaken id under none =
+        let parts = or_parts (knows catalog_id id content.catalogs) (knows namespace_id id content.namespaces) none in
+        let fresh : has_id namespace_id id row ≡ false = ne_eqb id row.id (λ same. omega (arith, under, is, same)) in
+        λ i. parts.0 i || (knows-push namespace_id id row content.namespaces ∙ (λ j. parts.1 j || fresh j)) i
+
+-- a table with the next id and a new name may be pushed into a namespace that is there, where no table overlaps it
+pub pushed_table : (next_id : ℕ) (content : ContentRows) (row : TableRow) → IsSoundContent next_id content → 1 ≤ next_id → row.id ≡ next_id
+    → knows namespace_id row.namespace content.namespaces ≡ true → table_named row.namespace row.name content.tables ≡ None
+    → overlapping row.location [] content.tables ≡ None → IsSoundTable row
+    → IsSoundContent (next_id + 1) (record content { tables = content.tables ++ row ∷ [] })
+pushed_table next_id content row sound first is there new free itself = record {
+  catalogs = AreNumbered-more catalog_id next_id (next_id + 1) (one_more next_id) content.catalogs sound.catalogs;
+  namespaces = AreNumbered-more namespace_id next_id (next_id + 1) (one_more next_id) content.namespaces sound.namespaces;
+  ids_differ = sound.ids_differ;
+  catalog_names_differ = sound.catalog_names_differ;
+  namespace_names_differ = sound.namespace_names_differ;
+  namespace_catalogs = sound.namespace_catalogs;
+  namespace_parents = sound.namespace_parents;
+  tables = record {
+    numbered = AreNumbered-push table_id next_id row content.tables first is sound.tables.numbered;
+    ids_differ = each-push (λ kept. (knows catalog_id kept.id content.catalogs || knows namespace_id kept.id content.namespaces) ≡ false) content.tables row sound.tables.ids_differ untaken;
+    names_differ = IsDistinct-push same_table-equiv content.tables row sound.tables.names_differ (none-found (is_table_named row.namespace row.name) content.tables new);
+    namespaces = each-push (λ kept. knows namespace_id kept.namespace content.namespaces ≡ true) content.tables row sound.tables.namespaces there;
+    apart = distinct-push overlap_rows (λ left right. overlap-symmetric left.location right.location) content.tables row sound.tables.apart (none-overlaps content.tables (none-found (λ kept. is_clash row.location [] (member_of kept)) content.tables free));
+    each = each-push IsSoundTable content.tables row sound.tables.each itself;
+  };
+}
+  where
+    untaken : (knows catalog_id row.id content.catalogs || knows namespace_id row.id content.namespaces) ≡ false
+    untaken =
+        let catalogs : knows catalog_id row.id content.catalogs ≡ false = ap (λ id. knows catalog_id id content.catalogs) is ∙ knows-below catalog_id next_id content.catalogs (below-next catalog_id next_id content.catalogs sound.catalogs) in
+        let namespaces : knows namespace_id row.id content.namespaces ≡ false = ap (λ id. knows namespace_id id content.namespaces) is ∙ knows-below namespace_id next_id content.namespaces (below-next namespace_id next_id content.namespaces sound.namespaces) in
+        λ i. catalogs i || namespaces i
+
+    -- with no id left out a clash is an overlap
+    none-overlaps : (rows : List TableRow) → list_any (λ kept. is_clash row.location [] (member_of kept)) rows ≡ false → list_any (overlap_rows row) rows ≡ false
+    none-overlaps [] none = refl
+    none-overlaps (kept ∷ rows) none =
+        let parts = or_parts (is_clash row.location [] (member_of kept)) (list_any (λ one. is_clash row.location [] (member_of one)) rows) none in
+        let clear : overlap_rows row kept ≡ false = overlap-symmetric row.location kept.location ∙ sym (and_true (is_overlap kept.location row.location)) ∙ parts.0 in
+        λ i. clear i || none-overlaps rows parts.1 i
 
 parent-map : (alter : NamespaceRow → NamespaceRow) → ((row : NamespaceRow) → (alter row).catalog ≡ row.catalog) → ((row : NamespaceRow) → (alter row).levels ≡ row.levels) → (rows : List NamespaceRow) (catalog : ℕ) (parent : Option (List (List ℕ))) → IsParentThere rows catalog parent → IsParentThere (map alter rows) catalog parent
 parent-map alter catalogs levels rows catalog None there = tt
@@ -127,8 +236,12 @@ altered_namespaces next_id content alter ids catalogs levels sound = record {
   namespace_names_differ = distinct-map same_namespace alter (λ left right i. nat_eq (catalogs left i) (catalogs right i) && same_levels (levels left i) (levels right i)) content.namespaces sound.namespace_names_differ;
   namespace_catalogs = each-map (λ kept. knows catalog_id kept.catalog content.catalogs ≡ true) alter content.namespaces (each-weaken (λ kept. knows catalog_id kept.catalog content.catalogs ≡ true) (λ kept. knows catalog_id (alter kept).catalog content.catalogs ≡ true) content.namespaces (λ kept there. ap (λ id. knows catalog_id id content.catalogs) (catalogs kept) ∙ there) sound.namespace_catalogs);
   namespace_parents = each-map (HasParent (map alter content.namespaces)) alter content.namespaces (each-weaken (HasParent content.namespaces) (λ kept. HasParent (map alter content.namespaces) (alter kept)) content.namespaces parent sound.namespace_parents);
+  tables = tables_kept next_id next_id content content.catalogs (map alter content.namespaces) (omega arith) (λ id under none. (λ i. knows catalog_id id content.catalogs || known-alike id i) ∙ none) (each-all (λ kept. knows namespace_id kept.namespace content.namespaces ≡ true → knows namespace_id kept.namespace (map alter content.namespaces) ≡ true) content.tables (λ kept known. known-alike kept.namespace ∙ known)) sound.tables;
 }
   where
+    known-alike : (id : ℕ) → knows namespace_id id (map alter content.namespaces) ≡ knows namespace_id id content.namespaces
+    known-alike id = any-alike (has_id namespace_id id) alter (λ row i. nat_eq id (ids row i)) content.namespaces
+
     parent : (kept : NamespaceRow) → HasParent content.namespaces kept → HasParent (map alter content.namespaces) (alter kept)
     parent kept there =
         subst (λ catalog. IsParentThere (map alter content.namespaces) catalog (parent_of (alter kept).levels)) (sym (catalogs kept)) (subst (λ names. IsParentThere (map alter content.namespaces) kept.catalog (parent_of names)) (sym (levels kept)) (parent-map alter catalogs levels content.namespaces kept.catalog (parent_of kept.levels) there))
@@ -169,14 +282,18 @@ replaced_namespace next_id content old row sound found catalogs levels =
     let known : knows namespace_id row.id rows ≡ true = sym (is_some-row_of namespace_id row.id rows) ∙ ap is_some found in
     let owns = each-own namespace_id rows (IdsDiffer-rising namespace_id rows sound.namespaces.rise) in
     let alike = map-each (λ kept. cond (has_id namespace_id row.id kept) row kept) (alter_one row) rows (each-weaken (λ kept. row_of namespace_id kept.id rows ≡ Some kept) (λ kept. cond (has_id namespace_id row.id kept) row kept ≡ alter_one row kept) rows (λ kept own. is_altered row old rows found catalogs levels kept own (has_id namespace_id row.id kept) refl) owns) in
-    subst (λ after. IsSoundContent next_id (record { catalogs = content.catalogs; namespaces = after })) (sym (rows_with-known namespace_id row rows known ∙ alike)) (altered_namespaces next_id content (alter_one row) (λ kept. refl) (λ kept. refl) (λ kept. refl) sound)
+    subst (λ after. IsSoundContent next_id (record { catalogs = content.catalogs; namespaces = after; tables = content.tables })) (sym (rows_with-known namespace_id row rows known ∙ alike)) (altered_namespaces next_id content (alter_one row) (λ kept. refl) (λ kept. refl) (λ kept. refl) sound)
 
 -- a row with the next id goes last
 pub new_rows_last : (next_id : ℕ) (content : ContentRows) → IsSoundContent next_id content
     → ((row : CatalogRow) → row.id ≡ next_id → rows_with catalog_id row content.catalogs ≡ content.catalogs ++ row ∷ [])
     × ((row : NamespaceRow) → row.id ≡ next_id → rows_with namespace_id row content.namespaces ≡ content.namespaces ++ row ∷ [])
-new_rows_last next_id content sound =
-    (goes-last catalog_id next_id content.catalogs sound.catalogs, goes-last namespace_id next_id content.namespaces sound.namespaces)
+    × ((row : TableRow) → row.id ≡ next_id → rows_with table_id row content.tables ≡ content.tables ++ row ∷ [])
+new_rows_last next_id content sound = (
+  goes-last catalog_id next_id content.catalogs sound.catalogs,
+  goes-last namespace_id next_id content.namespaces sound.namespaces,
+  goes-last table_id next_id content.tables sound.tables.numbered,
+)
 
 -- where none is found along a row of numbers, the last fails the test
 last-fails : {X : Type 0} (test : X → Bool) (at : ℕ → X) (many first : ℕ) → find test (map at (range_with_len first (suc many))) ≡ None → test (at (first + many)) ≡ false
@@ -248,13 +365,15 @@ dropped_catalog next_id id content sound empty = record {
   ids_differ = each-weaken (λ kept. knows catalog_id kept.id content.catalogs ≡ false) (λ kept. knows catalog_id kept.id (filter (λ row. not (has_id catalog_id id row)) content.catalogs) ≡ false) content.namespaces (λ kept unknown. any-fewer (has_id catalog_id kept.id) (λ row. not (has_id catalog_id id row)) content.catalogs unknown) sound.ids_differ;
   catalog_names_differ = distinct-kept same_catalog (λ row. not (has_id catalog_id id row)) content.catalogs sound.catalog_names_differ;
   namespace_names_differ = sound.namespace_names_differ;
-  namespace_catalogs = each-join (λ kept. nat_eq kept.catalog id ≡ false) (λ kept. knows catalog_id kept.catalog content.catalogs ≡ true) (λ kept. knows catalog_id kept.catalog (filter (λ row. not (has_id catalog_id id row)) content.catalogs) ≡ true) content.namespaces (λ kept apart there. any-kept (has_id catalog_id kept.catalog) (λ row. not (has_id catalog_id id row)) content.catalogs (each-all (λ row. has_id catalog_id kept.catalog row ≡ true → not (has_id catalog_id id row) ≡ true) content.catalogs (stays kept.catalog apart)) there) (each-fails (λ row. nat_eq row.catalog id) content.namespaces (not-true (list_any (λ row. nat_eq row.catalog id) content.namespaces) empty)) sound.namespace_catalogs;
+  namespace_catalogs = each-join (λ kept. nat_eq kept.catalog id ≡ false) (λ kept. knows catalog_id kept.catalog content.catalogs ≡ true) (λ kept. knows catalog_id kept.catalog (filter (λ row. not (has_id catalog_id id row)) content.catalogs) ≡ true) content.namespaces (λ kept apart there. any-kept (has_id catalog_id kept.catalog) (λ row. not (has_id catalog_id id row)) content.catalogs (each-all (λ row. has_id catalog_id kept.catalog row ≡ true → not (has_id catalog_id id row) ≡ true) content.catalogs (other-stays catalog_id kept.catalog id apart)) there) (each-fails (λ row. nat_eq row.catalog id) content.namespaces (not-true (list_any (λ row. nat_eq row.catalog id) content.namespaces) empty)) sound.namespace_catalogs;
   namespace_parents = sound.namespace_parents;
+  tables = tables_kept next_id next_id content (filter (λ row. not (has_id catalog_id id row)) content.catalogs) content.namespaces (omega arith) untaken (each-all (λ kept. knows namespace_id kept.namespace content.namespaces ≡ true → knows namespace_id kept.namespace content.namespaces ≡ true) content.tables (λ kept known. known)) sound.tables;
 }
   where
-    stays : (catalog : ℕ) → nat_eq catalog id ≡ false → (row : CatalogRow) → has_id catalog_id catalog row ≡ true → not (has_id catalog_id id row) ≡ true
-    stays catalog apart row has =
-        ap not (nat_eq_equiv.symm id row.id ∙ ap (λ n. nat_eq n id) (sym (eqb-true catalog row.id has)) ∙ apart)
+    untaken : (one : ℕ) → one < next_id → (knows catalog_id one content.catalogs || knows namespace_id one content.namespaces) ≡ false → (knows catalog_id one (filter (λ row. not (has_id catalog_id id row)) content.catalogs) || knows namespace_id one content.namespaces) ≡ false
+    untaken one under none =
+        let parts = or_parts (knows catalog_id one content.catalogs) (knows namespace_id one content.namespaces) none in
+        λ i. any-fewer (has_id catalog_id one) (λ row. not (has_id catalog_id id row)) content.catalogs parts.0 i || parts.1 i
 
 -- levels are more than their parent's, which they begin with
 below_parent : (levels parent : List (List ℕ)) → parent_of levels ≡ Some parent → (nat_lt (length parent) (length levels) ≡ true) × (same_levels parent (take (length parent) levels) ≡ true)
@@ -298,12 +417,19 @@ module _ (id : ℕ) (rows : List NamespaceRow) (differ : IdsDiffer namespace_id 
   none_lies_below (Some upper) empty =
       each-weaken (λ kept. lies_below upper kept ≡ false) (λ kept. (row : NamespaceRow) → Some upper ≡ Some row → lies_below row kept ≡ false) rows (λ kept apart row is. ap (λ other. lies_below other kept) (sym (some_is upper row is)) ∙ apart) (each-fails (lies_below upper) rows (not-true (list_any (lies_below upper) rows) empty))
 
--- a namespace without deeper ones may be taken away
+-- an empty namespace has no table
+pub no-tables : (id : ℕ) (content : ContentRows) → is_empty id content ≡ true → holds_table id content.tables ≡ false
+no-tables id content empty =
+    not-true (holds_table id content.tables) (and_parts (none_below (row_of namespace_id id content.namespaces) content.namespaces) (not (holds_table id content.tables)) empty).1
+
+-- a namespace without deeper ones and without tables may be taken away
 pub dropped_namespace : (next_id id : ℕ) (content : ContentRows) → IsSoundContent next_id content → is_empty id content ≡ true
     → IsSoundContent next_id (record content { namespaces = rows_without namespace_id id content.namespaces })
 unfolding rows_without
 dropped_namespace next_id id content sound empty =
     let differ = IdsDiffer-rising namespace_id content.namespaces sound.namespaces.rise in
+    let upper = row_of namespace_id id content.namespaces in
+    let parts = and_parts (none_below upper content.namespaces) (not (holds_table id content.tables)) empty in
     record {
       catalogs = sound.catalogs;
       namespaces = AreNumbered-filter namespace_id next_id (λ row. not (has_id namespace_id id row)) content.namespaces sound.namespaces;
@@ -311,5 +437,39 @@ dropped_namespace next_id id content sound empty =
       catalog_names_differ = sound.catalog_names_differ;
       namespace_names_differ = distinct-kept same_namespace (λ row. not (has_id namespace_id id row)) content.namespaces sound.namespace_names_differ;
       namespace_catalogs = each-filter (λ kept. knows catalog_id kept.catalog content.catalogs ≡ true) (λ row. not (has_id namespace_id id row)) content.namespaces sound.namespace_catalogs;
-      namespace_parents = each-filter (HasParent (filter (λ row. not (has_id namespace_id id row)) content.namespaces)) (λ row. not (has_id namespace_id id row)) content.namespaces (each-join (λ kept. (row : NamespaceRow) → row_of namespace_id id content.namespaces ≡ Some row → lies_below row kept ≡ false) (HasParent content.namespaces) (HasParent (filter (λ row. not (has_id namespace_id id row)) content.namespaces)) content.namespaces (λ kept none there. parents_stay id content.namespaces differ empty kept none (parent_of kept.levels) refl there) (none_lies_below id content.namespaces differ (row_of namespace_id id content.namespaces) empty) sound.namespace_parents);
+      namespace_parents = each-filter (HasParent (filter (λ row. not (has_id namespace_id id row)) content.namespaces)) (λ row. not (has_id namespace_id id row)) content.namespaces (each-join (λ kept. (row : NamespaceRow) → row_of namespace_id id content.namespaces ≡ Some row → lies_below row kept ≡ false) (HasParent content.namespaces) (HasParent (filter (λ row. not (has_id namespace_id id row)) content.namespaces)) content.namespaces (λ kept none there. parents_stay id content.namespaces differ parts.0 kept none (parent_of kept.levels) refl there) (none_lies_below id content.namespaces differ upper parts.0) sound.namespace_parents);
+      tables = tables_kept next_id next_id content content.catalogs (filter (λ row. not (has_id namespace_id id row)) content.namespaces) (omega arith) untaken (each-weaken (λ kept. nat_eq kept.namespace id ≡ false) (λ kept. knows namespace_id kept.namespace content.namespaces ≡ true → knows namespace_id kept.namespace (filter (λ row. not (has_id namespace_id id row)) content.namespaces) ≡ true) content.tables stays (each-fails (λ row. nat_eq row.namespace id) content.tables (not-true (holds_table id content.tables) parts.1))) sound.tables;
+    }
+  where
+    untaken : (one : ℕ) → one < next_id → (knows catalog_id one content.catalogs || knows namespace_id one content.namespaces) ≡ false → (knows catalog_id one content.catalogs || knows namespace_id one (filter (λ row. not (has_id namespace_id id row)) content.namespaces)) ≡ false
+    untaken one under none =
+        let parts = or_parts (knows catalog_id one content.catalogs) (knows namespace_id one content.namespaces) none in
+        λ i. parts.0 i || any-fewer (has_id namespace_id one) (λ row. not (has_id namespace_id id row)) content.namespaces parts.1 i
+
+    stays : (kept : TableRow) → nat_eq kept.namespace id ≡ false → knows namespace_id kept.namespace content.namespaces ≡ true → knows namespace_id kept.namespace (filter (λ row. not (has_id namespace_id id row)) content.namespaces) ≡ true
+    stays kept apart known =
+        any-kept (has_id namespace_id kept.namespace) (λ row. not (has_id namespace_id id row)) content.namespaces (each-all (λ row. has_id namespace_id kept.namespace row ≡ true → not (has_id namespace_id id row) ≡ true) content.namespaces (other-stays namespace_id kept.namespace id apart)) known
+
+-- a table may be taken away
+pub dropped_table : (next_id id : ℕ) (content : ContentRows) → IsSoundContent next_id content
+    → IsSoundContent next_id (record content { tables = rows_without table_id id content.tables })
+unfolding rows_without
+dropped_table next_id id content sound =
+    let keep : TableRow → Bool = (λ row. not (has_id table_id id row)) in
+    record {
+      catalogs = sound.catalogs;
+      namespaces = sound.namespaces;
+      ids_differ = sound.ids_differ;
+      catalog_names_differ = sound.catalog_names_differ;
+      namespace_names_differ = sound.namespace_names_differ;
+      namespace_catalogs = sound.namespace_catalogs;
+      namespace_parents = sound.namespace_parents;
+      tables = record {
+        numbered = AreNumbered-filter table_id next_id keep content.tables sound.tables.numbered;
+        ids_differ = each-filter (λ kept. (knows catalog_id kept.id content.catalogs || knows namespace_id kept.id content.namespaces) ≡ false) keep content.tables sound.tables.ids_differ;
+        names_differ = distinct-kept same_table keep content.tables sound.tables.names_differ;
+        namespaces = each-filter (λ kept. knows namespace_id kept.namespace content.namespaces ≡ true) keep content.tables sound.tables.namespaces;
+        apart = distinct-kept overlap_rows keep content.tables sound.tables.apart;
+        each = each-filter IsSoundTable keep content.tables sound.tables.each;
+      };
     }

@@ -1,8 +1,10 @@
 -- What contains a securable, its chain, and the deepest part of a path that is there.
-use Rattle.std.specs.Prelude.{◌≡◌, ℕ, true, List, [], ◌∷◌, ◌++◌, reverse, filter_map, Option, Some, None, option_map}
+use Rattle.std.specs.Prelude.{◌≡◌, ◌⊎◌, ℕ, true, List, [], ◌∷◌, ◌++◌, reverse, filter_map, Option, Some, None, option_and_then, option_map}
 use Rattle.pol_access.specs.declared.securable.Securable.{Securable}
 use Rattle.pol_access.specs.declared.securable.Securable.TheVariants.{Realm, Catalog, Namespace, Table, View}
 use Rattle.pol_names.specs.Namespace.{parent_of}
+use Rattle.pol_table_rows.specs.Tables.{table_id, table_named}
+use Rattle.pol_table_rows.specs.declared.row.TableRow.{TableRow}
 use Rattle.pol_tables.specs.Table.{row_of}
 use Rattle.pol_content.specs.Content.{ContentRows, lies_below, lineage, namespace_id, namespace_named}
 use Rattle.pol_content.specs.declared.rows.NamespaceRow.{NamespaceRow}
@@ -17,13 +19,19 @@ EnclosesRow content (Namespace id) row =
 EnclosesRow content (Table id) row = ⊥
 EnclosesRow content (View id) row = ⊥
 
--- one securable contains another, which is a namespace that is there
+-- one securable contains a namespace that is there
+abbrev pub EnclosesNamespace : ContentRows → Securable → ℕ → Type 0
+EnclosesNamespace content upper id =
+    (row : NamespaceRow) × (row_of namespace_id id content.namespaces ≡ Some row) × EnclosesRow content upper row
+
+-- one securable contains another, which is there: a namespace, or a table, which its namespace contains and what
+-- contains that one
 abbrev pub Encloses : ContentRows → Securable → Securable → Type 0
 Encloses content upper Realm = ⊥
 Encloses content upper (Catalog id) = ⊥
-Encloses content upper (Namespace id) =
-    (row : NamespaceRow) × (row_of namespace_id id content.namespaces ≡ Some row) × EnclosesRow content upper row
-Encloses content upper (Table id) = ⊥
+Encloses content upper (Namespace id) = EnclosesNamespace content upper id
+Encloses content upper (Table id) =
+    (row : TableRow) × (row_of table_id id content.tables ≡ Some row) × ((upper ≡ Namespace row.namespace) ⊎ EnclosesNamespace content upper row.namespace)
 Encloses content upper (View id) = ⊥
 
 -- the namespace of a catalogue with these levels, as a securable
@@ -47,12 +55,25 @@ abbrev pub uppers_of_found : Option NamespaceRow → ContentRows → List Secura
 uppers_of_found None content = []
 uppers_of_found (Some row) content = uppers_of row content
 
+-- a namespace and what contains it
+abbrev pub namespace_chain : ℕ → ContentRows → List Securable
+namespace_chain id content = Namespace id ∷ uppers_of_found (row_of namespace_id id content.namespaces) content
+
+-- what contains a table: its namespace, and what contains that one
+abbrev pub table_uppers : Option TableRow → ContentRows → List Securable
+table_uppers None content = []
+table_uppers (Some row) content = namespace_chain row.namespace content
+
+-- a table and what contains it
+abbrev pub table_chain : ℕ → ContentRows → List Securable
+table_chain id content = Table id ∷ table_uppers (row_of table_id id content.tables) content
+
 -- a securable and all that contain it, itself first and then outwards
 abbrev pub chain_of : Securable → ContentRows → List Securable
 chain_of Realm content = Realm ∷ []
 chain_of (Catalog id) content = Catalog id ∷ []
-chain_of (Namespace id) content = Namespace id ∷ uppers_of_found (row_of namespace_id id content.namespaces) content
-chain_of (Table id) content = Table id ∷ []
+chain_of (Namespace id) content = namespace_chain id content
+chain_of (Table id) content = table_chain id content
 chain_of (View id) content = View id ∷ []
 
 -- the first of these namespaces, or the catalogue where there is none
@@ -63,3 +84,17 @@ first_or catalog (namespace ∷ namespaces) = namespace
 -- the deepest part of a path that is there: the namespace of the most of its first levels, else the catalogue
 abbrev pub deepest : ℕ → List (List ℕ) → ContentRows → Securable
 deepest catalog levels content = first_or catalog (namespaces_out catalog levels content)
+
+-- the table of a name in the namespace of these levels
+abbrev pub table_at : ℕ → List (List ℕ) → List ℕ → ContentRows → Option TableRow
+table_at catalog levels name content =
+    option_and_then (λ (row : NamespaceRow). table_named row.id name content.tables) (namespace_named catalog levels content)
+
+-- a table that was found, or else a part of its path
+abbrev pub table_or : Securable → Option TableRow → Securable
+table_or part None = part
+table_or part (Some row) = Table row.id
+
+-- the deepest part of a table's path that is there: the table, or else that of its namespace's path
+abbrev pub deepest_of_table : ℕ → List (List ℕ) → List ℕ → ContentRows → Securable
+deepest_of_table catalog levels name content = table_or (deepest catalog levels content) (table_at catalog levels name content)

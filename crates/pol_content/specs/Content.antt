@@ -1,9 +1,11 @@
--- Catalogues and namespaces, as contracts see them.
+-- Catalogues, namespaces and tables, as contracts see them.
 use Rattle.std.specs.Prelude.{ℕ, Bool, true, false, not, ◌&&◌, ◌==◌, nat_eq, nat_lt, List, length, filter, map, take, Option, Some, None, is_none}
 use Rattle.std.specs.Cmp.Lexicographic.{pointwise}
 use Rattle.std.specs.List.{find, list_any, range_with_len, starts_with, IsDistinct}
 use Rattle.std.specs.Str.{bytes_eq}
 use Rattle.pol_names.specs.Namespace.{parent_of}
+use Rattle.pol_table_rows.specs.Tables.{holds_table, table_named}
+use Rattle.pol_table_rows.specs.declared.row.TableRow.{TableRow}
 use Rattle.pol_tables.specs.Table.{row_of}
 use Rattle.pol_content.specs.Order.{by_levels}
 use Rattle.pol_content.specs.declared.rows.CatalogRow.{CatalogRow}
@@ -13,11 +15,13 @@ use Rattle.pol_content.specs.declared.rows.NamespaceRow.{NamespaceRow}
 pub record ContentRows : Type 0 where
   pub catalogs : List CatalogRow
   pub namespaces : List NamespaceRow
+  pub tables : List TableRow
 
 -- how many more rows need no memory
 pub record ContentRoom : Type 0 where
   pub catalogs : ℕ
   pub namespaces : ℕ
+  pub tables : ℕ
 
 pub record ContentValue : Type 0 where
   pub rows : ContentRows
@@ -93,8 +97,14 @@ abbrev pub none_below : Option NamespaceRow → List NamespaceRow → Bool
 none_below None rows = true
 none_below (Some upper) rows = not (list_any (lies_below upper) rows)
 
+-- whether a namespace holds nothing: neither a deeper one nor a table
 abbrev pub is_empty : ℕ → ContentRows → Bool
-is_empty namespace content = none_below (row_of namespace_id namespace content.namespaces) content.namespaces
+is_empty namespace content =
+    none_below (row_of namespace_id namespace content.namespaces) content.namespaces && not (holds_table namespace content.tables)
+
+-- what has a name in a namespace: its tables and its views share their names, and there are no views yet
+abbrev pub part_named : ℕ → List ℕ → ContentRows → Option TableRow
+part_named namespace name content = table_named namespace name content.tables
 
 -- whether a catalogue has no namespace
 abbrev pub catalog_is_empty : ℕ → ContentRows → Bool

@@ -1,5 +1,5 @@
--- What ties principals and roles to catalogues and namespaces.
-use Rattle.std.specs.Prelude.{◌≡◌, ◌+◌, ℕ, Bool, true, false, ◌||◌, [], ◌∷◌, ◌++◌, Option, Some, None, codes}
+-- What ties principals and roles to catalogues, namespaces and tables.
+use Rattle.std.specs.Prelude.{◌≡◌, ◌+◌, ℕ, Bool, true, false, ◌||◌, [], ◌∷◌, ◌++◌, Option, Some, None, option_and_then, codes}
 use Rattle.std.specs.List.{AllByRecursion}
 use Rattle.std.specs.Option.{option_map}
 use Rattle.pol_access.specs.Access.{AccessRows, catalog_role_id, is_joined, principal_id, principal_role_id}
@@ -14,26 +14,33 @@ use Rattle.pol_access.specs.declared.rows.JoinRow.{JoinRow}
 use Rattle.pol_access.specs.declared.rows.PrincipalRoleRow.{PrincipalRoleRow}
 use Rattle.pol_access.specs.declared.securable.Securable.{Securable}
 use Rattle.pol_access.specs.declared.securable.Securable.TheVariants as securable
+use Rattle.pol_table_rows.specs.Tables.{table_id}
+use Rattle.pol_table_rows.specs.declared.row.TableRow.{TableRow}
 use Rattle.pol_tables.specs.Facts.{facts_with, holds}
 use Rattle.pol_tables.specs.Table.{knows, row_of, rows_with}
 use Rattle.pol_content.specs.Content.{ContentRows, catalog_id, namespace_id}
 
--- the catalogue in which a securable lies that is there: a catalogue lies in itself, and the realm in none; no table
--- and no view is there
+-- the catalogue of a namespace
+abbrev pub catalog_of_namespace : ℕ → ContentRows → Option ℕ
+catalog_of_namespace id content = option_map (λ row. row.catalog) (row_of namespace_id id content.namespaces)
+
+-- the catalogue in which a securable lies that is there: a catalogue lies in itself, a table in that of its namespace,
+-- and the realm in none; no view is there
 abbrev pub catalog_of : Securable → ContentRows → Option ℕ
 catalog_of securable.Realm content = None
 catalog_of (securable.Catalog id) content = option_map (λ row. row.id) (row_of catalog_id id content.catalogs)
-catalog_of (securable.Namespace id) content = option_map (λ row. row.catalog) (row_of namespace_id id content.namespaces)
-catalog_of (securable.Table id) content = None
+catalog_of (securable.Namespace id) content = catalog_of_namespace id content
+catalog_of (securable.Table id) content = option_and_then (λ (row : TableRow). catalog_of_namespace row.namespace content) (row_of table_id id content.tables)
 catalog_of (securable.View id) content = None
 
--- whether a row of principals and roles has this id, and whether one of catalogues and namespaces has
+-- whether a row of principals and roles has this id, and whether one of catalogues, namespaces and tables has
 abbrev pub is_access_id : ℕ → AccessRows → Bool
 is_access_id id access =
     knows principal_id id access.principals || knows principal_role_id id access.principal_roles || knows catalog_role_id id access.catalog_roles
 
 abbrev pub is_content_id : ℕ → ContentRows → Bool
-is_content_id id content = knows catalog_id id content.catalogs || knows namespace_id id content.namespaces
+is_content_id id content =
+    knows catalog_id id content.catalogs || knows namespace_id id content.namespaces || knows table_id id content.tables
 
 -- a grant's securable is there, and lies in the catalogue of the grant's role
 pub record IsGrantWithin (access : AccessRows) (content : ContentRows) (row : GrantRow) : Type 0 where
@@ -57,10 +64,11 @@ pub record HasAdmin (access : AccessRows) (catalog : ℕ) : Type 0 where
   pub manages_access : manages CatalogManageAccess role.id catalog access ≡ true
   pub manages_content : manages CatalogManageContent role.id catalog access ≡ true
 
--- no catalogue and no namespace has an id of a principal or a role
+-- no catalogue, no namespace and no table has an id of a principal or a role
 pub record IdsApart (access : AccessRows) (content : ContentRows) : Type 0 where
   pub catalogs : AllByRecursion (λ row. is_access_id row.id access ≡ false) content.catalogs
   pub namespaces : AllByRecursion (λ row. is_access_id row.id access ≡ false) content.namespaces
+  pub tables : AllByRecursion (λ row. is_access_id row.id access ≡ false) content.tables
 
 -- each catalogue role's catalogue is there, each grant lies within its role's catalogue, each catalogue has its
 -- `catalog_admin`, and ids are apart

@@ -1,29 +1,65 @@
-ghost use Rattle.std.specs.Prelude.{◌≡◌, ◌++◌, ◌<◌, ◌≤◌, IfOk, OnOk, length, option_to_list, take};
-ghost use Rattle.pol_content.specs.Chain.{chain_of, deepest, namespace_at, namespaces_out, uppers_of};
+ghost use Rattle.std.specs.Prelude.{◌≡◌, ◌++◌, ◌<◌, ◌≤◌, IfOk, IfSome, OnOk, Some, length, option_copied, option_to_list, take};
+ghost use Rattle.pol_content.specs.Chain.{chain_of, deepest, deepest_of_table, namespace_at, namespace_chain, namespaces_out, table_at, table_chain, uppers_of};
 ghost use Rattle.pol_content.specs.Content.{NamespaceNamesDiffer};
+ghost use Rattle.pol_table_rows.specs.Tables.{TableNamesDiffer, table_id};
+ghost use Rattle.pol_tables.specs.Table.{row_of};
 
 use crate::{Content, NamespaceRow};
 use pol_access::Securable;
-use pol_names::Namespace;
+use pol_names::{Identifier, Namespace};
+use pol_table_rows::TableRow;
 use pol_types::OutOfMemory;
 use std::alloc::Global;
 
 impl Content {
-    /// The securable and all that contain it, itself first and then outwards: after a namespace come those in which it
-    /// stands, from the nearest out, and its catalogue. Nothing contains a catalogue, the realm, or what isn't there.
-    /// It scans no rows.
+    /// The securable and all that contain it, itself first and then outwards: after a table comes its namespace, and
+    /// after a namespace come those in which it stands, from the nearest out, and its catalogue. Nothing contains a
+    /// catalogue, the realm, or what isn't there. It scans no rows.
     pub fn chain(&self, alloc: Global, of: Securable) -> Result<Vec<Securable>, OutOfMemory>
         ensures { NamespaceNamesDiffer self.now.rows.namespaces
             → IfOk result (λ chain. chain.items ≡ chain_of of self.now.rows) }
     {
         let mut chain = Vec::new(alloc);
-        chain.push(of)?;
-        if let Securable::Namespace(id) = of {
-            if let Some(row) = self.namespace_of(id) {
-                self.push_uppers(alloc, row, &mut chain)?;
-            }
+        match of {
+            Securable::Namespace(id) => self.push_namespace(alloc, id, &mut chain)?,
+            Securable::Table(id) => self.push_table(alloc, id, &mut chain)?,
+            Securable::Realm | Securable::Catalog(_) | Securable::View(_) => chain.push(of)?,
         }
         Ok(chain)
+    }
+
+    /// Pushes a table and what contains it, from its namespace out.
+    fn push_table(
+        &self,
+        alloc: Global,
+        id: u64,
+        chain: &mut Vec<Securable>,
+    ) -> Result<(), OutOfMemory>
+        ensures { NamespaceNamesDiffer self.now.rows.namespaces
+            → OnOk result (chain.new.items ≡ chain.old.items ++ table_chain id self.now.rows) }
+    {
+        chain.push(Securable::Table(id))?;
+        if let Some(row) = self.table_of(id) {
+            self.push_namespace(alloc, row.namespace, chain)?;
+        }
+        Ok(())
+    }
+
+    /// Pushes a namespace and what contains it, from the nearest out.
+    fn push_namespace(
+        &self,
+        alloc: Global,
+        id: u64,
+        chain: &mut Vec<Securable>,
+    ) -> Result<(), OutOfMemory>
+        ensures { NamespaceNamesDiffer self.now.rows.namespaces
+            → OnOk result (chain.new.items ≡ chain.old.items ++ namespace_chain id self.now.rows) }
+    {
+        chain.push(Securable::Namespace(id))?;
+        if let Some(row) = self.namespace_of(id) {
+            self.push_uppers(alloc, row, chain)?;
+        }
+        Ok(())
     }
 
     /// The deepest part of a path that is there: the namespace of the most of the first levels that the catalogue has,
@@ -44,6 +80,34 @@ impl Content {
             }
         }
         Ok(Securable::Catalog(catalog))
+    }
+
+    /// The table of this name in the namespace of its levels. It scans no rows.
+    pub fn table_at(&self, catalog: u64, identifier: &Identifier) -> Option<&TableRow>
+        ensures first { NamespaceNamesDiffer self.now.rows.namespaces → TableNamesDiffer self.now.rows.tables
+            → option_copied result ≡ table_at catalog identifier.now.namespace identifier.now.name self.now.rows }
+        ensures own { IfSome result (λ row. row_of table_id row.now.id self.now.rows.tables ≡ Some row.now) }
+    {
+        let namespace = self.namespace(catalog, &identifier.namespace)?;
+        self.table(namespace.id, &identifier.name)
+    }
+
+    /// The deepest part of a table's path that is there: the table, or else that of its namespace's path. It scans no
+    /// rows.
+    pub fn deepest_of_table(
+        &self,
+        alloc: Global,
+        catalog: u64,
+        identifier: &Identifier,
+    ) -> Result<Securable, OutOfMemory>
+        ensures { let content = self.now.rows in NamespaceNamesDiffer content.namespaces
+            → TableNamesDiffer content.tables → IfOk result (λ part.
+            part ≡ deepest_of_table catalog identifier.now.namespace identifier.now.name content) }
+    {
+        if let Some(row) = self.table_at(catalog, identifier) {
+            return Ok(Securable::Table(row.id));
+        }
+        self.deepest(alloc, catalog, &identifier.namespace)
     }
 
     /// Pushes what contains a namespace, from the nearest out.

@@ -3,6 +3,7 @@ ghost use Rattle.pol_content.specs.Change.{kind_put};
 
 use crate::{CatalogRow, NamespaceRow};
 use pol_access::{CatalogRoleRow, GrantRow, JoinRow, MemberRow, PrincipalRoleRow, PrincipalRow};
+use pol_table_rows::TablePut;
 use pol_tokens::SessionRow;
 
 /// A change of a state. The changes of one command stand in the order of these variants, those of one variant by
@@ -26,6 +27,8 @@ pub enum Change {
     DropCatalogRole(u64),
     PutNamespace(NamespaceRow),
     DropNamespace(u64),
+    PutTable(TablePut),
+    DropTable(u64),
     PutMember(MemberRow),
     DropMember(MemberRow),
     PutJoin(JoinRow),
@@ -46,6 +49,7 @@ impl Change {
             Change::PutCatalog(_) => Some(RowKind::Catalog),
             Change::PutCatalogRole(_) => Some(RowKind::CatalogRole),
             Change::PutNamespace(_) => Some(RowKind::Namespace),
+            Change::PutTable(_) => Some(RowKind::Table),
             Change::PutMember(_) => Some(RowKind::Member),
             Change::PutJoin(_) => Some(RowKind::Join),
             Change::PutGrant(_) => Some(RowKind::Grant),
@@ -58,6 +62,7 @@ impl Change {
             | Change::DropCatalog(_)
             | Change::DropCatalogRole(_)
             | Change::DropNamespace(_)
+            | Change::DropTable(_)
             | Change::DropMember(_)
             | Change::DropJoin(_)
             | Change::DropGrant(_) => None,
@@ -73,6 +78,7 @@ pub enum RowKind {
     Catalog,
     CatalogRole,
     Namespace,
+    Table,
     Member,
     Join,
     Grant,

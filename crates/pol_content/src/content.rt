@@ -4,22 +4,27 @@ ghost use Rattle.std.specs.Slice.Iter.{iter_rest};
 ghost use Rattle.pol_tables.specs.Named.{Finds};
 ghost use Rattle.pol_tables.specs.Table.{row_of, rows_with, rows_without};
 ghost use Rattle.pol_content.specs.Order.{by_levels, by_name};
-ghost use Rattle.pol_content.specs.Content.{CatalogNamesDiffer, NamespaceNamesDiffer, catalog_id, catalog_is_empty, catalog_named, children, first_missing, is_catalog_named, is_child, is_child_of, is_empty, is_missing, is_namespace_named, lies_below, namespace_id, namespace_named};
+ghost use Rattle.pol_content.specs.Content.{CatalogNamesDiffer, NamespaceNamesDiffer, catalog_id, catalog_is_empty, catalog_named, children, first_missing, is_catalog_named, is_child, is_child_of, is_empty, is_missing, is_namespace_named, lies_below, namespace_id, namespace_named, none_below};
+ghost use Rattle.pol_table_rows.specs.Tables.{TableNamesDiffer, is_table_named, overlapping, table_id, table_named, tables_in};
+ghost use Rattle.pol_tables.specs.Rising.{KeysRise};
 
 use crate::{CatalogRow, NamespaceName, NamespaceRow};
-use pol_names::{Namespace, Plain};
+use pol_locations::Location;
+use pol_names::{Name, Namespace, Plain};
+use pol_table_rows::{TablePut, TableRow, Tables};
 use pol_tables::{NamedTable, rows_in_order, sorted_rows};
 use pol_types::OutOfMemory;
 use std::alloc::{AllocError, Global};
 use std::marker::Model;
 use std::slice;
 
-/// Catalogues and their namespaces, each found by its id and by its name. Contracts see the rows, and the room: how
-/// many more can be put without taking memory.
+/// Catalogues, their namespaces and the tables in these, each found by its id and by its name. Contracts see the rows,
+/// and the room: how many more can be put without taking memory.
 #[derive(Debug, Drop)]
 pub struct Content {
     catalogs: NamedTable<CatalogRow>,
     namespaces: NamedTable<NamespaceRow>,
+    tables: Tables,
 }
 
 impl Model for Content {
@@ -28,19 +33,20 @@ impl Model for Content {
     ghost Value = { ContentValue };
 
     ghost view = { λ content. record {
-      rows = record { catalogs = content.catalogs.rows; namespaces = content.namespaces.rows };
-      room = record { catalogs = content.catalogs.room; namespaces = content.namespaces.room };
+      rows = record { catalogs = content.catalogs.rows; namespaces = content.namespaces.rows; tables = content.tables.rows };
+      room = record { catalogs = content.catalogs.room; namespaces = content.namespaces.room; tables = content.tables.room };
     } };
 }
 
 impl Content {
     /// No rows, and no memory taken.
     pub fn new(alloc: Global) -> Self
-        ensures { result.rows ≡ record { catalogs = []; namespaces = [] } }
+        ensures { result.rows ≡ record { catalogs = []; namespaces = []; tables = [] } }
     {
         Content {
             catalogs: NamedTable::new(alloc),
             namespaces: NamedTable::new(alloc),
+            tables: Tables::new(alloc),
         }
     }
 
@@ -139,9 +145,18 @@ impl Content {
         sorted_rows(children_of(alloc, rows, catalog, parent)?)
     }
 
-    /// Whether no namespace stands below this one, directly or deeper. An id that isn't there has none below it.
+    /// Whether a namespace holds nothing: no namespace stands below it, directly or deeper, and no table is in it. An
+    /// id that isn't there has no namespace below it.
     pub fn is_empty(&self, namespace: u64) -> bool
         ensures { result ≡ is_empty namespace self.now.rows }
+    {
+        self.none_below(namespace) && !self.tables.any_in(namespace)
+    }
+
+    /// Whether no namespace stands below this one, directly or deeper.
+    fn none_below(&self, namespace: u64) -> bool
+        ensures { let rows = self.now.rows.namespaces in
+            result ≡ none_below (row_of namespace_id namespace rows) rows }
     {
         match self.namespaces.find(namespace) {
             Some(upper) => !any_below(upper, self.namespaces.rows().as_slice()),
@@ -156,6 +171,46 @@ impl Content {
         !any_of_catalog(catalog, self.namespaces.rows().as_slice())
     }
 
+    /// The table of this namespace with this name. It scans no rows.
+    pub fn table(&self, namespace: u64, name: &Name) -> Option<&TableRow>
+        ensures found { Finds table_id (is_table_named namespace name.now) self.now.rows.tables
+            (option_copied result) }
+        ensures first { TableNamesDiffer self.now.rows.tables
+            → option_copied result ≡ table_named namespace name.now self.now.rows.tables }
+    {
+        self.tables.named(namespace, name)
+    }
+
+    /// The table of this id.
+    pub fn table_of(&self, id: u64) -> Option<&TableRow>
+        ensures { option_copied result ≡ row_of table_id id self.now.rows.tables }
+    {
+        self.tables.find(id)
+    }
+
+    /// The tables, in the order in which they were put.
+    pub fn tables(&self) -> slice::Iter<'_, TableRow>
+        ensures { iter_rest result ≡ self.now.rows.tables }
+    {
+        self.tables.rows()
+    }
+
+    /// The tables of a namespace, in byte order of their names.
+    pub fn tables_in(&self, alloc: Global, namespace: u64) -> Result<Vec<&TableRow>, OutOfMemory>
+        ensures { IfOk result (λ found.
+            map (λ row. row.now) found.items ≡ tables_in namespace self.now.rows.tables) }
+    {
+        self.tables.in_namespace(alloc, namespace)
+    }
+
+    /// The table of the least id outside `except` whose location overlaps the wanted one, in whatever catalogue it is.
+    pub fn overlapping(&self, wanted: &Location, except: &[u64]) -> Option<&TableRow>
+        ensures { KeysRise table_id self.now.rows.tables
+            → option_copied result ≡ overlapping wanted.now except.now self.now.rows.tables }
+    {
+        self.tables.overlapping(wanted, except)
+    }
+
     /// Makes room for `more` catalogues, so that putting as many takes no memory. On an error the rows stay, and the
     /// room does not shrink.
     pub fn reserve_catalogs(&mut self, more: usize) -> Result<(), OutOfMemory>
@@ -164,6 +219,7 @@ impl Content {
         ensures succeeds { more ≤ self.old.room.catalogs → IsOk result }
         ensures room { self.old.room.catalogs ≤ self.new.room.catalogs }
         ensures namespaces { self.new.room.namespaces ≡ self.old.room.namespaces }
+        ensures tables { self.new.room.tables ≡ self.old.room.tables }
     {
         self.catalogs.reserve(more)
     }
@@ -176,8 +232,22 @@ impl Content {
         ensures succeeds { more ≤ self.old.room.namespaces → IsOk result }
         ensures room { self.old.room.namespaces ≤ self.new.room.namespaces }
         ensures catalogs { self.new.room.catalogs ≡ self.old.room.catalogs }
+        ensures tables { self.new.room.tables ≡ self.old.room.tables }
     {
         self.namespaces.reserve(more)
+    }
+
+    /// Makes room for `more` tables, so that putting as many takes no memory. On an error the rows stay, and the room
+    /// does not shrink.
+    pub fn reserve_tables(&mut self, more: usize) -> Result<(), OutOfMemory>
+        ensures rows { self.new.rows ≡ self.old.rows }
+        ensures reserved { OnOk result (more ≤ self.new.room.tables) }
+        ensures succeeds { more ≤ self.old.room.tables → IsOk result }
+        ensures room { self.old.room.tables ≤ self.new.room.tables }
+        ensures catalogs { self.new.room.catalogs ≡ self.old.room.catalogs }
+        ensures namespaces { self.new.room.namespaces ≡ self.old.room.namespaces }
+    {
+        self.tables.reserve(more)
     }
 
     /// Puts a catalogue, and takes no memory: a new id goes last, and a known id's row is replaced in its place.
@@ -187,6 +257,7 @@ impl Content {
             ≡ record self.old.rows { catalogs = rows_with catalog_id row self.old.rows.catalogs } }
         ensures room { self.old.room.catalogs ≤ self.new.room.catalogs + 1 }
         ensures namespaces { self.new.room.namespaces ≡ self.old.room.namespaces }
+        ensures tables { self.new.room.tables ≡ self.old.room.tables }
     {
         self.catalogs.put(row)
     }
@@ -197,6 +268,7 @@ impl Content {
             ≡ record self.old.rows { catalogs = rows_without catalog_id id self.old.rows.catalogs } }
         ensures room { self.old.room.catalogs ≤ self.new.room.catalogs }
         ensures namespaces { self.new.room.namespaces ≡ self.old.room.namespaces }
+        ensures tables { self.new.room.tables ≡ self.old.room.tables }
     {
         self.catalogs.take(id);
     }
@@ -208,18 +280,43 @@ impl Content {
             ≡ record self.old.rows { namespaces = rows_with namespace_id row self.old.rows.namespaces } }
         ensures room { self.old.room.namespaces ≤ self.new.room.namespaces + 1 }
         ensures catalogs { self.new.room.catalogs ≡ self.old.room.catalogs }
+        ensures tables { self.new.room.tables ≡ self.old.room.tables }
     {
         self.namespaces.put(row)
     }
 
-    /// Takes the namespace of this id away, and takes no memory. Those below it stay.
+    /// Takes the namespace of this id away, and takes no memory. Those below it and its tables stay.
     pub fn drop_namespace(&mut self, id: u64)
         ensures rows { self.new.rows
             ≡ record self.old.rows { namespaces = rows_without namespace_id id self.old.rows.namespaces } }
         ensures room { self.old.room.namespaces ≤ self.new.room.namespaces }
         ensures catalogs { self.new.room.catalogs ≡ self.old.room.catalogs }
+        ensures tables { self.new.room.tables ≡ self.old.room.tables }
     {
         self.namespaces.take(id);
+    }
+
+    /// Puts a table, and takes no memory: a new id goes last, and a known id's row is replaced in its place.
+    pub fn put_table(&mut self, table: TablePut)
+        requires { 0 < self.old.room.tables }
+        ensures rows { self.new.rows
+            ≡ record self.old.rows { tables = rows_with table_id table self.old.rows.tables } }
+        ensures room { self.old.room.tables ≤ self.new.room.tables + 1 }
+        ensures catalogs { self.new.room.catalogs ≡ self.old.room.catalogs }
+        ensures namespaces { self.new.room.namespaces ≡ self.old.room.namespaces }
+    {
+        self.tables.put(table);
+    }
+
+    /// Takes the table of this id away, and takes no memory.
+    pub fn drop_table(&mut self, id: u64)
+        ensures rows { self.new.rows
+            ≡ record self.old.rows { tables = rows_without table_id id self.old.rows.tables } }
+        ensures room { self.old.room.tables ≤ self.new.room.tables }
+        ensures catalogs { self.new.room.catalogs ≡ self.old.room.catalogs }
+        ensures namespaces { self.new.room.namespaces ≡ self.old.room.namespaces }
+    {
+        self.tables.take(id);
     }
 }
 
@@ -229,9 +326,11 @@ impl Clone for Content {
     fn clone(&self) -> Result<Self, AllocError> {
         let catalogs = self.catalogs.clone()?;
         let namespaces = self.namespaces.clone()?;
+        let tables = self.tables.clone()?;
         Ok(Content {
             catalogs,
             namespaces,
+            tables,
         })
     }
 }

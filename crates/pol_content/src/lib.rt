@@ -1,4 +1,4 @@
-//! Catalogues and namespaces, each found by its name without a scan, and the changes of a state.
+//! Catalogues, namespaces and tables, each found by its name without a scan, and the changes of a state.
 #![tactic(auto)]
 
 mod chain;
@@ -9,4 +9,5 @@ mod rows;
 
 pub use change::{Change, RowKind};
 pub use content::Content;
+pub use pol_table_rows::{Handle, TablePut, TableRow};
 pub use rows::{CatalogRow, NamespaceName, NamespaceRow};

@@ -1,7 +1,6 @@
 pub mod ActionLemmas
 pub mod ChangesLemmas
 pub mod OwesLemmas
-pub mod ProloguesLemmas
 pub mod RowsLemmas
 pub mod ScopesLemmas
 pub mod SessionsLemmas

@@ -8,7 +8,6 @@ use Rattle.pol_access.specs.Referent.{grant_names, join_names}
 use Rattle.pol_access.specs.contracts.rows.CatalogRoleRow as catalog_role
 use Rattle.pol_access.specs.contracts.rows.GrantRow as grant
 use Rattle.pol_access.specs.contracts.rows.JoinRow as join
-use Rattle.pol_access.specs.declared.privilege.Privilege.{Privilege}
 use Rattle.pol_access.specs.declared.referent.Referent.TheVariants as referent
 use Rattle.pol_access.specs.declared.rows.PrincipalRow.{PrincipalRow}
 use Rattle.pol_access.specs.declared.securable.Securable.TheVariants as securable
@@ -26,15 +25,15 @@ use Rattle.pol_names.specs.Namespace.{parent_of, dotted}
 use Rattle.pol_properties.specs.Properties.{pairs_updated}
 use Rattle.pol_properties.specs.declared.property.Property.{Property}
 use Rattle.pol_commands.specs.declared.command.Command.{Command}
-use Rattle.pol_commands.specs.declared.reply.Refusal.{Refusal}
 use Rattle.pol_state.specs.Rows.{Rows}
 use Rattle.pol_state.specs.Sound.{IsOrderly, IsSound}
 use Rattle.pol_state.proofs.AppliedLemmas.{and_then, facts-dropped, rows-dropped}
 use Rattle.pol_rules.specs.Acting.{stamped, Acting}
 use Rattle.pol_rules.specs.Live.{is_live, live_part}
 use Rattle.pol_state.specs.Bounds.{over_limit}
+use Rattle.pol_rules.specs.Prologues.{namespace_row_at}
 use Rattle.pol_rules.specs.Rules.{client_of, time_of, name_taken, no_parent, given}
-use Rattle.pol_rules.proofs.FairLemmas.{none-fair, ◌⊳◌, fair-bad_text, fair-bad_texts, fair-caller, fair-catalog_holds, fair-client, fair-given, fair-in_realm, fair-inside, fair-key_twice, fair-namespace_holds, fair-need, fair-no_catalogue, fair-no_namespace, fair-no_parent, fair-scope, fair-unsupported_type, AreFair, fair-name_taken}
+use Rattle.pol_rules.proofs.FairLemmas.{none-fair, ◌⊳◌, fair-bad_text, fair-bad_texts, fair-caller, fair-catalog_holds, fair-client, fair-given, fair-in_realm, fair-inside, fair-key_twice, fair-name_taken, fair-namespace_holds, fair-need, fair-no_catalogue, fair-no_parent, fair-on_namespace, fair-scope, fair-unsupported_type}
 use Rattle.pol_rules.proofs.FoundLemmas.{catalog-own}
 use Rattle.pol_rules.proofs.LeadsLemmas.{leads-by, leads-one}
 use Rattle.pol_rules.proofs.OwesLemmas.{live-after, none-returns, owes-apart, owes-done, owes-reading, owes-same, with_tokens, DoSame, Owes, OwesRows}
@@ -48,7 +47,7 @@ use Rattle.pol_content.proofs.TiedContentLemmas.{put_namespace}
 use Rattle.pol_tables.proofs.NumberedLemmas.{below-next}
 use Rattle.pol_content.specs.declared.rows.CatalogRow.{CatalogRow}
 use Rattle.pol_content_actions.specs.Catalogs.{create_catalog, drop_catalog, get_catalog, get_config, list_catalogs, new_catalog, with_catalog, without_catalog}
-use Rattle.pol_content_actions.specs.Namespaces.{create_namespace, drop_namespace, head_namespace, list_namespaces, load_namespace, namespace_row_at, on_namespace, update_properties, with_altered, with_properties, without_namespace, with_new_namespace}
+use Rattle.pol_content_actions.specs.Namespaces.{create_namespace, drop_namespace, head_namespace, list_namespaces, load_namespace, update_properties, with_altered, with_new_namespace, with_properties, without_namespace}
 use Rattle.pol_content_actions.specs.Sessions.{open_session, opened, scope_of, session_opened, with_session}
 use Rattle.pol_content_actions.proofs.ActionLemmas.{namespace-own, orderly-create_catalog, orderly-drop_catalog, orderly-drop_namespace, orderly-update_properties, unaltered, none-unknown, path-whole}
 use Rattle.pol_content_actions.proofs.ChangesLemmas.{admin-last, changes-altered, changes-opened, changes-with_catalog, changes-without_catalog, changes-without_namespace, namespace_changes, unknown-later}
@@ -172,16 +171,12 @@ module _ (s : Rows) (command : Command) where
     answer = refl;
   }
 
-  fair-on_namespace : {rules others : List (Option Refusal)} (privilege : Privilege) (name : List ℕ) (levels : List (List ℕ)) → AreFair s rules others → AreFair s (on_namespace s command privilege name levels rules) (on_namespace live command privilege name levels others)
-  fair-on_namespace privilege name levels fair =
-      fair-caller command ⊳ fair-no_catalogue name ⊳ fair-inside name (λ catalog. fair-need command _) ⊳ fair-inside name (λ catalog. fair-no_namespace catalog.id levels) ⊳ fair
-
   pub owes-load_namespace : (name : List ℕ) (levels : List (List ℕ)) → OwesAlike (λ t. load_namespace t command name levels)
   unfolding namespace_row_at
-  owes-load_namespace name levels = owes-reading s command (fair-on_namespace _ name levels none-fair)
+  owes-load_namespace name levels = owes-reading s command (fair-on_namespace command _ name levels none-fair)
 
   pub owes-head_namespace : (name : List ℕ) (levels : List (List ℕ)) → OwesAlike (λ t. head_namespace t command name levels)
-  owes-head_namespace name levels = owes-reading s command (fair-on_namespace _ name levels none-fair)
+  owes-head_namespace name levels = owes-reading s command (fair-on_namespace command _ name levels none-fair)
 
   pub owes-drop_namespace : (name : List ℕ) (levels : List (List ℕ)) → OwesAlike (λ t. drop_namespace t command name levels)
   unfolding namespace_row_at
@@ -191,7 +186,7 @@ module _ (s : Rows) (command : Command) where
         leads-by s command (without_namespace s row) _ (changes-without_namespace s sound (time_of s command) (s.charged + command.charge) row (namespace-own s command sound name levels row found))
         (facts-dropped grant.the_row.coded grant_cmp DropGrant (λ grants. record after { access = record after.access { grants = grants } }) (λ grants fact. refl) (grant_names s.access.catalog_roles (referent.Securable (securable.Namespace row.id))) s.access.grants).is));
     orderly = λ sound within passes. orderly-drop_namespace s command sound within name levels passes;
-    fair = fair-on_namespace _ name levels (fair-given (namespace_row_at s name levels) fair-namespace_holds ⊳ none-fair);
+    fair = fair-on_namespace command _ name levels (fair-given (namespace_row_at s name levels) fair-namespace_holds ⊳ none-fair);
     answer = refl;
   }
 
@@ -203,6 +198,6 @@ module _ (s : Rows) (command : Command) where
         let own = namespace-own s command sound name levels row found in
         leads-one s command (with_altered s altered) (PutNamespace altered) true (same namespace.the_row.coded altered row) (λ as_is. unaltered s command sound altered (own ∙ ap Some (sym (same-true namespace.the_row.coded altered row as_is)))) (changes-altered s sound (time_of s command) (s.charged + command.charge) altered row own) refl));
     orderly = λ sound within passes. orderly-update_properties s command sound within name levels removals updates passes;
-    fair = fair-on_namespace _ name levels (fair-key_twice removals updates ⊳ none-fair);
+    fair = fair-on_namespace command _ name levels (fair-key_twice removals updates ⊳ none-fair);
     answer = refl;
   }

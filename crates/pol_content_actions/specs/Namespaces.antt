@@ -1,7 +1,6 @@
 -- The actions on namespaces.
-use Rattle.std.specs.Prelude.{ℕ, ◌+◌, List, [], ◌∷◌, map, Option, option_and_then, Some, option_map}
+use Rattle.std.specs.Prelude.{ℕ, ◌+◌, List, [], ◌∷◌, map, Option, Some, option_map}
 use Rattle.pol_access.specs.Access.{grants_on_dropped}
-use Rattle.pol_access.specs.declared.privilege.Privilege.{Privilege}
 use Rattle.pol_access.specs.declared.privilege.Privilege.TheVariants.{NamespaceCreate, NamespaceDrop, NamespaceList, NamespaceReadProperties, NamespaceWriteProperties}
 use Rattle.pol_access.specs.declared.securable.Securable.TheVariants as securable
 use Rattle.pol_content.specs.Content.{catalog_named, children, namespace_id, namespace_named}
@@ -12,22 +11,12 @@ use Rattle.pol_properties.specs.Properties.{keys, missing_keys, pairs_updated, r
 use Rattle.pol_properties.specs.declared.property.Property.{Property}
 use Rattle.pol_tables.specs.Table.{rows_with, rows_without}
 use Rattle.pol_rules.specs.Acting.{Acting, done, reading}
-use Rattle.pol_rules.specs.Needs.{forbidden, on_parent, on_path}
+use Rattle.pol_rules.specs.Prologues.{namespace_row_at, on_namespace}
+use Rattle.pol_rules.specs.Needs.{forbidden, on_parent}
 use Rattle.pol_state.specs.Rows.{Rows}
-use Rattle.pol_rules.specs.Rules.{given, inside, key_twice, namespace_holds, no_catalogue, no_namespace, no_parent, unauthenticated, name_taken}
+use Rattle.pol_rules.specs.Rules.{given, inside, key_twice, name_taken, namespace_holds, no_catalogue, no_parent, unauthenticated}
 use Rattle.pol_commands.specs.declared.command.Command.{Command}
 use Rattle.pol_commands.specs.declared.reply.Answer.TheVariants.{NamespacesListed, NamespaceCreated, NamespaceLoaded, NamespaceThere, NamespaceDropped, PropertiesUpdated}
-use Rattle.pol_commands.specs.declared.reply.Refusal.{Refusal}
-
--- the namespace of these levels in the catalogue of a name
-unfoldable pub namespace_row_at : Rows → List ℕ → List (List ℕ) → Option NamespaceRow
-namespace_row_at s name levels =
-    option_and_then (λ (catalog : CatalogRow). namespace_named catalog.id levels s.content) (catalog_named name s.content)
-
--- the rules of an action on a namespace that must be there and on which a privilege is needed, before its own
-abbrev pub on_namespace : Rows → Command → Privilege → List ℕ → List (List ℕ) → List (Option Refusal) → List (Option Refusal)
-on_namespace s command privilege name levels rules =
-    unauthenticated s command ∷ no_catalogue s name ∷ inside s name (λ catalog. forbidden s command (on_path s privilege levels catalog)) ∷ inside s name (λ catalog. no_namespace s catalog.id levels) ∷ rules
 
 -- listing the namespaces directly below a parent, or those of one level
 abbrev pub listed : Rows → Option (List (List ℕ)) → CatalogRow → List (List (List ℕ))

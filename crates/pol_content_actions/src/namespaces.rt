@@ -2,8 +2,8 @@ ghost use Rattle.std.specs.Prelude.{◌≡◌, map, Some, IfOk, option_copied, �
 ghost use Rattle.pol_content.specs.Content.{namespace_id};
 ghost use Rattle.pol_properties.specs.Properties.{keys, missing_keys, pairs_updated, removed_keys};
 ghost use Rattle.pol_tables.specs.Table.{row_of};
-ghost use Rattle.pol_rules.specs.Judged.{Acts, Enters, changes_to};
-ghost use Rattle.pol_content_actions.specs.Namespaces.{create_namespace, drop_namespace, head_namespace, list_namespaces, listed, load_namespace, namespace_row_at, on_namespace, update_properties, with_altered, without_namespace, with_new_namespace};
+ghost use Rattle.pol_rules.specs.Judged.{Acts, changes_to};
+ghost use Rattle.pol_content_actions.specs.Namespaces.{create_namespace, drop_namespace, head_namespace, list_namespaces, listed, load_namespace, update_properties, with_altered, with_new_namespace, without_namespace};
 ghost use Rattle.pol_state.specs.Sound.{IsSound};
 ghost use Rattle.pol_commands.specs.declared.reply.Answer.TheVariants.{NamespaceDropped, PropertiesUpdated, NamespaceCreated};
 
@@ -16,10 +16,9 @@ use pol_rules::callers::signed_in;
 use pol_rules::catalog_rules::catalog_there;
 use pol_rules::changes::under_next_id;
 use pol_rules::drops::push_grants;
-use pol_rules::namespace_rules::{
-    keys_apart, levels_free, namespace_empty, namespace_there, parent_there,
-};
-use pol_rules::needs::{allowed_on_parent, allowed_on_path};
+use pol_rules::namespace_rules::{keys_apart, levels_free, namespace_empty, parent_there};
+use pol_rules::needs::allowed_on_parent;
+use pol_rules::prologues::on_namespace;
 use pol_rules::rules::{Acted, Asked, Undone, time_of, unchanged};
 use pol_types::{Listed, OutOfMemory, Text};
 use std::alloc::Global;
@@ -112,29 +111,8 @@ fn created(asked: &Asked<'_>, row: NamespaceRow) -> Result<Acted, OutOfMemory>
     Ok(Acted { answer, changes })
 }
 
-/// The namespace of these levels in the catalogue of the name, on which the caller may use the privilege.
-#[tactic(auto, unfolding(crate::specs::Namespaces::namespace_row_at))]
-fn on_namespace<'a>(
-    asked: &Asked<'a>,
-    privilege: Privilege,
-    name: &Plain,
-    levels: &Namespace,
-) -> Result<&'a NamespaceRow, Undone>
-    requires { IsSound asked.now.state.now.rows }
-    ensures { let s = asked.now.state.now.rows in
-        Enters (on_namespace s asked.now.command.now privilege name.now levels.now)
-        (λ row. (namespace_row_at s name.now levels.now ≡ Some row.now)
-        × (row_of namespace_id row.now.id s.content.namespaces ≡ Some row.now)) result }
-{
-    signed_in(asked)?;
-    let catalog = catalog_there(asked, name)?;
-    allowed_on_path(asked, privilege, levels, catalog)?;
-    let row = namespace_there(asked, catalog.id, levels)?;
-    Ok(row)
-}
-
 /// Shows a namespace.
-#[tactic(auto, using(crate::proofs::ProloguesLemmas::on_namespace_stops, pol_rules::proofs::LeadsLemmas::no_changes))]
+#[tactic(auto, using(pol_rules::proofs::ProloguesLemmas::on_namespace_stops, pol_rules::proofs::LeadsLemmas::no_changes))]
 pub fn load_namespace(asked: &Asked<'_>, name: &Plain, levels: &Namespace) -> Result<Acted, Undone>
     requires { IsSound asked.now.state.now.rows }
     ensures { Acts asked.now (λ s command. load_namespace s command name.now levels.now) result }
@@ -148,7 +126,7 @@ pub fn load_namespace(asked: &Asked<'_>, name: &Plain, levels: &Namespace) -> Re
 }
 
 /// Tells whether a namespace is there.
-#[tactic(auto, using(crate::proofs::ProloguesLemmas::on_namespace_stops, pol_rules::proofs::LeadsLemmas::no_changes))]
+#[tactic(auto, using(pol_rules::proofs::ProloguesLemmas::on_namespace_stops, pol_rules::proofs::LeadsLemmas::no_changes))]
 pub fn head_namespace(asked: &Asked<'_>, name: &Plain, levels: &Namespace) -> Result<Acted, Undone>
     requires { IsSound asked.now.state.now.rows }
     ensures { Acts asked.now (λ s command. head_namespace s command name.now levels.now) result }
@@ -158,7 +136,7 @@ pub fn head_namespace(asked: &Asked<'_>, name: &Plain, levels: &Namespace) -> Re
 }
 
 /// Drops a namespace.
-#[tactic(auto, using(crate::proofs::ProloguesLemmas::on_namespace_stops))]
+#[tactic(auto, using(pol_rules::proofs::ProloguesLemmas::on_namespace_stops))]
 pub fn drop_namespace(asked: &Asked<'_>, name: &Plain, levels: &Namespace) -> Result<Acted, Undone>
     requires { IsSound asked.now.state.now.rows }
     ensures { Acts asked.now (λ s command. drop_namespace s command name.now levels.now) result }
@@ -188,7 +166,7 @@ fn dropped(asked: &Asked<'_>, row: &NamespaceRow) -> Result<Acted, OutOfMemory>
 }
 
 /// Removes and sets properties of a namespace.
-#[tactic(auto, using(crate::proofs::ProloguesLemmas::on_namespace_stops))]
+#[tactic(auto, using(pol_rules::proofs::ProloguesLemmas::on_namespace_stops))]
 pub fn update_properties(
     asked: &Asked<'_>,
     name: &Plain,

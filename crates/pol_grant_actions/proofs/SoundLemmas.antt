@@ -1,6 +1,6 @@
 -- The actions on catalogue roles, joins and grants keep a state sound.
 use denote.Enum.Bare.{true_same}
-use Rattle.std.proofs.Common.{◌≡◌, ℕ, ◌+◌, true, ◌&&◌, ◌||◌, codes, List, Option, None, Some, refl, sym, ap, subst, ◌∙◌, arith, nat_eq}
+use Rattle.std.proofs.Common.{◌≡◌, ℕ, ◌+◌, true, ◌&&◌, ◌||◌, codes, List, Option, None, Some, option_and_then, refl, sym, ap, subst, ◌∙◌, arith, nat_eq}
 use Rattle.std.specs.Option.{option_map}
 use Rattle.std.specs.Str.{bytes_eq}
 use Rattle.std.proofs.lemmas.Bool.{and_parts, eqb-true}
@@ -21,9 +21,12 @@ use Rattle.pol_tables.specs.Table.{knows, row_of, IdsDiffer}
 use Rattle.pol_tables.proofs.ListLemmas.{or_true}
 use Rattle.pol_tables.proofs.RisingLemmas.{IdsDiffer-rising}
 use Rattle.pol_tables.proofs.TableLemmas.{some_is}
-use Rattle.pol_content.specs.Chain.{namespace_at}
+use Rattle.pol_content.specs.Chain.{namespace_at, table_at}
 use Rattle.pol_content.specs.Content.{catalog_id, catalog_named, is_catalog_named, is_namespace_named, namespace_id, namespace_named}
-use Rattle.pol_content.specs.Ties.{IsGrantWithin, catalog_of}
+use Rattle.pol_table_rows.specs.Tables.{is_table_named, table_id, table_named}
+use Rattle.pol_table_rows.specs.declared.row.TableRow.{TableRow}
+use Rattle.pol_names.specs.declared.identifier.Identifier.{Identifier}
+use Rattle.pol_content.specs.Ties.{IsGrantWithin, catalog_of, catalog_of_namespace}
 use Rattle.pol_content.specs.declared.rows.CatalogRow.{CatalogRow}
 use Rattle.pol_content.specs.declared.rows.NamespaceRow.{NamespaceRow}
 use Rattle.pol_content.proofs.TiedContentLemmas as tied
@@ -127,6 +130,40 @@ module _ (s : Rows) (command : Command) (sound : IsSound s) (within : IsWithin s
         is = some_is _ one is;
       }
 
+  -- a table that was found lies in a namespace of its catalogue
+  record IsTableAt (catalog : ℕ) (one : Securable) : Type 0 where
+    row : TableRow
+    own : row_of table_id row.id s.content.tables ≡ Some row
+    upper : NamespaceRow
+    upper_own : row_of namespace_id row.namespace s.content.namespaces ≡ Some upper
+    within_catalog : upper.catalog ≡ catalog
+    given_id : IsGiven s.next_id row.id
+    is : securable.Table row.id ≡ one
+
+  table-found : (catalog : ℕ) (identifier : Identifier) (one : Securable) → option_map (λ (row : TableRow). securable.Table row.id) (table_at catalog identifier.namespace identifier.name s.content) ≡ Some one → IsTableAt catalog one
+  table-found catalog identifier one found = by (namespace_named catalog identifier.namespace s.content) refl found
+    where
+      of : (upper : NamespaceRow) → namespace_named catalog identifier.namespace s.content ≡ Some upper → (row : Option TableRow) → table_named upper.id identifier.name s.content.tables ≡ row
+          → option_map (λ (row : TableRow). securable.Table row.id) row ≡ Some one → IsTableAt catalog one
+      of upper there None missing is = let contrary : None ≡ Some one = is in cc
+      of upper there (Some row) kept is =
+          let named = and_parts (nat_eq upper.id row.namespace) _ (found-passes (is_table_named upper.id identifier.name) s.content.tables row kept) in
+          let own = found-own namespace_id (is_namespace_named catalog identifier.namespace) upper s.content.namespaces (IdsDiffer-rising namespace_id s.content.namespaces sound.orderly.content.namespaces.rise) there in
+          record {
+            row = row;
+            own = found-own table_id (is_table_named upper.id identifier.name) row s.content.tables (IdsDiffer-rising table_id s.content.tables sound.orderly.content.tables.numbered.rise) kept;
+            upper = upper;
+            upper_own = ap (λ id. row_of namespace_id id s.content.namespaces) (sym (eqb-true upper.id row.namespace named.0)) ∙ own;
+            within_catalog = sym (eqb-true catalog upper.catalog (and_parts (nat_eq catalog upper.catalog) _ (found-passes (is_namespace_named catalog identifier.namespace) s.content.namespaces upper there)).0);
+            given_id = found-holds (λ (one : TableRow). IsGiven s.next_id (table_id one)) (is_table_named upper.id identifier.name) s.content.tables row sound.orderly.content.tables.numbered.given kept;
+            is = some_is (securable.Table row.id) one is;
+          }
+
+      by : (upper : Option NamespaceRow) → namespace_named catalog identifier.namespace s.content ≡ upper
+          → option_map (λ (row : TableRow). securable.Table row.id) (option_and_then (λ (row : NamespaceRow). table_named row.id identifier.name s.content.tables) upper) ≡ Some one → IsTableAt catalog one
+      by None there is = let contrary : None ≡ Some one = is in cc
+      by (Some upper) there is = of upper there (table_named upper.id identifier.name s.content.tables) refl is
+
   -- what a grant names in a catalogue lies there, was given its id, and is of the kind that is named
   record LiesIn (catalog : CatalogRow) (named : GrantedOn) (one : Securable) : Type 0 where
     lies : catalog_of one s.content ≡ Some catalog.id
@@ -146,7 +183,13 @@ module _ (s : Rows) (command : Command) (sound : IsSound s) (within : IsWithin s
         given_id = at.given_id;
         kind = refl;
       })
-  lies-in name catalog (on.Table identifier) one there found = let contrary : None ≡ Some one = found in cc
+  lies-in name catalog (on.Table identifier) one there found =
+      let at = table-found catalog.id identifier one found in
+      subst (LiesIn catalog (on.Table identifier)) at.is (record {
+        lies = ap (option_and_then (λ (row : TableRow). catalog_of_namespace row.namespace s.content)) at.own ∙ ap (option_map (λ (row : NamespaceRow). row.catalog)) at.upper_own ∙ ap Some at.within_catalog;
+        given_id = at.given_id;
+        kind = refl;
+      })
   lies-in name catalog (on.View identifier) one there found = let contrary : None ≡ Some one = found in cc
 
   -- a grant that is added
@@ -168,7 +211,9 @@ module _ (s : Rows) (command : Command) (sound : IsSound s) (within : IsWithin s
   on-catalog catalog (on.Namespace levels) one id found is =
       let at = namespace-found catalog.id levels one found in
       let contrary : securable.Namespace at.row.id ≡ securable.Catalog id = at.is ∙ is in cc
-  on-catalog catalog (on.Table identifier) one id found is = let contrary : None ≡ Some one = found in cc
+  on-catalog catalog (on.Table identifier) one id found is =
+      let at = table-found catalog.id identifier one found in
+      let contrary : securable.Table at.row.id ≡ securable.Catalog id = at.is ∙ is in cc
   on-catalog catalog (on.View identifier) one id found is = let contrary : None ≡ Some one = found in cc
 
   privilege-same : (privilege other : Privilege) → privilege ≡ other → same_privilege privilege other ≡ true

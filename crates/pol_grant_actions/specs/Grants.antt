@@ -16,6 +16,9 @@ use Rattle.pol_commands.specs.declared.grants.GrantedOn.{GrantedOn}
 use Rattle.pol_commands.specs.declared.grants.GrantedOn.TheVariants as on
 use Rattle.pol_commands.specs.declared.reply.Answer.TheVariants.{GrantsListed, GrantAdded, GrantRevoked}
 use Rattle.pol_content.specs.Content.{namespace_id}
+use Rattle.pol_content.specs.declared.rows.NamespaceRow.{NamespaceRow}
+use Rattle.pol_table_rows.specs.Tables.{table_id}
+use Rattle.pol_table_rows.specs.declared.row.TableRow.{TableRow}
 use Rattle.pol_tables.specs.Facts.{facts_with, facts_without}
 use Rattle.pol_tables.specs.Table.{row_of}
 use Rattle.pol_rules.specs.AccessRules.{catalog_role_at, grant_of, in_catalog, no_catalog_role, no_grant, no_securable, reserved_grant}
@@ -23,12 +26,17 @@ use Rattle.pol_rules.specs.Acting.{Acting, done, reading}
 use Rattle.pol_state.specs.Rows.{Rows}
 use Rattle.pol_rules.specs.Rules.{given, inside}
 
+-- a table by its name in its catalogue
+abbrev pub table_named_on : Rows → TableRow → Option GrantedOn
+table_named_on s table =
+    option_map (λ (row : NamespaceRow). on.Table (record { namespace = row.levels; name = table.name })) (row_of namespace_id table.namespace s.content.namespaces)
+
 -- the securable that is there by its name in its catalogue
 abbrev pub named_on : Rows → Securable → Option GrantedOn
 named_on s securable.Realm = None
 named_on s (securable.Catalog id) = Some on.Catalog
 named_on s (securable.Namespace id) = option_map (λ row. on.Namespace row.levels) (row_of namespace_id id s.content.namespaces)
-named_on s (securable.Table id) = None
+named_on s (securable.Table id) = option_and_then (table_named_on s) (row_of table_id id s.content.tables)
 named_on s (securable.View id) = None
 
 -- a grant by the name of what it is on

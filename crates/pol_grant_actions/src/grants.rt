@@ -1,12 +1,12 @@
 ghost use Rattle.std.specs.Prelude.{◌≡◌, ◌++◌, IfOk, OnOk, filter_map, option_to_list};
-ghost use Rattle.pol_grant_actions.specs.Grants.{add_grant, grants_held, list_grants, named_grant, named_on, revoke, with_grant};
+ghost use Rattle.pol_grant_actions.specs.Grants.{add_grant, grants_held, list_grants, named_grant, named_on, revoke, table_named_on, with_grant};
 ghost use Rattle.pol_rules.specs.Judged.{Acts, changes_to};
 ghost use Rattle.pol_state.specs.Sound.{IsSound};
 
 use pol_access::{CatalogRoleRow, GrantRow, Referent, Securable};
 use pol_commands::{Answer, Grant, GrantedOn};
-use pol_content::Change;
-use pol_names::Plain;
+use pol_content::{Change, TableRow};
+use pol_names::{Identifier, Plain};
 use pol_rules::access_rules::{catalog_role_there, grant_may_end, grant_there, securable_there};
 use pol_rules::changes::{no_changes, one_change};
 use pol_rules::prologues::in_catalog;
@@ -76,7 +76,24 @@ fn named_on(state: &State, securable: Securable) -> Result<Option<GrantedOn>, Ou
             Some(row) => Ok(Some(GrantedOn::Namespace(row.levels.clone()?))),
             None => Ok(None),
         },
-        Securable::Realm | Securable::Table(_) | Securable::View(_) => Ok(None),
+        Securable::Table(id) => match state.content().table_of(id) {
+            Some(row) => table_named_on(state, row),
+            None => Ok(None),
+        },
+        Securable::Realm | Securable::View(_) => Ok(None),
+    }
+}
+
+/// A table by its name in its catalogue.
+fn table_named_on(state: &State, row: &TableRow) -> Result<Option<GrantedOn>, OutOfMemory>
+    ensures { IfOk result (λ on. on ≡ table_named_on state.now.rows row.now) }
+{
+    match state.content().namespace_of(row.namespace) {
+        Some(namespace) => Ok(Some(GrantedOn::Table(Identifier {
+            namespace: namespace.levels.clone()?,
+            name: row.name.clone()?,
+        }))),
+        None => Ok(None),
     }
 }
 

@@ -1,10 +1,11 @@
 -- What each action of the machine owes.
 use Rattle.pol_commands.specs.declared.command.Action.{Action}
-use Rattle.pol_commands.specs.declared.command.Action.TheVariants.{OpenSession, GetConfig, ListCatalogs, CreateCatalog, GetCatalog, DropCatalog, ListNamespaces, CreateNamespace, LoadNamespace, HeadNamespace, DropNamespace, UpdateProperties, ListPrincipals, CreatePrincipal, GetPrincipal, DropPrincipal, Rotate, ListMembers, AddMember, EndMember, ListPrincipalRoles, CreatePrincipalRole, GetPrincipalRole, DropPrincipalRole, ListJoins, AddJoin, EndJoin, ListCatalogRoles, CreateCatalogRole, GetCatalogRole, DropCatalogRole, ListGrants, AddGrant, Revoke}
+use Rattle.pol_commands.specs.declared.command.Action.TheVariants.{OpenSession, GetConfig, ListCatalogs, CreateCatalog, GetCatalog, DropCatalog, ListNamespaces, CreateNamespace, LoadNamespace, HeadNamespace, DropNamespace, UpdateProperties, ListTables, CreateTable, LoadTable, HeadTable, DropTable, ReportMetrics, ListPrincipals, CreatePrincipal, GetPrincipal, DropPrincipal, Rotate, ListMembers, AddMember, EndMember, ListPrincipalRoles, CreatePrincipalRole, GetPrincipalRole, DropPrincipalRole, ListJoins, AddJoin, EndJoin, ListCatalogRoles, CreateCatalogRole, GetCatalogRole, DropCatalogRole, ListGrants, AddGrant, Revoke}
 use Rattle.pol_commands.specs.declared.command.Command.{Command}
 use Rattle.pol_state.specs.Rows.{Rows}
 use Rattle.pol_rules.specs.Live.{live_part}
 use Rattle.pol_rules.proofs.OwesLemmas.{Owes}
+use Rattle.pol_table_actions.proofs.OwesLemmas.{owes-create_table, owes-drop_table, owes-head_table, owes-list_tables, owes-load_table, owes-report_metrics}
 use Rattle.pol_content_actions.proofs.OwesLemmas.{owes-create_catalog, owes-create_namespace, owes-drop_catalog, owes-drop_namespace, owes-get_catalog, owes-get_config, owes-head_namespace, owes-list_catalogs, owes-list_namespaces, owes-load_namespace, owes-open_session, owes-update_properties}
 use Rattle.pol_principal_actions.proofs.OwesLemmas.{owes-add_member, owes-create_principal, owes-create_principal_role, owes-drop_principal, owes-drop_principal_role, owes-end_member, owes-get_principal, owes-get_principal_role, owes-list_members, owes-list_principal_roles, owes-list_principals, owes-rotate}
 use Rattle.pol_grant_actions.proofs.OwesLemmas.{owes-add_grant, owes-add_join, owes-create_catalog_role, owes-drop_catalog_role, owes-end_join, owes-get_catalog_role, owes-list_catalog_roles, owes-list_grants, owes-list_joins, owes-revoke}
@@ -24,6 +25,12 @@ module _ (s : Rows) (command : Command) where
   owes (HeadNamespace name levels) = owes-head_namespace s command name levels
   owes (DropNamespace name levels) = owes-drop_namespace s command name levels
   owes (UpdateProperties name levels removals updates) = owes-update_properties s command name levels removals updates
+  owes (ListTables name levels) = owes-list_tables s command name levels
+  owes (CreateTable name levels request) = owes-create_table s command name levels request
+  owes (LoadTable name identifier refs_only) = owes-load_table s command name identifier refs_only
+  owes (HeadTable name identifier) = owes-head_table s command name identifier
+  owes (DropTable name identifier) = owes-drop_table s command name identifier
+  owes (ReportMetrics name identifier) = owes-report_metrics s command name identifier
   owes ListPrincipals = owes-list_principals s command
   owes (CreatePrincipal name client_id secret) = owes-create_principal s command name client_id secret
   owes (GetPrincipal name) = owes-get_principal s command name

@@ -13,8 +13,11 @@ use Rattle.pol_content_actions.specs.Namespaces.{create_namespace, drop_namespac
 use Rattle.pol_principal_actions.specs.PrincipalRoles.{create_principal_role, drop_principal_role, get_principal_role, list_principal_roles}
 use Rattle.pol_principal_actions.specs.Principals.{create_principal, drop_principal, get_principal, list_principals, rotate}
 use Rattle.pol_content_actions.specs.Sessions.{open_session}
+use Rattle.pol_table_actions.specs.Creation.{create_table}
+use Rattle.pol_table_actions.specs.Loading.{load_table}
+use Rattle.pol_table_actions.specs.Tables.{drop_table, head_table, list_tables, report_metrics}
 use Rattle.pol_commands.specs.declared.command.Action.{Action}
-use Rattle.pol_commands.specs.declared.command.Action.TheVariants.{OpenSession, GetConfig, ListCatalogs, CreateCatalog, GetCatalog, DropCatalog, ListNamespaces, CreateNamespace, LoadNamespace, HeadNamespace, DropNamespace, UpdateProperties, ListPrincipals, CreatePrincipal, GetPrincipal, DropPrincipal, Rotate, ListMembers, AddMember, EndMember, ListPrincipalRoles, CreatePrincipalRole, GetPrincipalRole, DropPrincipalRole, ListJoins, AddJoin, EndJoin, ListCatalogRoles, CreateCatalogRole, GetCatalogRole, DropCatalogRole, ListGrants, AddGrant, Revoke}
+use Rattle.pol_commands.specs.declared.command.Action.TheVariants.{OpenSession, GetConfig, ListCatalogs, CreateCatalog, GetCatalog, DropCatalog, ListNamespaces, CreateNamespace, LoadNamespace, HeadNamespace, DropNamespace, UpdateProperties, ListTables, CreateTable, LoadTable, HeadTable, DropTable, ReportMetrics, ListPrincipals, CreatePrincipal, GetPrincipal, DropPrincipal, Rotate, ListMembers, AddMember, EndMember, ListPrincipalRoles, CreatePrincipalRole, GetPrincipalRole, DropPrincipalRole, ListJoins, AddJoin, EndJoin, ListCatalogRoles, CreateCatalogRole, GetCatalogRole, DropCatalogRole, ListGrants, AddGrant, Revoke}
 use Rattle.pol_commands.specs.declared.command.Command.{Command}
 use Rattle.pol_commands.specs.declared.reply.Answer.{Answer}
 use Rattle.pol_commands.specs.declared.reply.Answer.TheVariants.{NamespaceThere}
@@ -36,6 +39,12 @@ acting s command (LoadNamespace name levels) = load_namespace s command name lev
 acting s command (HeadNamespace name levels) = head_namespace s command name levels
 acting s command (DropNamespace name levels) = drop_namespace s command name levels
 acting s command (UpdateProperties name levels removals updates) = update_properties s command name levels removals updates
+acting s command (ListTables name levels) = list_tables s command name levels
+acting s command (CreateTable name levels request) = create_table s command name levels request
+acting s command (LoadTable name identifier refs_only) = load_table s command name identifier refs_only
+acting s command (HeadTable name identifier) = head_table s command name identifier
+acting s command (DropTable name identifier) = drop_table s command name identifier
+acting s command (ReportMetrics name identifier) = report_metrics s command name identifier
 acting s command ListPrincipals = list_principals s command
 acting s command (CreatePrincipal name client_id secret) = create_principal s command name client_id secret
 acting s command (GetPrincipal name) = get_principal s command name

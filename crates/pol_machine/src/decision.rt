@@ -32,6 +32,9 @@ use pol_principal_actions::principals::{
 use pol_rules::bounds::within_bounds;
 use pol_rules::rules::{Acted, Asked, Undone, run_open};
 use pol_state::State;
+use pol_table_actions::creation::create_table;
+use pol_table_actions::loading::load_table;
+use pol_table_actions::tables::{drop_table, head_table, list_tables, report_metrics};
 use pol_types::{Listed, OutOfMemory};
 use std::alloc::Global;
 
@@ -132,6 +135,29 @@ fn act(asked: &Asked<'_>) -> Result<Acted, Undone>
             removals,
             updates,
         } => update_properties(asked, catalog, namespace, removals, updates),
+        Action::ListTables { catalog, namespace } => list_tables(asked, catalog, namespace),
+        Action::CreateTable {
+            catalog,
+            namespace,
+            request,
+        } => create_table(asked, catalog, namespace, request),
+        Action::LoadTable {
+            catalog,
+            identifier,
+            refs_only,
+        } => load_table(asked, catalog, identifier, *refs_only),
+        Action::HeadTable {
+            catalog,
+            identifier,
+        } => head_table(asked, catalog, identifier),
+        Action::DropTable {
+            catalog,
+            identifier,
+        } => drop_table(asked, catalog, identifier),
+        Action::ReportMetrics {
+            catalog,
+            identifier,
+        } => report_metrics(asked, catalog, identifier),
         Action::ListPrincipals => list_principals(asked),
         Action::CreatePrincipal {
             name,

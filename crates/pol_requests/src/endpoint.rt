@@ -6,6 +6,7 @@ pub enum Endpoint {
     OpenSession,
     Content(ContentRequest),
     Namespace(NamespaceRequest),
+    Table(TableRequest),
     Catalog(CatalogRequest),
     Principal(PrincipalRequest),
     PrincipalRole(PrincipalRoleRequest),
@@ -20,13 +21,24 @@ pub enum ContentRequest {
     CreateNamespace,
 }
 
-/// One namespace of a catalogue.
+/// One namespace of a catalogue, and the tables in it.
 #[derive(Clone, Copy, Debug)]
 pub enum NamespaceRequest {
     LoadNamespace,
     HeadNamespace,
     DropNamespace,
     UpdateProperties,
+    ListTables,
+    CreateTable,
+}
+
+/// One table of a namespace.
+#[derive(Clone, Copy, Debug)]
+pub enum TableRequest {
+    LoadTable,
+    HeadTable,
+    DropTable,
+    ReportMetrics,
 }
 
 /// The catalogues themselves.

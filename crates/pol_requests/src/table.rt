@@ -5,14 +5,14 @@ ghost use Rattle.pol_requests.specs.Table.{entry_of, table};
 
 use crate::endpoint::{
     CatalogRequest, CatalogRoleRequest, ContentRequest, Endpoint, NamespaceRequest,
-    PrincipalRequest, PrincipalRoleRequest,
+    PrincipalRequest, PrincipalRoleRequest, TableRequest,
 };
 
 /// How the requests of a method and path are served.
 #[derive(Clone, Copy, Debug)]
 pub enum Service {
     /// They ask for this, and each draws so many random words, 4 at most: the token of a session is made of two, the
-    /// client id of a new principal of one, and each secret of two.
+    /// uuid of a new table of two of its four, the client id of a new principal of one, and each secret of two.
     Built { endpoint: Endpoint, words: u8 },
     /// They are not served yet.
     NotBuilt,
@@ -94,22 +94,34 @@ pub const TABLE: [Row; ROW_COUNT] = [
     (
         "GET",
         "/api/catalog/v1/{prefix}/namespaces/{namespace}/tables",
-        Service::NotBuilt,
+        Service::Built {
+            endpoint: Endpoint::Namespace(NamespaceRequest::ListTables),
+            words: 0,
+        },
     ),
     (
         "POST",
         "/api/catalog/v1/{prefix}/namespaces/{namespace}/tables",
-        Service::NotBuilt,
+        Service::Built {
+            endpoint: Endpoint::Namespace(NamespaceRequest::CreateTable),
+            words: 4,
+        },
     ),
     (
         "GET",
         "/api/catalog/v1/{prefix}/namespaces/{namespace}/tables/{table}",
-        Service::NotBuilt,
+        Service::Built {
+            endpoint: Endpoint::Table(TableRequest::LoadTable),
+            words: 0,
+        },
     ),
     (
         "HEAD",
         "/api/catalog/v1/{prefix}/namespaces/{namespace}/tables/{table}",
-        Service::NotBuilt,
+        Service::Built {
+            endpoint: Endpoint::Table(TableRequest::HeadTable),
+            words: 0,
+        },
     ),
     (
         "POST",
@@ -119,7 +131,10 @@ pub const TABLE: [Row; ROW_COUNT] = [
     (
         "DELETE",
         "/api/catalog/v1/{prefix}/namespaces/{namespace}/tables/{table}",
-        Service::NotBuilt,
+        Service::Built {
+            endpoint: Endpoint::Table(TableRequest::DropTable),
+            words: 0,
+        },
     ),
     (
         "GET",
@@ -129,7 +144,10 @@ pub const TABLE: [Row; ROW_COUNT] = [
     (
         "POST",
         "/api/catalog/v1/{prefix}/namespaces/{namespace}/tables/{table}/metrics",
-        Service::NotBuilt,
+        Service::Built {
+            endpoint: Endpoint::Table(TableRequest::ReportMetrics),
+            words: 0,
+        },
     ),
     (
         "POST",

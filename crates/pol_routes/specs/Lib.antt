@@ -1,4 +1,5 @@
 pub mod Bearer
+pub mod Delegation
 pub mod Form
 pub mod Laws
 pub mod Plan
@@ -7,5 +8,6 @@ pub mod Request
 pub mod Requests
 pub mod Route
 pub mod Segment
+pub mod Tables
 pub mod Target
 pub mod TokenForm

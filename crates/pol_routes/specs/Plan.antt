@@ -1,5 +1,5 @@
 -- What a message asks of the catalogue.
-use Rattle.std.specs.Prelude.{ℕ, ◌+◌, List, length, Result, Ok, Err}
+use Rattle.std.specs.Prelude.{ℕ, ◌+◌, ◌&&◌, length, Result, Ok, Err, if◌then◌else◌}
 use Rattle.pol_http.specs.Head.{fields_of}
 use Rattle.pol_http.specs.Message.{Message, print_message}
 use Rattle.pol_commands.specs.declared.command.Caller.{Caller}
@@ -7,7 +7,7 @@ use Rattle.pol_commands.specs.declared.command.Caller.TheVariants.{Nobody}
 use Rattle.pol_commands.specs.declared.command.Command.{Command}
 use Rattle.pol_commands.specs.declared.command.Words4.{Words4}
 use Rattle.pol_requests.specs.declared.endpoint.Endpoint.{Endpoint}
-use Rattle.pol_requests.specs.declared.endpoint.Endpoint.TheVariants.{OpenSession, Content, Namespace, Catalog, Principal, PrincipalRole, CatalogRole}
+use Rattle.pol_requests.specs.declared.endpoint.Endpoint.TheVariants.{OpenSession, Content, Namespace, Table, Catalog, Principal, PrincipalRole, CatalogRole}
 use Rattle.pol_requests.specs.declared.refused.RouteRefused.{RouteRefused}
 use Rattle.pol_requests.specs.declared.refused.RouteRefused.TheVariants.{NotBuilt as NotBuiltYet}
 use Rattle.pol_requests.specs.declared.table.Service.{Service}
@@ -17,6 +17,7 @@ use Rattle.pol_requests.specs.Table.{Entry}
 use Rattle.pol_routes.specs.declared.plans.Planned.{Planned}
 use Rattle.pol_routes.specs.declared.plans.TheConstants.{REQUEST_CHARGE}
 use Rattle.pol_routes.specs.Bearer.{caller_of}
+use Rattle.pol_routes.specs.Delegation.{is_delegated, may_hand_out}
 use Rattle.pol_routes.specs.Request.{Request}
 use Rattle.pol_routes.specs.Requests.{action_of}
 use Rattle.pol_routes.specs.Route.{row_of}
@@ -27,20 +28,22 @@ abbrev pub caller_for : Endpoint → Caller → Caller
 caller_for OpenSession caller = Nobody
 caller_for (Content request) caller = caller
 caller_for (Namespace request) caller = caller
+caller_for (Table request) caller = caller
 caller_for (Catalog request) caller = caller
 caller_for (Principal request) caller = caller
 caller_for (PrincipalRole request) caller = caller
 caller_for (CatalogRole request) caller = caller
 
--- the plan of a request with that charge and caller, by how such requests are served
+-- the plan of a request with that charge and caller, by how such requests are served; storage tokens aren't yet
 unfoldable pub served_plan : ℕ → Caller → Request → Service → Result Planned RouteRefused
 served_plan charge caller request (Built endpoint words) =
-    action_of request endpoint >>= λ action. Ok (record { caller = caller_for endpoint caller; action = action; words = words; charge = charge })
+    if request.delegated && may_hand_out endpoint then Err NotBuiltYet
+    else (action_of request endpoint >>= λ action. Ok (record { caller = caller_for endpoint caller; action = action; words = words; charge = charge }))
 served_plan charge caller request NotBuilt = Err NotBuiltYet
 
 -- the request that a message makes by a row of the table
 abbrev pub request_by : Entry → Message → Request
-request_by row message = record { pattern = row.path; target = message.head.target; body = message.body }
+request_by row message = record { pattern = row.path; target = message.head.target; body = message.body; delegated = is_delegated (fields_of message.head) }
 
 -- the plan of a message, or why it has none: its row is found first
 unfoldable pub plan_of : Message → Result Planned RouteRefused

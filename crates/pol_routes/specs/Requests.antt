@@ -11,9 +11,11 @@ use Rattle.pol_requests.specs.declared.endpoint.CatalogRoleRequest.{CatalogRoleR
 use Rattle.pol_requests.specs.declared.endpoint.CatalogRoleRequest.TheVariants.{ListCatalogRoles, CreateCatalogRole, GetCatalogRole, DropCatalogRole, ListGrants, AddGrant, Revoke}
 use Rattle.pol_requests.specs.declared.endpoint.ContentRequest.TheVariants.{GetConfig, ListNamespaces, CreateNamespace}
 use Rattle.pol_requests.specs.declared.endpoint.Endpoint.{Endpoint}
-use Rattle.pol_requests.specs.declared.endpoint.Endpoint.TheVariants.{OpenSession, Content, Namespace, Catalog, Principal, PrincipalRole, CatalogRole}
+use Rattle.pol_requests.specs.declared.endpoint.Endpoint.TheVariants.{OpenSession, Content, Namespace, Table, Catalog, Principal, PrincipalRole, CatalogRole}
 use Rattle.pol_requests.specs.declared.endpoint.NamespaceRequest.{NamespaceRequest}
-use Rattle.pol_requests.specs.declared.endpoint.NamespaceRequest.TheVariants.{LoadNamespace, HeadNamespace, DropNamespace, UpdateProperties}
+use Rattle.pol_requests.specs.declared.endpoint.NamespaceRequest.TheVariants.{LoadNamespace, HeadNamespace, DropNamespace, UpdateProperties, ListTables, CreateTable}
+use Rattle.pol_requests.specs.declared.endpoint.TableRequest.{TableRequest}
+use Rattle.pol_requests.specs.declared.endpoint.TableRequest.TheVariants.{LoadTable, HeadTable, DropTable, ReportMetrics}
 use Rattle.pol_requests.specs.declared.endpoint.PrincipalRequest.TheVariants.{ListPrincipals, CreatePrincipal, GetPrincipal, DropPrincipal, Rotate, ListMembers, AddMember, EndMember}
 use Rattle.pol_requests.specs.declared.endpoint.PrincipalRoleRequest.TheVariants.{ListPrincipalRoles, CreatePrincipalRole, GetPrincipalRole, DropPrincipalRole, ListJoins, AddJoin, EndJoin}
 use Rattle.pol_requests.specs.declared.refused.RouteRefused.{RouteRefused}
@@ -21,10 +23,13 @@ use Rattle.pol_requests.specs.declared.refused.RouteRefused.TheVariants.{GrantTy
 use Rattle.pol_bodies.specs.declared.bodies.NewCatalog.{NewCatalog}
 use Rattle.pol_bodies.specs.Bodies.{catalog_body, new_namespace, property_updates}
 use Rattle.pol_bodies.specs.Body.{body_of}
+use Rattle.pol_bodies.specs.TableBody.{create_table_of}
+use Rattle.pol_names.specs.declared.identifier.Identifier.{Identifier}
 use Rattle.pol_bodies.specs.ManagementBodies.{catalog_role_body, grant_body, principal_body, principal_role_body}
 use Rattle.pol_routes.specs.Query.{query_value}
-use Rattle.pol_routes.specs.Request.{Request, plain, namespace}
+use Rattle.pol_routes.specs.Request.{Request, plain, namespace, table}
 use Rattle.pol_routes.specs.Segment.{plain_of, namespace_of}
+use Rattle.pol_routes.specs.Tables.{drop_table, load_table}
 use Rattle.pol_routes.specs.Target.{query_of}
 use Rattle.pol_routes.specs.TokenForm.{token_form}
 use Rattle.pol_routes.specs.declared.routed.TheConstants.{PREFIX, CATALOG, PRINCIPAL, ROLE, CATALOG_ROLE}
@@ -72,6 +77,15 @@ on_namespace request catalog levels LoadNamespace = Ok (action.LoadNamespace cat
 on_namespace request catalog levels HeadNamespace = Ok (action.HeadNamespace catalog levels)
 on_namespace request catalog levels DropNamespace = Ok (action.DropNamespace catalog levels)
 on_namespace request catalog levels UpdateProperties = body_of (body property_updates request.body) >>= λ new. Ok (action.UpdateProperties catalog levels new.removals new.updates)
+on_namespace request catalog levels ListTables = Ok (action.ListTables catalog levels)
+on_namespace request catalog levels CreateTable = create_table_of request.body >>= λ new. Ok (action.CreateTable catalog levels new)
+
+-- the action of a request on a table of a catalogue
+abbrev pub on_table : Request → List ℕ → Identifier → TableRequest → Result Action RouteRefused
+on_table request catalog identifier LoadTable = load_table request.target catalog identifier
+on_table request catalog identifier HeadTable = Ok (action.HeadTable catalog identifier)
+on_table request catalog identifier DropTable = drop_table request.target catalog identifier
+on_table request catalog identifier ReportMetrics = Ok (action.ReportMetrics catalog identifier)
 
 -- the action of a request on the roles of a catalogue
 abbrev pub on_catalog_roles : Request → List ℕ → CatalogRoleRequest → Result Action RouteRefused
@@ -90,6 +104,7 @@ action_of request (Content GetConfig) = warehouse request.target >>= λ catalog.
 action_of request (Content ListNamespaces) = plain PREFIX.now request >>= λ catalog. parent request.target >>= λ within. Ok (action.ListNamespaces catalog within)
 action_of request (Content CreateNamespace) = plain PREFIX.now request >>= λ catalog. body_of (body new_namespace request.body) >>= λ new. Ok (action.CreateNamespace catalog new.namespace new.properties)
 action_of request (Namespace asked) = plain PREFIX.now request >>= λ catalog. namespace request >>= λ levels. on_namespace request catalog levels asked
+action_of request (Table asked) = plain PREFIX.now request >>= λ catalog. namespace request >>= λ levels. table request >>= λ name. on_table request catalog (record { namespace = levels; name = name }) asked
 action_of request (Catalog ListCatalogs) = Ok action.ListCatalogs
 action_of request (Catalog CreateCatalog) = body_of (body catalog_body request.body) >>= λ read. Ok (creation_of read.catalog)
 action_of request (Catalog GetCatalog) = plain CATALOG.now request >>= λ catalog. Ok (action.GetCatalog catalog)

@@ -2,6 +2,7 @@
 #![tactic(auto)]
 
 mod bearer;
+mod delegation;
 mod form;
 pub mod laws;
 mod management;
@@ -11,6 +12,7 @@ mod requests;
 mod routed;
 mod routes;
 mod segment;
+mod tables;
 mod target;
 mod token_form;
 

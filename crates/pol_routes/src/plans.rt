@@ -9,6 +9,7 @@ ghost use Rattle.pol_routes.specs.Route as route;
 ghost use Rattle.pol_routes.specs.Target.{path_of};
 
 use crate::bearer::caller_of;
+use crate::delegation::{is_delegated, may_hand_out};
 use crate::requests::action_of;
 use crate::routed::Routed;
 use crate::routes::Routes;
@@ -56,6 +57,7 @@ pub fn plan(
         pattern: row.1.as_bytes(),
         target,
         body: body.of(bytes),
+        delegated: is_delegated(bytes, head),
     };
     served_plan(alloc, row.2, charge, caller, &message)
 }
@@ -82,12 +84,17 @@ fn served_plan(
     ensures { Meets (spec.served_plan charge caller (request_of message.now) service) result }
 {
     match service {
-        Service::Built { endpoint, words } => Ok(Planned {
-            action: action_of(alloc, endpoint, message)?,
-            caller: caller_for(endpoint, caller),
-            words,
-            charge,
-        }),
+        Service::Built { endpoint, words } => {
+            if message.delegated && may_hand_out(endpoint) {
+                return Err(Unplanned::Refused(RouteRefused::NotBuilt));
+            }
+            Ok(Planned {
+                action: action_of(alloc, endpoint, message)?,
+                caller: caller_for(endpoint, caller),
+                words,
+                charge,
+            })
+        }
         Service::NotBuilt => Err(Unplanned::Refused(RouteRefused::NotBuilt)),
     }
 }

@@ -1,7 +1,7 @@
 //! What requests ask for, by their paths, queries and bodies: those of the catalogue API (Iceberg REST OpenAPI).
 ghost use Rattle.std.specs.Prelude.{◌≡◌};
 ghost use Rattle.pol_requests.specs.Refused.{Meets};
-ghost use Rattle.pol_requests.specs.declared.endpoint.Endpoint.TheVariants.{Content as OfContent, Namespace as OfNamespace};
+ghost use Rattle.pol_requests.specs.declared.endpoint.Endpoint.TheVariants.{Content as OfContent, Namespace as OfNamespace, Table as OfTable};
 ghost use Rattle.pol_routes.specs.Request.{request_of};
 ghost use Rattle.pol_routes.specs.Requests as spec;
 
@@ -11,13 +11,14 @@ use crate::management::{
 use crate::query::query_value;
 use crate::routed::{PREFIX, Routed};
 use crate::segment::{namespace_of, plain_of};
+use crate::tables::{drop_table, load_table};
 use crate::target::query_of;
 use crate::token_form::{TokenForm, read_token_form};
-use pol_bodies::{NewNamespace, PropertyUpdates, body_of};
+use pol_bodies::{NewNamespace, PropertyUpdates, body_of, create_table_of};
 use pol_commands::Action;
-use pol_names::{Namespace, Plain};
+use pol_names::{Identifier, Namespace, Plain};
 use pol_requests::{
-    ContentRequest, Endpoint, NamespaceRequest, RouteRefused, Unplanned, unreadable,
+    ContentRequest, Endpoint, NamespaceRequest, RouteRefused, TableRequest, Unplanned, unreadable,
 };
 use pol_types::Text;
 use std::alloc::Global;
@@ -34,6 +35,7 @@ pub(crate) fn action_of(
         Endpoint::OpenSession => open_session(alloc, message.body),
         Endpoint::Content(asked) => content_action(alloc, asked, message),
         Endpoint::Namespace(asked) => namespace_action(alloc, asked, message),
+        Endpoint::Table(asked) => table_action(alloc, asked, message),
         Endpoint::Catalog(asked) => catalog_action(alloc, asked, message),
         Endpoint::Principal(asked) => principal_action(alloc, asked, message),
         Endpoint::PrincipalRole(asked) => principal_role_action(alloc, asked, message),
@@ -108,6 +110,57 @@ fn on_namespace(
                 updates: changes.updates,
             })
         }
+        NamespaceRequest::ListTables => Ok(Action::ListTables { catalog, namespace }),
+        NamespaceRequest::CreateTable => Ok(Action::CreateTable {
+            catalog,
+            namespace,
+            request: create_table_of(alloc, message.body)?,
+        }),
+    }
+}
+
+/// What a request asks for of one table of a namespace.
+#[tactic(auto, using(pol_requests::proofs::RefusedLemmas::chained))]
+fn table_action(
+    alloc: Global,
+    asked: TableRequest,
+    message: &Routed<'_>,
+) -> Result<Action, Unplanned>
+    ensures { Meets (spec.action_of (request_of message.now) (OfTable asked)) result }
+{
+    let catalog = message.plain(alloc, PREFIX)?;
+    let namespace = message.namespace(alloc)?;
+    let name = message.table(alloc)?;
+    on_table(
+        alloc,
+        asked,
+        message,
+        catalog,
+        Identifier { namespace, name },
+    )
+}
+
+/// What a request asks for of a table that it names.
+fn on_table(
+    alloc: Global,
+    asked: TableRequest,
+    message: &Routed<'_>,
+    catalog: Plain,
+    identifier: Identifier,
+) -> Result<Action, Unplanned>
+    ensures { Meets (spec.on_table (request_of message.now) catalog identifier asked) result }
+{
+    match asked {
+        TableRequest::LoadTable => load_table(alloc, message.target, catalog, identifier),
+        TableRequest::HeadTable => Ok(Action::HeadTable {
+            catalog,
+            identifier,
+        }),
+        TableRequest::DropTable => drop_table(alloc, message.target, catalog, identifier),
+        TableRequest::ReportMetrics => Ok(Action::ReportMetrics {
+            catalog,
+            identifier,
+        }),
     }
 }
 

@@ -2,9 +2,9 @@
 ghost use Rattle.pol_requests.specs.Refused.{Meets};
 ghost use Rattle.pol_routes.specs.Request as spec;
 
-use crate::segment::{namespace_segment, plain_segment, segment_for};
+use crate::segment::{name_segment, namespace_segment, plain_segment, segment_for};
 use crate::target::path_of;
-use pol_names::{Namespace, Plain};
+use pol_names::{Name, Namespace, Plain};
 use pol_requests::Unplanned;
 use std::alloc::Global;
 
@@ -12,6 +12,8 @@ use std::alloc::Global;
 pub(crate) const PREFIX: &[u8] = b"{prefix}";
 
 pub(crate) const NAMESPACE: &[u8] = b"{namespace}";
+
+pub(crate) const TABLE: &[u8] = b"{table}";
 
 pub(crate) const CATALOG: &[u8] = b"{catalog}";
 
@@ -28,6 +30,8 @@ pub(crate) struct Routed<'r> {
     pub pattern: &'r [u8],
     pub target: &'r [u8],
     pub body: &'r [u8],
+    /// Whether its fields ask for a storage token.
+    pub delegated: bool,
 }
 
 impl Routed<'_> {
@@ -47,5 +51,14 @@ impl Routed<'_> {
     {
         let path = path_of(self.target);
         namespace_segment(alloc, segment_for(path, self.pattern, NAMESPACE))
+    }
+
+    /// The name of a table that the path has.
+    #[tactic(auto, unfolding(crate::specs::Request::table))]
+    pub(crate) fn table(&self, alloc: Global) -> Result<Name, Unplanned>
+        ensures { Meets (spec.table (spec.request_of self.now)) result }
+    {
+        let path = path_of(self.target);
+        name_segment(alloc, segment_for(path, self.pattern, TABLE))
     }
 }

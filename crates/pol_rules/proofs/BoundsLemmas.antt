@@ -1,9 +1,10 @@
 -- The bounds of the rows to which changes lead, judged on the changes.
-use Rattle.std.proofs.Common.{◌≡◌, ℕ, ◌+◌, ◌≤◌, ◌^◌, ◌==◌, Bool, true, false, cond, ◌||◌, nat_lt, List, [], ◌∷◌, ◌++◌, filter, length, Option, is_some, refl, sym, ap, ◌∙◌, true≢false, arith}
+use Rattle.std.proofs.Common.{◌≡◌, ℕ, ◌+◌, ◌-◌, ◌≤◌, ◌^◌, ◌==◌, min, Bool, true, false, cond, ◌||◌, nat_lt, List, [], ◌∷◌, ◌++◌, filter, length, Option, None, Some, is_some, refl, sym, ap, ◌∙◌, true≢false, arith}
 use Rattle.std.specs.List.{list_any}
 use denote.Enum.Bare.{sameb}
 use Rattle.std.specs.Option.{option_or}
-use Rattle.std.proofs.lemmas.Bool.{eqb-true, le-ltb}
+use Rattle.std.proofs.Math.Nat.{min-eq_left, min-eq_right}
+use Rattle.std.proofs.lemmas.Bool.{eqb-true, le-ltb, lt-ltb, ltb-false, ltb-true}
 use Rattle.std.proofs.lemmas.List.Folds.{list_any-append}
 use Rattle.pol_tables.proofs.CountLemmas.{any-changed}
 use Rattle.pol_tables.proofs.ListLemmas.{or_false}
@@ -16,21 +17,27 @@ use Rattle.pol_content.specs.contracts.change.RowKind.{the_type}
 use Rattle.pol_content.specs.contracts.rows.CatalogRow as catalog
 use Rattle.pol_content.specs.contracts.rows.NamespaceRow as namespace
 use Rattle.pol_content.specs.declared.change.Change.{Change}
-use Rattle.pol_content.specs.declared.change.Change.TheVariants.{Time, NextId, NextSerial, PutCatalog, DropCatalog, PutNamespace, DropNamespace}
+use Rattle.pol_content.specs.declared.change.Change.TheVariants.{Time, NextId, NextSerial, PutCatalog, DropCatalog, PutNamespace, DropNamespace, PutTable, DropTable}
 use Rattle.pol_content.specs.declared.change.RowKind.{RowKind}
 use Rattle.pol_content.specs.declared.change.RowKind.TheVariants as kind
 use Rattle.pol_content.specs.declared.rows.CatalogRow.{CatalogRow}
 use Rattle.pol_content.specs.declared.rows.NamespaceRow.{NamespaceRow}
+use Rattle.pol_meta.specs.Weight.{capped}
+use Rattle.pol_table_rows.specs.Tables.{table_id}
+use Rattle.pol_table_rows.specs.contracts.row.TableRow as table
+use Rattle.pol_table_rows.specs.declared.row.TableRow.{TableRow}
+use Rattle.pol_commands.specs.declared.reply.Quantity.{Quantity}
 use Rattle.pol_commands.specs.declared.reply.Quantity.TheVariants as quantity
+use Rattle.pol_commands.specs.declared.reply.Refusal.{Refusal}
 use Rattle.pol_commands.specs.declared.reply.Refusal.TheVariants.{Limit}
 use Rattle.pol_state.specs.Applied.{applied}
-use Rattle.pol_state.specs.Bounds.{above, allowed_count, catalog_properties, first_refusal, namespace_properties, over_limit, refuse_if}
+use Rattle.pol_state.specs.Bounds.{above, allowed_count, any_above, catalog_properties, first_refusal, namespace_properties, order_count, over_limit, ref_count, refuse_if, schema_count, snapshot_count, spec_count, table_properties, table_version, table_weight}
 use Rattle.pol_state.specs.Changes.{changes_between, headed, id_change, in_turn, row_changes, serial_change}
 use Rattle.pol_state.specs.Rows.{Rows}
 use Rattle.pol_state.specs.Sound.{IsOrderly, IsSound}
 use Rattle.pol_state.proofs.BoundsLemmas.{above-within, each-within}
-use Rattle.pol_rules.specs.Counted.{catalogs_put, counts_after, id_set, limits_of, limits_put, namespaces_put, number_of, serial_set}
-use Rattle.pol_rules.proofs.CountedLemmas.{count-catalogs, count-principals, count-principal_roles, count-catalog_roles, count-members, count-joins, count-grants, count-namespaces, filter-alone, of_kind, Fails, filter-quiet}
+use Rattle.pol_rules.specs.Counted.{allowed_put, catalog_properties_put, catalogs_put, counts_after, id_set, limits_of, limits_put, namespace_properties_put, namespaces_put, number_of, orders_put, part_limits, property_limits, refs_put, schemas_put, serial_set, snapshots_put, specs_put, table_properties_put, tables_put, version_put, weight_put}
+use Rattle.pol_rules.proofs.CountedLemmas.{count-catalogs, count-principals, count-principal_roles, count-catalog_roles, count-members, count-joins, count-grants, count-namespaces, count-tables, filter-alone, of_kind, Fails, filter-quiet}
 use Rattle.pol_rules.proofs.RulesLemmas.{first-joined, refused-not}
 
 -- whether any passes a test is told by those that do
@@ -60,6 +67,7 @@ module _ (bound : ℕ) (number : CatalogRow → ℕ) where
   catalogs-fail kind.Catalog apart = absurd (true≢false apart)
   catalogs-fail kind.CatalogRole apart = (λ row. catalogs_zero, λ gone. catalogs_zero)
   catalogs-fail kind.Namespace apart = (λ row. catalogs_zero, λ gone. catalogs_zero)
+  catalogs-fail kind.Table apart = (λ row. catalogs_zero, λ gone. catalogs_zero)
   catalogs-fail kind.Member apart = (λ row. catalogs_zero, λ gone. catalogs_zero)
   catalogs-fail kind.Join apart = (λ row. catalogs_zero, λ gone. catalogs_zero)
   catalogs-fail kind.Grant apart = (λ row. catalogs_zero, λ gone. catalogs_zero)
@@ -98,6 +106,7 @@ module _ (bound : ℕ) (number : NamespaceRow → ℕ) where
   namespaces-fail kind.Catalog apart = (λ row. namespaces_zero, λ gone. namespaces_zero)
   namespaces-fail kind.CatalogRole apart = (λ row. namespaces_zero, λ gone. namespaces_zero)
   namespaces-fail kind.Namespace apart = absurd (true≢false apart)
+  namespaces-fail kind.Table apart = (λ row. namespaces_zero, λ gone. namespaces_zero)
   namespaces-fail kind.Member apart = (λ row. namespaces_zero, λ gone. namespaces_zero)
   namespaces-fail kind.Join apart = (λ row. namespaces_zero, λ gone. namespaces_zero)
   namespaces-fail kind.Grant apart = (λ row. namespaces_zero, λ gone. namespaces_zero)
@@ -121,6 +130,45 @@ module _ (bound : ℕ) (number : NamespaceRow → ℕ) where
       any-alone namespaces_above (changes_between s t) (of_kind kind.Namespace (row_changes s t)) (namespaces-alone s t)
       ∙ any-changed namespace_id namespace.the_row.coded PutNamespace DropNamespace (λ row. nat_lt bound (number row)) namespaces_above s.content.namespaces t.content.namespaces none namespaces-put namespaces-drop
 
+-- a test of the tables that are put
+module _ (bound : ℕ) (number : TableRow → ℕ) where
+  abbrev tables_above : Change → Bool
+  tables_above change = nat_lt bound (number_of number (tables_put change))
+
+  tables_zero : nat_lt bound 0 ≡ false
+  tables_zero = le-ltb bound 0 (omega arith)
+
+  tables-fail : (of : RowKind) → sameb the_type of kind.Table ≡ false → Fails tables_above of
+  unfolding tables_put
+  tables-fail kind.Principal apart = (λ row. tables_zero, λ gone. tables_zero)
+  tables-fail kind.PrincipalRole apart = (λ row. tables_zero, λ gone. tables_zero)
+  tables-fail kind.Catalog apart = (λ row. tables_zero, λ gone. tables_zero)
+  tables-fail kind.CatalogRole apart = (λ row. tables_zero, λ gone. tables_zero)
+  tables-fail kind.Namespace apart = (λ row. tables_zero, λ gone. tables_zero)
+  tables-fail kind.Table apart = absurd (true≢false apart)
+  tables-fail kind.Member apart = (λ row. tables_zero, λ gone. tables_zero)
+  tables-fail kind.Join apart = (λ row. tables_zero, λ gone. tables_zero)
+  tables-fail kind.Grant apart = (λ row. tables_zero, λ gone. tables_zero)
+  tables-fail kind.Session apart = λ row. tables_zero
+
+  tables-alone : (s t : Rows) → filter tables_above (changes_between s t) ≡ filter tables_above (of_kind kind.Table (row_changes s t))
+  unfolding tables_put
+  tables-alone s t =
+      filter-alone s t tables_above kind.Table tables-fail (λ time. tables_zero) (λ id. tables_zero) (λ serial. tables_zero)
+
+  tables-put : (row : TableRow) → tables_above (PutTable row) ≡ nat_lt bound (number row)
+  unfolding tables_put rows_with
+  tables-put row = refl
+
+  tables-drop : (id : ℕ) → tables_above (DropTable id) ≡ false
+  unfolding tables_put rows_without
+  tables-drop id = tables_zero
+
+  pub any-tables : (s t : Rows) → list_any (λ row. nat_lt bound (number row)) s.content.tables ≡ false → list_any tables_above (changes_between s t) ≡ list_any (λ row. nat_lt bound (number row)) t.content.tables
+  any-tables s t none =
+      any-alone tables_above (changes_between s t) (of_kind kind.Table (row_changes s t)) (tables-alone s t)
+      ∙ any-changed table_id table.the_row.coded PutTable DropTable (λ row. nat_lt bound (number row)) tables_above s.content.tables t.content.tables none tables-put tables-drop
+
 -- next_ids that are set
 module _ (bound : ℕ) where
   abbrev next_id_above : Change → Bool
@@ -136,6 +184,7 @@ module _ (bound : ℕ) where
   next_id-fail kind.Catalog = (λ row. next_id_zero, λ gone. next_id_zero)
   next_id-fail kind.CatalogRole = (λ row. next_id_zero, λ gone. next_id_zero)
   next_id-fail kind.Namespace = (λ row. next_id_zero, λ gone. next_id_zero)
+  next_id-fail kind.Table = (λ row. next_id_zero, λ gone. next_id_zero)
   next_id-fail kind.Member = (λ row. next_id_zero, λ gone. next_id_zero)
   next_id-fail kind.Join = (λ row. next_id_zero, λ gone. next_id_zero)
   next_id-fail kind.Grant = (λ row. next_id_zero, λ gone. next_id_zero)
@@ -194,6 +243,7 @@ module _ (bound : ℕ) where
   next_serial-fail kind.Catalog = (λ row. next_serial_zero, λ gone. next_serial_zero)
   next_serial-fail kind.CatalogRole = (λ row. next_serial_zero, λ gone. next_serial_zero)
   next_serial-fail kind.Namespace = (λ row. next_serial_zero, λ gone. next_serial_zero)
+  next_serial-fail kind.Table = (λ row. next_serial_zero, λ gone. next_serial_zero)
   next_serial-fail kind.Member = (λ row. next_serial_zero, λ gone. next_serial_zero)
   next_serial-fail kind.Join = (λ row. next_serial_zero, λ gone. next_serial_zero)
   next_serial-fail kind.Grant = (λ row. next_serial_zero, λ gone. next_serial_zero)
@@ -247,6 +297,7 @@ pub record IsFew (s : Rows) : Type 0 where
   pub joins : length s.access.joins ≤ 100000
   pub grants : length s.access.grants ≤ 100000
   pub namespaces : length s.content.namespaces ≤ 100000
+  pub tables : length s.content.tables ≤ 100000
 
 pub few_rows : (s : Rows) → IsSound s → IsFew s
 few_rows s sound =
@@ -264,7 +315,55 @@ few_rows s sound =
       joins = above-within quantity.Joins 100000 (length s.access.joins) passes.1.1.1.1.1.0;
       grants = above-within quantity.Grants 100000 (length s.access.grants) passes.1.1.1.1.1.1.0;
       namespaces = above-within quantity.Namespaces 100000 (length s.content.namespaces) passes.1.1.1.1.1.1.1.0;
+      tables = above-within quantity.Tables 100000 (length s.content.tables) passes.1.1.1.1.1.1.1.1.0;
     }
+
+-- the first of some rules stands for them, whatever is behind, and whatever is before
+nested-first : (rules rest : List (Option Refusal)) → first_refusal (first_refusal rules ∷ rest) ≡ first_refusal (rules ++ rest)
+nested-first [] rest = refl
+nested-first (None ∷ rules) rest = nested-first rules rest
+nested-first (Some why ∷ rules) rest = refl
+
+nested : (before rules rest : List (Option Refusal)) → first_refusal (before ++ first_refusal rules ∷ rest) ≡ first_refusal (before ++ (rules ++ rest))
+nested [] rules rest = nested-first rules rest
+nested (None ∷ before) rules rest = nested before rules rest
+nested (Some why ∷ before) rules rest = refl
+
+-- the bounds of the numbers that changes put, each by itself: of a table's parts, of properties, and of all
+abbrev parts_put : List Change → List (Option Refusal)
+parts_put changes =
+    any_above quantity.Schemas 1000 schemas_put changes
+    ∷ any_above quantity.PartitionSpecs 1000 specs_put changes
+    ∷ any_above quantity.SortOrders 1000 orders_put changes
+    ∷ any_above quantity.Refs 1000 refs_put changes
+    ∷ any_above quantity.Snapshots 10000 snapshots_put changes
+    ∷ []
+
+abbrev properties_put : List Change → List (Option Refusal)
+properties_put changes =
+    any_above quantity.Properties 1000 catalog_properties_put changes
+    ∷ any_above quantity.Properties 1000 namespace_properties_put changes
+    ∷ any_above quantity.Properties 1000 table_properties_put changes
+    ∷ []
+
+abbrev others_put : List Change → List (Option Refusal)
+others_put changes =
+    any_above quantity.Weight 16777216 weight_put changes
+    ∷ any_above quantity.NextId (2 ^ 62) id_set changes
+    ∷ any_above quantity.NextSerial (2 ^ 62) serial_set changes
+    ∷ any_above quantity.Version (2 ^ 62) version_put changes
+    ∷ []
+
+abbrev each_put : List Change → List (Option Refusal)
+each_put changes = any_above quantity.AllowedLocations 100 allowed_put changes ∷ (parts_put changes ++ (properties_put changes ++ others_put changes))
+
+-- they refuse as they do where parts stand for one, and properties
+put-together : (changes : List Change) → first_refusal (limits_put changes) ≡ first_refusal (each_put changes)
+unfolding part_limits property_limits
+put-together changes =
+    let allowed = any_above quantity.AllowedLocations 100 allowed_put changes in
+    nested (allowed ∷ []) (parts_put changes) (first_refusal (properties_put changes) ∷ others_put changes)
+    ∙ nested (allowed ∷ parts_put changes) (properties_put changes) (others_put changes)
 
 module _ (s t : Rows) (sound : IsSound s) (new : IsOrderly t) (charge : ℕ) (leads : applied (changes_between s t) t.time charge s ≡ t) where
   counted : {A : Type 0} (count : (IsSoundAccess s.next_id s.access) → (IsSoundAccess t.next_id t.access) → (IsSoundContent s.next_id s.content) → (IsSoundContent t.next_id t.content) → A) → A
@@ -273,12 +372,25 @@ module _ (s t : Rows) (sound : IsSound s) (new : IsOrderly t) (charge : ℕ) (le
   kept : changes_between s t ≡ [] → t ≡ applied [] t.time charge s
   kept none = sym leads ∙ ap (λ changes. applied changes t.time charge s) none
 
-  limits-between : over_limit t ≡ first_refusal (limits_of (counts_after s (changes_between s t)) ++ limits_put (changes_between s t))
+  -- a bound of catalogues, of namespaces and of tables, none of which was passed before
+  catalogs-between : (bounded : Quantity) (bound : ℕ) (number : CatalogRow → ℕ) → any_above bounded bound number s.content.catalogs ≡ None → any_above bounded bound number t.content.catalogs ≡ any_above bounded bound (λ change. number_of number (catalogs_put change)) (changes_between s t)
+  catalogs-between bounded bound number passes =
+      ap (λ is. refuse_if is (Limit bounded bound)) (sym (any-catalogs bound number s t (refused-not (list_any (λ row. nat_lt bound (number row)) s.content.catalogs) (Limit bounded bound) passes)))
+
+  namespaces-between : (bounded : Quantity) (bound : ℕ) (number : NamespaceRow → ℕ) → any_above bounded bound number s.content.namespaces ≡ None → any_above bounded bound number t.content.namespaces ≡ any_above bounded bound (λ change. number_of number (namespaces_put change)) (changes_between s t)
+  namespaces-between bounded bound number passes =
+      ap (λ is. refuse_if is (Limit bounded bound)) (sym (any-namespaces bound number s t (refused-not (list_any (λ row. nat_lt bound (number row)) s.content.namespaces) (Limit bounded bound) passes)))
+
+  tables-between : (bounded : Quantity) (bound : ℕ) (number : TableRow → ℕ) → any_above bounded bound number s.content.tables ≡ None → any_above bounded bound number t.content.tables ≡ any_above bounded bound (λ change. number_of number (tables_put change)) (changes_between s t)
+  tables-between bounded bound number passes =
+      ap (λ is. refuse_if is (Limit bounded bound)) (sym (any-tables bound number s t (refused-not (list_any (λ row. nat_lt bound (number row)) s.content.tables) (Limit bounded bound) passes)))
+
+  limits-between : over_limit t ≡ first_refusal (limits_of (counts_after s (changes_between s t)) ++ each_put (changes_between s t))
   unfolding over_limit
   limits-between =
       let passes = each-within s sound in
-      let ids = refused-not (nat_lt (2 ^ 62) s.next_id) (Limit quantity.NextId (2 ^ 62)) passes.1.1.1.1.1.1.1.1.1.1.1.0 in
-      let serials = refused-not (nat_lt (2 ^ 62) s.next_serial) (Limit quantity.NextSerial (2 ^ 62)) passes.1.1.1.1.1.1.1.1.1.1.1.1.0 in
+      let ids = refused-not (nat_lt (2 ^ 62) s.next_id) (Limit quantity.NextId (2 ^ 62)) passes.1.1.1.1.1.1.1.1.1.1.1.1.1.1.1.1.1.1.1.0 in
+      let serials = refused-not (nat_lt (2 ^ 62) s.next_serial) (Limit quantity.NextSerial (2 ^ 62)) passes.1.1.1.1.1.1.1.1.1.1.1.1.1.1.1.1.1.1.1.1.0 in
       λ i. first_refusal (
       above quantity.Catalogs 1000 (sym (counted (count-catalogs s t)) i)
       ∷ above quantity.Principals 10000 (sym (counted (count-principals s t)) i)
@@ -288,20 +400,41 @@ module _ (s t : Rows) (sound : IsSound s) (new : IsOrderly t) (charge : ℕ) (le
       ∷ above quantity.Joins 100000 (sym (counted (count-joins s t)) i)
       ∷ above quantity.Grants 100000 (sym (counted (count-grants s t)) i)
       ∷ above quantity.Namespaces 100000 (sym (counted (count-namespaces s t)) i)
-      ∷ refuse_if (sym (any-catalogs 100 allowed_count s t (refused-not (list_any (λ row. nat_lt 100 (allowed_count row)) s.content.catalogs) (Limit quantity.AllowedLocations 100) passes.1.1.1.1.1.1.1.1.0)) i) (Limit quantity.AllowedLocations 100)
-      ∷ refuse_if (sym (any-catalogs 1000 catalog_properties s t (refused-not (list_any (λ row. nat_lt 1000 (catalog_properties row)) s.content.catalogs) (Limit quantity.Properties 1000) passes.1.1.1.1.1.1.1.1.1.0)) i) (Limit quantity.Properties 1000)
-      ∷ refuse_if (sym (any-namespaces 1000 namespace_properties s t (refused-not (list_any (λ row. nat_lt 1000 (namespace_properties row)) s.content.namespaces) (Limit quantity.Properties 1000) passes.1.1.1.1.1.1.1.1.1.1.0)) i) (Limit quantity.Properties 1000)
+      ∷ above quantity.Tables 100000 (sym (counted (count-tables s t)) i)
+      ∷ catalogs-between quantity.AllowedLocations 100 allowed_count passes.1.1.1.1.1.1.1.1.1.0 i
+      ∷ tables-between quantity.Schemas 1000 schema_count passes.1.1.1.1.1.1.1.1.1.1.0 i
+      ∷ tables-between quantity.PartitionSpecs 1000 spec_count passes.1.1.1.1.1.1.1.1.1.1.1.0 i
+      ∷ tables-between quantity.SortOrders 1000 order_count passes.1.1.1.1.1.1.1.1.1.1.1.1.0 i
+      ∷ tables-between quantity.Refs 1000 ref_count passes.1.1.1.1.1.1.1.1.1.1.1.1.1.0 i
+      ∷ tables-between quantity.Snapshots 10000 snapshot_count passes.1.1.1.1.1.1.1.1.1.1.1.1.1.1.0 i
+      ∷ catalogs-between quantity.Properties 1000 catalog_properties passes.1.1.1.1.1.1.1.1.1.1.1.1.1.1.1.0 i
+      ∷ namespaces-between quantity.Properties 1000 namespace_properties passes.1.1.1.1.1.1.1.1.1.1.1.1.1.1.1.1.0 i
+      ∷ tables-between quantity.Properties 1000 table_properties passes.1.1.1.1.1.1.1.1.1.1.1.1.1.1.1.1.1.0 i
+      ∷ tables-between quantity.Weight 16777216 table_weight passes.1.1.1.1.1.1.1.1.1.1.1.1.1.1.1.1.1.1.0 i
       ∷ refuse_if (sym (any-next_id (2 ^ 62) s t ids serials (λ none. ap (λ (rows : Rows). rows.next_id) (kept none))) i) (Limit quantity.NextId (2 ^ 62))
       ∷ refuse_if (sym (any-next_serial (2 ^ 62) s t ids serials (λ none. ap (λ (rows : Rows). rows.next_serial) (kept none))) i) (Limit quantity.NextSerial (2 ^ 62))
+      ∷ tables-between quantity.Version (2 ^ 62) table_version passes.1.1.1.1.1.1.1.1.1.1.1.1.1.1.1.1.1.1.1.1.1.0 i
       ∷ [])
 
 -- they are judged on the changes, how many rows there are first
 pub limits-after : (s : Rows) → IsSound s → (after : Rows) (charge : ℕ) (changes : List Change) → IsOrderly after → changes ≡ changes_between s after → applied changes after.time charge s ≡ after → over_limit after ≡ option_or (first_refusal (limits_of (counts_after s changes))) (first_refusal (limits_put changes))
 limits-after s sound after charge changes orderly is leads =
     limits-between s after sound orderly charge (ap (λ made. applied made after.time charge s) (sym is) ∙ leads)
-    ∙ ap (λ made. first_refusal (limits_of (counts_after s made) ++ limits_put made)) (sym is)
-    ∙ first-joined (limits_of (counts_after s changes)) (limits_put changes)
+    ∙ ap (λ made. first_refusal (limits_of (counts_after s made) ++ each_put made)) (sym is)
+    ∙ first-joined (limits_of (counts_after s changes)) (each_put changes)
+    ∙ ap (option_or (first_refusal (limits_of (counts_after s changes)))) (sym (put-together changes))
 
 -- an id is known exactly where its row is found
 pub known_row : {R : Type 0} (key : R → ℕ) (id : ℕ) (rows : List R) (found : Option R) → found ≡ row_of key id rows → knows key id rows ≡ is_some found
 known_row key id rows found is = sym (is_some-row_of key id rows) ∙ ap is_some (sym is)
+
+-- a weight as 64 bits tell it is above the bound of weights exactly where it is so itself
+pub heavy_capped : (weight : ℕ) → nat_lt 16777216 (capped weight) ≡ nat_lt 16777216 weight
+unfolding capped
+heavy_capped weight = by (nat_lt (2 ^ 64 - 1) weight) refl
+  where
+    by : (b : Bool) → nat_lt (2 ^ 64 - 1) weight ≡ b → nat_lt 16777216 (min weight (2 ^ 64 - 1)) ≡ nat_lt 16777216 weight
+    by true is =
+        let more = ltb-true (2 ^ 64 - 1) weight is in
+        ap (nat_lt 16777216) (min-eq_right {n = 2 ^ 64 - 1} {m = weight} (omega (arith, more))) ∙ sym (lt-ltb 16777216 weight (omega (arith, more)))
+    by false is = ap (nat_lt 16777216) (min-eq_left (ltb-false (2 ^ 64 - 1) weight is))

@@ -5,13 +5,16 @@ use Rattle.std.proofs.lemmas.List.{drop_more, take-append-drop, take_more}
 use Rattle.std.proofs.lemmas.Bool.{cases_Bool}
 use Rattle.std.specs.List.{find, range_with_len, AllByRecursion}
 use Rattle.std.specs.Borrow.{Bor}
-use Rattle.std.specs.Option.{option_copied, option_or, IsSome}
+use Rattle.std.specs.Option.{option_copied, option_map, option_or, IsSome}
 use Rattle.pol_access.specs.Access.{principal_id}
 use Rattle.pol_access.specs.declared.rows.PrincipalRow.{PrincipalRow}
 use Rattle.pol_tables.specs.Table.{knows, row_of}
 use Rattle.pol_tables.proofs.TableLemmas.{is_some-row_of}
+use Rattle.pol_locations.specs.Location.{location_refusal, IsLocation}
+use Rattle.pol_locations.proofs.Segments.{location_refusal-IsLocation}
 use Rattle.pol_content.specs.Content.{ContentRows, first_missing, is_missing, lineage, namespace_named}
 use Rattle.pol_commands.specs.declared.reply.Refusal.{Refusal}
+use Rattle.pol_commands.specs.declared.reply.Refusal.TheVariants.{BadLocation}
 use Rattle.pol_rules.specs.Rules.{bad_text, bad_texts}
 
 -- where nothing passes a test, each item fails it
@@ -87,3 +90,8 @@ pub bad_at : (texts : List (List ℕ)) (place : ℕ) (other : List ℕ) → plac
 bad_at texts place other inside none why bad =
     ap bad_texts (sym (take-append-drop place texts) ∙ ap (λ rest. take place texts ++ rest) (drop_more texts place other inside))
     ∙ told_behind (take place texts) (get_or texts place other) (drop (place + 1) texts) (Some why) none (ap (λ one. option_or one (bad_texts (drop (place + 1) texts))) bad)
+
+-- segments of which a location is made are no bad location
+pub location_made : (segments made : List (List ℕ)) → made ≡ segments → IsLocation made → option_map (BadLocation 0) (location_refusal segments) ≡ None
+location_made segments made is location =
+    ap (option_map (BadLocation 0)) (ap location_refusal (sym is) ∙ location_refusal-IsLocation made location)

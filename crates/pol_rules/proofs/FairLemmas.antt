@@ -9,7 +9,10 @@ use Rattle.pol_access.specs.declared.rows.MemberRow.{MemberRow}
 use Rattle.pol_content.specs.Content.{catalog_named, first_missing}
 use Rattle.pol_content.specs.declared.rows.CatalogRow.{CatalogRow}
 use Rattle.pol_content.specs.declared.rows.NamespaceRow.{NamespaceRow}
-use Rattle.pol_locations.specs.Location.{parse_refusal}
+use Rattle.pol_locations.specs.Location.{location_refusal, parse_refusal}
+use Rattle.pol_meta.specs.Creation.{create_refusal}
+use Rattle.pol_names.specs.declared.identifier.Identifier.{Identifier}
+use Rattle.pol_table_rows.specs.Tables.{overlapping}
 use Rattle.pol_names.specs.Namespace.{dotted}
 use Rattle.pol_properties.specs.Properties.{twice}
 use Rattle.pol_properties.specs.declared.property.Property.{Property}
@@ -17,12 +20,13 @@ use Rattle.pol_commands.specs.Reply.{is_full}
 use Rattle.pol_commands.specs.declared.command.Caller.{Caller}
 use Rattle.pol_commands.specs.declared.command.Caller.TheVariants.{Nobody, Bearer, Setup}
 use Rattle.pol_commands.specs.declared.command.Command.{Command}
+use Rattle.pol_commands.specs.declared.create_table.CreateTable.{CreateTable}
 use Rattle.pol_commands.specs.declared.grants.Grant.{Grant}
 use Rattle.pol_commands.specs.declared.grants.GrantedOn.{GrantedOn}
 use Rattle.pol_commands.specs.declared.grants.GrantedOn.TheVariants as on
 use Rattle.pol_commands.specs.declared.reply.OptionName.TheVariants as option
 use Rattle.pol_commands.specs.declared.reply.Refusal.{Refusal}
-use Rattle.pol_commands.specs.declared.reply.Refusal.TheVariants.{BadLocation, Forbidden, InvalidClient, InvalidScope, KeyTwice, NameTaken, NoCatalogue, NoNamespace, NoSuchRole, NotEmpty, Reserved, Unauthenticated, Unsupported}
+use Rattle.pol_commands.specs.declared.reply.Refusal.TheVariants.{BadLocation, Forbidden, InvalidClient, InvalidScope, KeyTwice, LocationOutside, LocationOverlap, NameTaken, NoCatalogue, NoNamespace, NoSuchRole, NoTable, NotEmpty, Reserved, Unauthenticated, Unsupported, UpdateRefused}
 use Rattle.pol_state.specs.Rows.{Rows}
 use Rattle.pol_state.specs.Sound.{IsSound}
 use Rattle.pol_rules.specs.AccessRules.{in_catalog, in_realm, no_catalog_role, no_grant, no_join, no_member, no_principal, no_principal_role, no_securable, reserved, reserved_grant, reserved_join, reserved_member}
@@ -30,6 +34,9 @@ use Rattle.pol_rules.specs.Live.{live_part}
 use Rattle.pol_rules.specs.Needs.{caller_may, first_unmet, forbidden, session_may, shown}
 use Rattle.pol_state.specs.Bounds.{limits, over_limit, refuse_if}
 use Rattle.pol_rules.specs.Rules.{bad_text, bad_texts, catalog_holds, client_of, given, inside, invalid_client, invalid_scope, is_signed_in, key_twice, namespace_holds, no_catalogue, no_namespace, no_parent, time_of, unauthenticated, unsupported_type, name_taken}
+use Rattle.pol_access.specs.declared.privilege.Privilege.{Privilege}
+use Rattle.pol_rules.specs.Prologues.{at_table, on_namespace}
+use Rattle.pol_rules.specs.TableRules.{bad_creation, bad_location, bad_location_by, default_location, location_outside, location_overlap, no_table, other_format, staged}
 use Rattle.pol_rules.specs.declared.needs.Need.{Need}
 use Rattle.pol_rules.proofs.LiveLemmas.{session-live}
 use Rattle.pol_rules.proofs.RulesLemmas.{either-other, first-other, refuse_if-other, tells_full}
@@ -58,7 +65,7 @@ first ⊳ rest = record {
 pub limit-other : (rows : Rows) → tells_full (over_limit rows) ≡ false
 unfolding over_limit
 limit-other rows =
-    first-other (limits rows) (refuse_if-other _ _ refl, (refuse_if-other _ _ refl, (refuse_if-other _ _ refl, (refuse_if-other _ _ refl, (refuse_if-other _ _ refl, (refuse_if-other _ _ refl, (refuse_if-other _ _ refl, (refuse_if-other _ _ refl, (refuse_if-other _ _ refl, (refuse_if-other _ _ refl, (refuse_if-other _ _ refl, (refuse_if-other _ _ refl, (refuse_if-other _ _ refl, tt)))))))))))))
+    first-other (limits rows) (refuse_if-other _ _ refl, (refuse_if-other _ _ refl, (refuse_if-other _ _ refl, (refuse_if-other _ _ refl, (refuse_if-other _ _ refl, (refuse_if-other _ _ refl, (refuse_if-other _ _ refl, (refuse_if-other _ _ refl, (refuse_if-other _ _ refl, (refuse_if-other _ _ refl, (refuse_if-other _ _ refl, (refuse_if-other _ _ refl, (refuse_if-other _ _ refl, (refuse_if-other _ _ refl, (refuse_if-other _ _ refl, (refuse_if-other _ _ refl, (refuse_if-other _ _ refl, (refuse_if-other _ _ refl, (refuse_if-other _ _ refl, (refuse_if-other _ _ refl, (refuse_if-other _ _ refl, (refuse_if-other _ _ refl, tt))))))))))))))))))))))
 
 module _ {s : Rows} where
   -- a rule that doesn't look at the sessions
@@ -172,6 +179,41 @@ module _ {s : Rows} where
   unfolding unsupported_type
   fair-unsupported_type external = fair-if external (Unsupported option.Type) refl
 
+  -- rules on tables
+  pub fair-no_table : (identifier : Identifier) (catalog : CatalogRow) → IsFair s (no_table s identifier catalog) (no_table (live_part s) identifier catalog)
+  unfolding no_table
+  fair-no_table identifier catalog = fair-if _ (NoTable identifier) refl
+
+  pub fair-bad_creation : (request : CreateTable) → IsFair s (bad_creation request) (bad_creation request)
+  unfolding bad_creation
+  fair-bad_creation request =
+      fair-mapped (create_refusal request.schema request.partition_spec request.write_order) (UpdateRefused 0 0) (λ why. refl)
+
+  pub fair-bad_location : (levels : List (List ℕ)) (request : CreateTable) (catalog : CatalogRow) → IsFair s (bad_location levels request catalog) (bad_location levels request catalog)
+  unfolding bad_location
+  fair-bad_location levels request catalog = by request.location
+    where
+      by : (given : Option (List ℕ)) → IsFair s (bad_location_by given (default_location catalog levels request.name)) (bad_location_by given (default_location catalog levels request.name))
+      by None = fair-mapped (location_refusal (default_location catalog levels request.name)) (BadLocation 0) (λ why. refl)
+      by (Some text) = fair-bad_text text
+
+  pub fair-location_outside : (location : List (List ℕ)) (catalog : CatalogRow) → IsFair s (location_outside location catalog) (location_outside location catalog)
+  unfolding location_outside
+  fair-location_outside location catalog = fair-if _ (LocationOutside location) refl
+
+  pub fair-location_overlap : (location : List (List ℕ)) → IsFair s (location_overlap s location) (location_overlap (live_part s) location)
+  unfolding location_overlap
+  fair-location_overlap location =
+      fair-mapped (overlapping location [] s.content.tables) (λ row. LocationOverlap location row.location) (λ row. refl)
+
+  pub fair-staged : (stage_create : Bool) → IsFair s (staged stage_create) (staged stage_create)
+  unfolding staged
+  fair-staged stage_create = fair-if stage_create (Unsupported option.StageCreate) refl
+
+  pub fair-other_format : (properties : List Property) → IsFair s (other_format properties) (other_format properties)
+  unfolding other_format
+  fair-other_format properties = fair-if _ (Unsupported option.FormatVersion) refl
+
   -- rules on principals, roles, members, joins and grants
   pub fair-no_principal : (name : List ℕ) → IsFair s (no_principal s name) (no_principal (live_part s) name)
   unfolding no_principal
@@ -188,7 +230,7 @@ module _ {s : Rows} where
   pub fair-no_securable : (named : GrantedOn) (catalog : CatalogRow) → IsFair s (no_securable s named catalog) (no_securable (live_part s) named catalog)
   fair-no_securable on.Catalog catalog = fair-same refl
   fair-no_securable (on.Namespace levels) catalog = fair-no_namespace catalog.id levels
-  fair-no_securable (on.Table identifier) catalog = fair-either (fair-no_namespace catalog.id identifier.namespace) (fair-same refl)
+  fair-no_securable (on.Table identifier) catalog = fair-either (fair-no_namespace catalog.id identifier.namespace) (fair-no_table identifier catalog)
   fair-no_securable (on.View identifier) catalog = fair-either (fair-no_namespace catalog.id identifier.namespace) (fair-same refl)
 
   pub fair-no_member : (role : List ℕ) (row : MemberRow) → IsFair s (no_member s role row) (no_member (live_part s) role row)
@@ -226,3 +268,12 @@ module _ {s : Rows} where
 
     pub fair-in_catalog : (name : List ℕ) → AreFair s rules live → AreFair s (in_catalog s command name rules) (in_catalog (live_part s) command name live)
     fair-in_catalog name fair = fair-caller command ⊳ fair-no_catalogue name ⊳ fair-inside name (λ catalog. fair-need command _) ⊳ fair
+
+    -- and those of an action on a namespace, and on a table, that must be there
+    pub fair-on_namespace : (privilege : Privilege) (name : List ℕ) (levels : List (List ℕ)) → AreFair s rules live → AreFair s (on_namespace s command privilege name levels rules) (on_namespace (live_part s) command privilege name levels live)
+    fair-on_namespace privilege name levels fair =
+        fair-caller command ⊳ fair-no_catalogue name ⊳ fair-inside name (λ catalog. fair-need command _) ⊳ fair-inside name (λ catalog. fair-no_namespace catalog.id levels) ⊳ fair
+
+    pub fair-at_table : (privilege : Privilege) (name : List ℕ) (identifier : Identifier) → AreFair s rules live → AreFair s (at_table s command privilege name identifier rules) (at_table (live_part s) command privilege name identifier live)
+    fair-at_table privilege name identifier fair =
+        fair-caller command ⊳ fair-no_catalogue name ⊳ fair-inside name (λ catalog. fair-need command _) ⊳ fair-inside name (λ catalog. fair-no_namespace catalog.id identifier.namespace) ⊳ fair-inside name (fair-no_table identifier) ⊳ fair

@@ -4,7 +4,7 @@ use Rattle.pol_access.specs.Access.{catalog_role_id, principal_id, principal_rol
 use Rattle.pol_content.specs.Change.{is_kind, puts}
 use Rattle.pol_content.specs.Content.{catalog_id, namespace_id}
 use Rattle.pol_content.specs.declared.change.Change.{Change}
-use Rattle.pol_content.specs.declared.change.Change.TheVariants.{Time, NextId, NextSerial, PutPrincipal, DropPrincipal, PutPrincipalRole, DropPrincipalRole, PutCatalog, DropCatalog, PutCatalogRole, DropCatalogRole, PutNamespace, DropNamespace, PutMember, DropMember, PutJoin, DropJoin, PutGrant, DropGrant, PutSession}
+use Rattle.pol_content.specs.declared.change.Change.TheVariants.{Time, NextId, NextSerial, PutPrincipal, DropPrincipal, PutPrincipalRole, DropPrincipalRole, PutCatalog, DropCatalog, PutCatalogRole, DropCatalogRole, PutNamespace, DropNamespace, PutTable, DropTable, PutMember, DropMember, PutJoin, DropJoin, PutGrant, DropGrant, PutSession}
 use Rattle.pol_content.specs.declared.change.RowKind.{RowKind}
 use Rattle.pol_content.specs.declared.change.RowKind.TheVariants as kind
 use Rattle.pol_content.specs.declared.rows.CatalogRow.{CatalogRow}
@@ -16,8 +16,10 @@ use Rattle.pol_rules.specs.declared.bounds.Own.{Own}
 use Rattle.pol_rules.specs.declared.bounds.Own.TheVariants as own
 use Rattle.pol_rules.specs.declared.bounds.Numbers.{Numbers}
 use Rattle.pol_state.specs.Applied.{changed}
-use Rattle.pol_state.specs.Bounds.{above, allowed_count, any_above, catalog_properties, namespace_properties}
+use Rattle.pol_state.specs.Bounds.{above, allowed_count, any_above, catalog_properties, first_refusal, namespace_properties, order_count, ref_count, schema_count, snapshot_count, spec_count, table_properties, table_version, table_weight}
 use Rattle.pol_state.specs.Rows.{Rows}
+use Rattle.pol_table_rows.specs.Tables.{table_id}
+use Rattle.pol_table_rows.specs.declared.row.TableRow.{TableRow}
 use Rattle.pol_tables.specs.Table.{knows}
 
 -- this kind, where the state has a row of the id
@@ -39,6 +41,8 @@ kind_taken s (PutCatalogRole row) = where_known kind.CatalogRole (knows catalog_
 kind_taken s (DropCatalogRole id) = Some kind.CatalogRole
 kind_taken s (PutNamespace row) = where_known kind.Namespace (knows namespace_id row.id s.content.namespaces)
 kind_taken s (DropNamespace id) = Some kind.Namespace
+kind_taken s (PutTable row) = where_known kind.Table (knows table_id row.id s.content.tables)
+kind_taken s (DropTable id) = Some kind.Table
 kind_taken s (PutMember row) = None
 kind_taken s (DropMember row) = Some kind.Member
 kind_taken s (PutJoin row) = None
@@ -58,7 +62,7 @@ count_after kind s changes before = before + count_by (puts kind) changes - coun
 abbrev pub no_rows : Rows
 no_rows = record {
   access = record { principals = []; principal_roles = []; catalog_roles = []; members = []; joins = []; grants = [] };
-  content = record { catalogs = []; namespaces = [] };
+  content = record { catalogs = []; namespaces = []; tables = [] };
   tokens = record { sessions = [] };
   time = 0;
   next_id = 0;
@@ -66,12 +70,15 @@ no_rows = record {
   charged = 0;
 }
 
--- the catalogues, and the namespaces, that a change puts: those that it makes of no rows
+-- the catalogues, the namespaces, and the tables that a change puts: those that it makes of no rows
 unfoldable pub catalogs_put : Change → List CatalogRow
 catalogs_put change = (changed no_rows change).content.catalogs
 
 unfoldable pub namespaces_put : Change → List NamespaceRow
 namespaces_put change = (changed no_rows change).content.namespaces
+
+unfoldable pub tables_put : Change → List TableRow
+tables_put change = (changed no_rows change).content.tables
 
 -- a number of the row, where there is one
 abbrev pub number_of : {R : Type 0} → (R → ℕ) → List R → ℕ
@@ -95,14 +102,64 @@ id_set change = (changed no_rows change).next_id
 unfoldable pub serial_set : Change → ℕ
 serial_set change = (changed no_rows change).next_serial
 
--- the numbers of a change by itself
+-- how many schemas, partition specs, sort orders, references, snapshots and properties a table has that is put, its
+-- version and the weight of its metadata
+abbrev pub schemas_put : Change → ℕ
+schemas_put change = number_of schema_count (tables_put change)
+
+abbrev pub specs_put : Change → ℕ
+specs_put change = number_of spec_count (tables_put change)
+
+abbrev pub orders_put : Change → ℕ
+orders_put change = number_of order_count (tables_put change)
+
+abbrev pub refs_put : Change → ℕ
+refs_put change = number_of ref_count (tables_put change)
+
+abbrev pub snapshots_put : Change → ℕ
+snapshots_put change = number_of snapshot_count (tables_put change)
+
+abbrev pub table_properties_put : Change → ℕ
+table_properties_put change = number_of table_properties (tables_put change)
+
+abbrev pub version_put : Change → ℕ
+version_put change = number_of table_version (tables_put change)
+
+abbrev pub weight_put : Change → ℕ
+weight_put change = number_of table_weight (tables_put change)
+
+-- the numbers of a change by itself, but for weights
 abbrev pub numbers_of : Change → Numbers
 numbers_of change = record {
   allowed = allowed_put change;
   catalog_properties = catalog_properties_put change;
   namespace_properties = namespace_properties_put change;
+  schemas = schemas_put change;
+  specs = specs_put change;
+  orders = orders_put change;
+  refs = refs_put change;
+  snapshots = snapshots_put change;
+  table_properties = table_properties_put change;
+  version = version_put change;
   next_id = id_set change;
   next_serial = serial_set change;
+}
+
+-- the numbers of a table that is put
+abbrev pub table_numbers : TableRow → Numbers
+table_numbers row = record {
+  allowed = 0;
+  catalog_properties = 0;
+  namespace_properties = 0;
+  schemas = schema_count row;
+  specs = spec_count row;
+  orders = order_count row;
+  refs = ref_count row;
+  snapshots = snapshot_count row;
+  table_properties = table_properties row;
+  version = table_version row;
+  next_id = 0;
+  next_serial = 0;
 }
 
 -- one of them
@@ -110,6 +167,13 @@ abbrev pub own_of : Own → Change → ℕ
 own_of own.AllowedLocations change = allowed_put change
 own_of own.CatalogProperties change = catalog_properties_put change
 own_of own.NamespaceProperties change = namespace_properties_put change
+own_of own.Schemas change = schemas_put change
+own_of own.PartitionSpecs change = specs_put change
+own_of own.SortOrders change = orders_put change
+own_of own.Refs change = refs_put change
+own_of own.Snapshots change = snapshots_put change
+own_of own.TableProperties change = table_properties_put change
+own_of own.Version change = version_put change
 own_of own.NextId change = id_set change
 own_of own.NextSerial change = serial_set change
 
@@ -124,6 +188,7 @@ counts s = record {
   joins = length s.access.joins;
   grants = length s.access.grants;
   namespaces = length s.content.namespaces;
+  tables = length s.content.tables;
 }
 
 -- and once the changes are made
@@ -137,6 +202,7 @@ counts_after s changes = record {
   joins = count_after kind.Join s changes (length s.access.joins);
   grants = count_after kind.Grant s changes (length s.access.grants);
   namespaces = count_after kind.Namespace s changes (length s.content.namespaces);
+  tables = count_after kind.Table s changes (length s.content.tables);
 }
 
 -- the bounds of the rows to which changes lead: of how many there are
@@ -150,14 +216,33 @@ limits_of counts =
     ∷ above quantity.Joins 100000 counts.joins
     ∷ above quantity.Grants 100000 counts.grants
     ∷ above quantity.Namespaces 100000 counts.namespaces
+    ∷ above quantity.Tables 100000 counts.tables
     ∷ []
 
--- and of the numbers that the changes put
+-- and of the numbers that the changes put, of which those of a table's parts stand for one, and those of properties
+unfoldable pub part_limits : List Change → Option Refusal
+part_limits changes = first_refusal (
+    any_above quantity.Schemas 1000 schemas_put changes
+    ∷ any_above quantity.PartitionSpecs 1000 specs_put changes
+    ∷ any_above quantity.SortOrders 1000 orders_put changes
+    ∷ any_above quantity.Refs 1000 refs_put changes
+    ∷ any_above quantity.Snapshots 10000 snapshots_put changes
+    ∷ [])
+
+unfoldable pub property_limits : List Change → Option Refusal
+property_limits changes = first_refusal (
+    any_above quantity.Properties 1000 catalog_properties_put changes
+    ∷ any_above quantity.Properties 1000 namespace_properties_put changes
+    ∷ any_above quantity.Properties 1000 table_properties_put changes
+    ∷ [])
+
 abbrev pub limits_put : List Change → List (Option Refusal)
 limits_put changes =
     any_above quantity.AllowedLocations 100 allowed_put changes
-    ∷ any_above quantity.Properties 1000 catalog_properties_put changes
-    ∷ any_above quantity.Properties 1000 namespace_properties_put changes
+    ∷ part_limits changes
+    ∷ property_limits changes
+    ∷ any_above quantity.Weight 16777216 weight_put changes
     ∷ any_above quantity.NextId (2 ^ 62) id_set changes
     ∷ any_above quantity.NextSerial (2 ^ 62) serial_set changes
+    ∷ any_above quantity.Version (2 ^ 62) version_put changes
     ∷ []

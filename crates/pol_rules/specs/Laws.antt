@@ -6,24 +6,28 @@ use Rattle.pol_access.specs.declared.securable.Securable.{Securable}
 use Rattle.pol_commands.specs.declared.securables.SecurableName.TheVariants as name
 use Rattle.pol_content.specs.Content.{catalog_named}
 use Rattle.pol_content.specs.declared.rows.CatalogRow.{CatalogRow}
+use Rattle.pol_names.specs.declared.identifier.Identifier.{Identifier}
 use Rattle.pol_state.specs.Rows.{Rows}
 use Rattle.pol_state.specs.Sound.{IsSound}
-use Rattle.pol_rules.specs.Needs.{on_catalog, on_parent, on_path, shown}
+use Rattle.pol_rules.specs.Needs.{on_catalog, on_parent, on_path, on_table, shown}
 use Rattle.pol_rules.specs.declared.needs.Need.{Need}
 
--- a securable is shown as the catalogue, or as a namespace in it
+-- a securable is shown as the catalogue, or as a namespace or a table in it
 abbrev pub IsShownIn : Rows → CatalogRow → Securable → Type 0
 IsShownIn s catalog on =
-    (shown s on ≡ name.Catalog catalog.name) ⊎ ((levels : List (List ℕ)) × (shown s on ≡ name.Namespace catalog.name levels))
+    (shown s on ≡ name.Catalog catalog.name)
+    ⊎ (((levels : List (List ℕ)) × (shown s on ≡ name.Namespace catalog.name levels))
+    ⊎ ((identifier : Identifier) × (shown s on ≡ name.Table catalog.name identifier)))
 
 -- and so is what each of these needs is on
 abbrev pub AreShownIn : Rows → CatalogRow → List Need → Type 0
 AreShownIn s catalog needs = AllByRecursion (λ need. IsShownIn s catalog need.on) needs
 
--- needs on a catalogue that is there, on a path in it and on a parent are shown so
+-- needs on a catalogue that is there, on a path in it, on a table's path and on a parent are shown so
 abbrev pub NeedsAreShown : Type 0
 NeedsAreShown =
     (s : Rows) (text : List ℕ) (catalog : CatalogRow) (privilege : Privilege) → IsSound s → catalog_named text s.content ≡ Some catalog
     → AreShownIn s catalog (on_catalog privilege catalog)
     × ((levels : List (List ℕ)) → AreShownIn s catalog (on_path s privilege levels catalog))
+    × ((identifier : Identifier) → AreShownIn s catalog (on_table s privilege identifier catalog))
     × ((parent : Option (List (List ℕ))) → AreShownIn s catalog (on_parent s privilege parent catalog))

@@ -5,4 +5,6 @@ pub mod Judged
 pub mod Laws
 pub mod Live
 pub mod Needs
+pub mod Prologues
 pub mod Rules
+pub mod TableRules

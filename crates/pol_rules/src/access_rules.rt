@@ -13,6 +13,7 @@ ghost use Rattle.pol_state.specs.Sound.{IsSound};
 use crate::catalog_rules::CATALOG_ADMIN;
 use crate::namespace_rules::namespace_there;
 use crate::rules::{Asked, Undone};
+use crate::table_rules::table_there;
 use pol_access::{
     CatalogRoleRow, GrantRow, JoinRow, MemberRow, PrincipalRoleRow, PrincipalRow, Privilege,
     Securable,
@@ -176,9 +177,8 @@ pub fn securable_there(
         }
         GrantedOn::Table(identifier) => {
             namespace_there(asked, catalog.id, &identifier.namespace)?;
-            Err(Undone::Refused(Refusal::NoTable {
-                identifier: identifier.clone()?,
-            }))
+            let row = table_there(asked, catalog, identifier)?;
+            Ok(Securable::Table(row.id))
         }
         GrantedOn::View(identifier) => {
             namespace_there(asked, catalog.id, &identifier.namespace)?;

@@ -3,7 +3,7 @@ ghost use Rattle.std.specs.Prelude.{◌≡◌, ℕ, ◌≤◌, nat_lt};
 ghost use Rattle.std.specs.List.{list_any};
 ghost use Rattle.std.specs.Bool.{⊤};
 ghost use Rattle.pol_content.specs.Change.{puts};
-ghost use Rattle.pol_rules.specs.Counted.{count_after, counts_after, kind_taken, limits_of, limits_put, numbers_of, own_of, takes, where_known};
+ghost use Rattle.pol_rules.specs.Counted.{count_after, counts_after, kind_taken, limits_of, limits_put, numbers_of, own_of, part_limits, property_limits, table_numbers, takes, weight_put, where_known};
 ghost use Rattle.pol_rules.specs.Judged.{Sees};
 ghost use Rattle.pol_commands.specs.declared.reply.Refusal.TheVariants.{Limit};
 ghost use Rattle.pol_state.specs.Applied.{applied};
@@ -14,7 +14,7 @@ ghost use Rattle.pol_state.specs.Sound.{IsOrderly, IsSound};
 
 use crate::rules::within;
 use pol_commands::{Quantity, Refusal};
-use pol_content::{Change, RowKind};
+use pol_content::{Change, RowKind, TableRow};
 use pol_state::State;
 use pol_types::Listed;
 
@@ -42,13 +42,25 @@ const GRANTS: u64 = 100_000;
 /// How many namespaces there are at most.
 const NAMESPACES: u64 = 100_000;
 
+/// How many tables there are at most.
+const TABLES: u64 = 100_000;
+
 /// How many locations a catalogue allows at most beside its base.
 const ALLOWED_LOCATIONS: u64 = 100;
 
-/// How many properties a catalogue has at most, and a namespace.
+/// How many schemas, partition specs, sort orders and references a table has at most, of each.
+const PARTS: u64 = 1_000;
+
+/// How many snapshots a table has at most.
+const SNAPSHOTS: u64 = 10_000;
+
+/// How many properties a catalogue has at most, a namespace, and a table.
 const PROPERTIES: u64 = 1_000;
 
-/// What the next id and the next serial come to at most.
+/// What the metadata of a table weighs at most.
+const WEIGHT: u64 = 16_777_216;
+
+/// What the next id, the next serial and the version of a table come to at most.
 const COUNTER_BOUND: u64 = 1 << 62;
 
 /// How many rows of each kind there are.
@@ -62,14 +74,23 @@ struct Counts {
     joins: u64,
     grants: u64,
     namespaces: u64,
+    tables: u64,
 }
 
-/// The numbers of a change by itself: of locations that a catalogue allows, of properties, and of the counters.
+/// The numbers of a change by itself: of locations that a catalogue allows, of properties, of a table's parts and its
+/// version, and of the counters.
 #[derive(Clone, Copy)]
 struct Numbers {
     allowed: u64,
     catalog_properties: u64,
     namespace_properties: u64,
+    schemas: u64,
+    specs: u64,
+    orders: u64,
+    refs: u64,
+    snapshots: u64,
+    table_properties: u64,
+    version: u64,
     next_id: u64,
     next_serial: u64,
 }
@@ -79,6 +100,13 @@ const NOTHING: Numbers = Numbers {
     allowed: 0,
     catalog_properties: 0,
     namespace_properties: 0,
+    schemas: 0,
+    specs: 0,
+    orders: 0,
+    refs: 0,
+    snapshots: 0,
+    table_properties: 0,
+    version: 0,
     next_id: 0,
     next_serial: 0,
 };
@@ -89,8 +117,15 @@ enum Own {
     AllowedLocations,
     CatalogProperties,
     NamespaceProperties,
+    Schemas,
+    PartitionSpecs,
+    SortOrders,
+    Refs,
+    Snapshots,
+    TableProperties,
     NextId,
     NextSerial,
+    Version,
 }
 
 /// No quantity is above its bound in the orderly rows to which the changes lead.
@@ -120,7 +155,8 @@ fn counts_within(counts: Counts) -> Result<(), Refusal>
     within(Quantity::Members, MEMBERS, counts.members)?;
     within(Quantity::Joins, JOINS, counts.joins)?;
     within(Quantity::Grants, GRANTS, counts.grants)?;
-    within(Quantity::Namespaces, NAMESPACES, counts.namespaces)
+    within(Quantity::Namespaces, NAMESPACES, counts.namespaces)?;
+    within(Quantity::Tables, TABLES, counts.tables)
 }
 
 /// No change gives a row, or a counter, a number above the bound of its quantity.
@@ -133,25 +169,45 @@ fn numbers_within(changes: &Listed<Change>) -> Result<(), Refusal>
         Quantity::AllowedLocations,
         ALLOWED_LOCATIONS,
     )?;
-    own_within(
-        changes,
-        Own::CatalogProperties,
-        Quantity::Properties,
-        PROPERTIES,
-    )?;
-    own_within(
-        changes,
-        Own::NamespaceProperties,
-        Quantity::Properties,
-        PROPERTIES,
-    )?;
+    parts_within(changes)?;
+    properties_within(changes)?;
+    unless(has_heavy(changes), Quantity::Weight, WEIGHT)?;
     own_within(changes, Own::NextId, Quantity::NextId, COUNTER_BOUND)?;
     own_within(
         changes,
         Own::NextSerial,
         Quantity::NextSerial,
         COUNTER_BOUND,
-    )
+    )?;
+    own_within(changes, Own::Version, Quantity::Version, COUNTER_BOUND)
+}
+
+/// No change gives a table more parts of a kind than it may have.
+#[tactic(auto, unfolding(crate::specs::Counted::part_limits))]
+fn parts_within(changes: &Listed<Change>) -> Result<(), Refusal>
+    ensures { Sees (part_limits changes.now) (λ _. ⊤) result }
+{
+    own_within(changes, Own::Schemas, Quantity::Schemas, PARTS)?;
+    own_within(
+        changes,
+        Own::PartitionSpecs,
+        Quantity::PartitionSpecs,
+        PARTS,
+    )?;
+    own_within(changes, Own::SortOrders, Quantity::SortOrders, PARTS)?;
+    own_within(changes, Own::Refs, Quantity::Refs, PARTS)?;
+    own_within(changes, Own::Snapshots, Quantity::Snapshots, SNAPSHOTS)
+}
+
+/// No change gives a row more properties than it may have.
+#[tactic(auto, unfolding(crate::specs::Counted::property_limits))]
+fn properties_within(changes: &Listed<Change>) -> Result<(), Refusal>
+    ensures { Sees (property_limits changes.now) (λ _. ⊤) result }
+{
+    let properties = Quantity::Properties;
+    own_within(changes, Own::CatalogProperties, properties, PROPERTIES)?;
+    own_within(changes, Own::NamespaceProperties, properties, PROPERTIES)?;
+    own_within(changes, Own::TableProperties, properties, PROPERTIES)
 }
 
 /// How many rows of each kind there are once the changes are made.
@@ -192,6 +248,7 @@ fn counts_after(state: &State, changes: &Listed<Change>) -> Counts
             RowKind::Namespace,
             content.namespaces().len(),
         ),
+        tables: count_after(state, changes, RowKind::Table, content.tables().len()),
     }
 }
 
@@ -256,11 +313,16 @@ fn kind_taken(state: &State, change: &Change) -> Option<RowKind>
             RowKind::Namespace,
             content.namespace_of(row.id).is_some(),
         ),
+        Change::PutTable(table) => where_known(
+            RowKind::Table,
+            content.table_of(table.row().id).is_some(),
+        ),
         Change::DropPrincipal(_) => Some(RowKind::Principal),
         Change::DropPrincipalRole(_) => Some(RowKind::PrincipalRole),
         Change::DropCatalog(_) => Some(RowKind::Catalog),
         Change::DropCatalogRole(_) => Some(RowKind::CatalogRole),
         Change::DropNamespace(_) => Some(RowKind::Namespace),
+        Change::DropTable(_) => Some(RowKind::Table),
         Change::DropMember(_) => Some(RowKind::Member),
         Change::DropJoin(_) => Some(RowKind::Join),
         Change::DropGrant(_) => Some(RowKind::Grant),
@@ -309,6 +371,13 @@ fn own_of(change: &Change, own: Own) -> u64
         Own::AllowedLocations => numbers.allowed,
         Own::CatalogProperties => numbers.catalog_properties,
         Own::NamespaceProperties => numbers.namespace_properties,
+        Own::Schemas => numbers.schemas,
+        Own::PartitionSpecs => numbers.specs,
+        Own::SortOrders => numbers.orders,
+        Own::Refs => numbers.refs,
+        Own::Snapshots => numbers.snapshots,
+        Own::TableProperties => numbers.table_properties,
+        Own::Version => numbers.version,
         Own::NextId => numbers.next_id,
         Own::NextSerial => numbers.next_serial,
     }
@@ -325,7 +394,7 @@ fn unless(above: bool, quantity: Quantity, bound: u64) -> Result<(), Refusal>
 }
 
 /// The numbers of a change by itself: what a row has that it puts, and the counters that it sets.
-#[tactic(auto, unfolding(crate::specs::Counted::catalogs_put, crate::specs::Counted::namespaces_put, crate::specs::Counted::id_set, crate::specs::Counted::serial_set, pol_tables::specs::Table::rows_with, pol_tables::specs::Table::rows_without))]
+#[tactic(auto, unfolding(crate::specs::Counted::catalogs_put, crate::specs::Counted::namespaces_put, crate::specs::Counted::tables_put, crate::specs::Counted::id_set, crate::specs::Counted::serial_set, pol_tables::specs::Table::rows_with, pol_tables::specs::Table::rows_without))]
 fn numbers_of(change: &Change) -> Numbers
     ensures { result ≡ numbers_of change.now }
 {
@@ -347,6 +416,7 @@ fn numbers_of(change: &Change) -> Numbers
             namespace_properties: row.properties.len() as u64,
             ..NOTHING
         },
+        Change::PutTable(table) => table_numbers(table.row()),
         Change::Time(_)
         | Change::PutPrincipal(_)
         | Change::DropPrincipal(_)
@@ -356,6 +426,7 @@ fn numbers_of(change: &Change) -> Numbers
         | Change::PutCatalogRole(_)
         | Change::DropCatalogRole(_)
         | Change::DropNamespace(_)
+        | Change::DropTable(_)
         | Change::PutMember(_)
         | Change::DropMember(_)
         | Change::PutJoin(_)
@@ -364,4 +435,39 @@ fn numbers_of(change: &Change) -> Numbers
         | Change::DropGrant(_)
         | Change::PutSession(_) => NOTHING,
     }
+}
+
+/// The numbers of a table that is put.
+fn table_numbers(row: &TableRow) -> Numbers
+    ensures { result ≡ table_numbers row.now }
+{
+    let metadata = row.metadata.get();
+    Numbers {
+        schemas: metadata.schemas.len() as u64,
+        specs: metadata.partition_specs.len() as u64,
+        orders: metadata.sort_orders.len() as u64,
+        refs: metadata.refs.len() as u64,
+        snapshots: metadata.snapshots.len() as u64,
+        table_properties: metadata.properties.len() as u64,
+        version: row.version,
+        ..NOTHING
+    }
+}
+
+/// Whether a change puts a table whose metadata is above its bound.
+fn has_heavy(changes: &Listed<Change>) -> bool
+    ensures { result ≡ list_any (λ change. nat_lt 16777216 (weight_put change)) changes.now }
+{
+    changes.iter().any(|change| is_heavy(change))
+}
+
+/// Whether the change puts such a table.
+#[tactic(auto, using(crate::proofs::BoundsLemmas::heavy_capped), unfolding(crate::specs::Counted::tables_put, pol_tables::specs::Table::rows_with, pol_tables::specs::Table::rows_without))]
+fn is_heavy(change: &Change) -> bool
+    ensures { result ≡ nat_lt 16777216 (weight_put change.now) }
+{
+    if let Change::PutTable(table) = change {
+        return table.row().metadata.get().weight() > WEIGHT;
+    }
+    false
 }

@@ -74,7 +74,7 @@ pub fn levels_free(
     Ok(())
 }
 
-/// The namespace has no deeper one.
+/// The namespace has no deeper one and no table.
 #[tactic(auto, unfolding(crate::specs::Rules::namespace_holds))]
 pub fn namespace_empty(asked: &Asked<'_>, namespace: &NamespaceRow) -> Result<(), Undone>
     ensures { Tells (namespace_holds asked.now.state.now.rows namespace.now) (λ _. ⊤) result }

@@ -1,15 +1,15 @@
 ghost use Rattle.std.specs.Prelude.{◌≡◌, option_copied, IfOk, Some};
 ghost use Rattle.std.specs.Bool.{⊤};
 ghost use Rattle.pol_rules.specs.Judged.{Judges};
-ghost use Rattle.pol_rules.specs.Needs.{caller_may, first_unmet, forbidden, namespace_shown, on_catalog, on_parent, on_path, service, session_may, shown};
+ghost use Rattle.pol_rules.specs.Needs.{caller_may, first_unmet, forbidden, namespace_shown, on_catalog, on_parent, on_path, on_table, service, session_may, shown, table_shown};
 ghost use Rattle.pol_state.specs.Sound.{IsSound};
 
 use crate::callers::session_of;
 use crate::rules::{Asked, Undone, time_of};
 use pol_access::{Privilege, Securable};
 use pol_commands::{Caller, Refusal, SecurableName};
-use pol_content::{CatalogRow, NamespaceRow};
-use pol_names::Namespace;
+use pol_content::{CatalogRow, NamespaceRow, TableRow};
+use pol_names::{Identifier, Namespace};
 use pol_state::State;
 use pol_tokens::SessionRow;
 use pol_types::OutOfMemory;
@@ -63,6 +63,23 @@ pub fn allowed_on_path(
 {
     let content = asked.state.content();
     let on = content.deepest(asked.alloc, catalog.id, levels)?;
+    allowed(asked, &[Need { privilege, on }])
+}
+
+/// The caller may use the privilege on the deepest part of a table's path that is there: the table, or else that of its
+/// namespace's path.
+pub fn allowed_on_table(
+    asked: &Asked<'_>,
+    privilege: Privilege,
+    identifier: &Identifier,
+    catalog: &CatalogRow,
+) -> Result<(), Undone>
+    requires { IsSound asked.now.state.now.rows }
+    ensures { let s = asked.now.state.now.rows in
+        Judges (forbidden s asked.now.command.now (on_table s privilege identifier.now catalog.now)) (λ _. ⊤) result }
+{
+    let content = asked.state.content();
+    let on = content.deepest_of_table(asked.alloc, catalog.id, identifier)?;
     allowed(asked, &[Need { privilege, on }])
 }
 
@@ -161,7 +178,11 @@ fn shown(state: &State, securable: Securable) -> Result<SecurableName, OutOfMemo
             Some(row) => namespace_shown(state, row),
             None => Ok(SecurableName::Realm),
         },
-        Securable::Realm | Securable::Table(_) | Securable::View(_) => Ok(SecurableName::Realm),
+        Securable::Table(id) => match state.content().table_of(id) {
+            Some(row) => table_shown(state, row),
+            None => Ok(SecurableName::Realm),
+        },
+        Securable::Realm | Securable::View(_) => Ok(SecurableName::Realm),
     }
 }
 
@@ -173,6 +194,25 @@ fn namespace_shown(state: &State, row: &NamespaceRow) -> Result<SecurableName, O
         Some(catalog) => Ok(SecurableName::Namespace {
             catalog: catalog.name.clone()?,
             namespace: row.levels.clone()?,
+        }),
+        None => Ok(SecurableName::Realm),
+    }
+}
+
+/// The table as a refusal shows it.
+fn table_shown(state: &State, row: &TableRow) -> Result<SecurableName, OutOfMemory>
+    ensures { IfOk result (λ name. name ≡ table_shown state.now.rows (Some row.now)) }
+{
+    let Some(namespace) = state.content().namespace_of(row.namespace) else {
+        return Ok(SecurableName::Realm);
+    };
+    match state.content().catalog_of(namespace.catalog) {
+        Some(catalog) => Ok(SecurableName::Table {
+            catalog: catalog.name.clone()?,
+            identifier: Identifier {
+                namespace: namespace.levels.clone()?,
+                name: row.name.clone()?,
+            },
         }),
         None => Ok(SecurableName::Realm),
     }

@@ -3,6 +3,8 @@ use Rattle.std.specs.Prelude.{◌≡◌, ℕ, ◌^◌, Bool, nat_lt, List, [], �
 use Rattle.std.specs.List.{list_any, AllByRecursion}
 use Rattle.pol_content.specs.declared.rows.CatalogRow.{CatalogRow}
 use Rattle.pol_content.specs.declared.rows.NamespaceRow.{NamespaceRow}
+use Rattle.pol_meta.specs.Weight.{metadata_weight}
+use Rattle.pol_table_rows.specs.declared.row.TableRow.{TableRow}
 use Rattle.pol_commands.specs.declared.reply.Quantity.{Quantity}
 use Rattle.pol_commands.specs.declared.reply.Quantity.TheVariants as quantity
 use Rattle.pol_commands.specs.declared.reply.Refusal.{Refusal}
@@ -41,6 +43,32 @@ catalog_properties row = length row.properties
 abbrev pub namespace_properties : NamespaceRow → ℕ
 namespace_properties row = length row.properties
 
+-- how many schemas, partition specs, sort orders, references, snapshots and properties a table has, what its metadata
+-- weighs, and its version
+abbrev pub schema_count : TableRow → ℕ
+schema_count row = length row.metadata.schemas
+
+abbrev pub spec_count : TableRow → ℕ
+spec_count row = length row.metadata.partition_specs
+
+abbrev pub order_count : TableRow → ℕ
+order_count row = length row.metadata.sort_orders
+
+abbrev pub ref_count : TableRow → ℕ
+ref_count row = length row.metadata.refs
+
+abbrev pub snapshot_count : TableRow → ℕ
+snapshot_count row = length row.metadata.snapshots
+
+abbrev pub table_properties : TableRow → ℕ
+table_properties row = length row.metadata.properties
+
+abbrev pub table_weight : TableRow → ℕ
+table_weight row = metadata_weight row.metadata
+
+abbrev pub table_version : TableRow → ℕ
+table_version row = row.version
+
 -- the quantities of these rows that are above their bounds
 abbrev pub limits : Rows → List (Option Refusal)
 limits rows =
@@ -52,11 +80,20 @@ limits rows =
     ∷ above quantity.Joins 100000 (length rows.access.joins)
     ∷ above quantity.Grants 100000 (length rows.access.grants)
     ∷ above quantity.Namespaces 100000 (length rows.content.namespaces)
+    ∷ above quantity.Tables 100000 (length rows.content.tables)
     ∷ any_above quantity.AllowedLocations 100 allowed_count rows.content.catalogs
+    ∷ any_above quantity.Schemas 1000 schema_count rows.content.tables
+    ∷ any_above quantity.PartitionSpecs 1000 spec_count rows.content.tables
+    ∷ any_above quantity.SortOrders 1000 order_count rows.content.tables
+    ∷ any_above quantity.Refs 1000 ref_count rows.content.tables
+    ∷ any_above quantity.Snapshots 10000 snapshot_count rows.content.tables
     ∷ any_above quantity.Properties 1000 catalog_properties rows.content.catalogs
     ∷ any_above quantity.Properties 1000 namespace_properties rows.content.namespaces
+    ∷ any_above quantity.Properties 1000 table_properties rows.content.tables
+    ∷ any_above quantity.Weight 16777216 table_weight rows.content.tables
     ∷ above quantity.NextId (2 ^ 62) rows.next_id
     ∷ above quantity.NextSerial (2 ^ 62) rows.next_serial
+    ∷ any_above quantity.Version (2 ^ 62) table_version rows.content.tables
     ∷ []
 
 -- the first of them

@@ -52,7 +52,7 @@ fresh_state secret = record {
     joins = [];
     grants = [];
   };
-  content = record { catalogs = []; namespaces = [] };
+  content = record { catalogs = []; namespaces = []; tables = [] };
   tokens = record { sessions = [] };
   time = 0;
   next_id = 3;

@@ -79,7 +79,7 @@ impl State {
         &self.access
     }
 
-    /// Catalogues and namespaces.
+    /// Catalogues, namespaces and tables.
     pub fn content(&self) -> &Content
         ensures { result.now.rows ≡ self.now.rows.content }
     {
@@ -135,6 +135,8 @@ impl State {
             .reserve_catalogs(count_put(changes, RowKind::Catalog))?;
         self.content
             .reserve_namespaces(count_put(changes, RowKind::Namespace))?;
+        self.content
+            .reserve_tables(count_put(changes, RowKind::Table))?;
         self.tokens
             .reserve_sessions(count_put(changes, RowKind::Session))
     }
@@ -173,6 +175,8 @@ impl State {
             Change::DropCatalogRole(id) => self.access.drop_catalog_role(id),
             Change::PutNamespace(row) => self.content.put_namespace(row),
             Change::DropNamespace(id) => self.content.drop_namespace(id),
+            Change::PutTable(table) => self.content.put_table(table),
+            Change::DropTable(id) => self.content.drop_table(id),
             Change::PutMember(row) => self.access.put_member(row),
             Change::DropMember(row) => {
                 self.access.drop_member(&row);

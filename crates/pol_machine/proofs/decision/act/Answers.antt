@@ -15,3 +15,7 @@ returns-in-ListJoins c =
 pub returns-in-CreatePrincipal : goal.returns-in-CreatePrincipal
 returns-in-CreatePrincipal c =
     subst (λ (action : Action). Acts c.args.asked.now (λ s command. acting s command action) c.create_principal.result) (sym c.in-CreatePrincipal.is) c.create_principal.ensures
+
+pub returns-in-CreateTable : goal.returns-in-CreateTable
+returns-in-CreateTable c =
+    subst (λ (action : Action). Acts c.args.asked.now (λ s command. acting s command action) c.create_table.result) (sym c.in-CreateTable.is) c.create_table.ensures

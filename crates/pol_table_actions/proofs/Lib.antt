@@ -1,0 +1,4 @@
+pub mod ActionLemmas
+pub mod ChangesLemmas
+pub mod OwesLemmas
+pub mod RowsLemmas

@@ -1,0 +1,3 @@
+pub mod Creation
+pub mod Loading
+pub mod Tables
