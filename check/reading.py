@@ -177,25 +177,27 @@ def finite(word):
 
 
 def depth_of(value):
-    """How many arrays and objects are open at the deepest place of a value."""
+    """How many arrays and objects are open at the deepest place of a value, whose objects are tuples of pairs."""
     depth, layer = 0, [value]
-    while held := [one for one in layer if isinstance(one, (dict, list))]:
+    while held := [one for one in layer if isinstance(one, (tuple, list))]:
         depth += 1
-        layer = [item for one in held for item in (one.values() if isinstance(one, dict) else one)]
+        layer = [item for one in held for item in ([part for _, part in one] if isinstance(one, tuple) else one)]
     return depth
 
 
 def body_of(content):
-    """The object that a body holds. A surrogate stands in it only in a pair."""
+    """The object that a body holds, in which the last of equal keys counts. A surrogate stands in it only in a pair, and
+    no part of it is too deep, nor of what an equal key takes the place of."""
     try:
         numbers = {"parse_constant": no_constant, "parse_float": finite, "parse_int": finite}
-        value = json.loads(content.decode("utf-8"), **numbers)
-        json.dumps(value, ensure_ascii=False).encode("utf-8")
+        body = content.decode("utf-8")
+        whole = json.loads(body, object_pairs_hook=tuple, **numbers)
+        json.dumps(whole, ensure_ascii=False).encode("utf-8")
     except (ValueError, RecursionError):
         unreadable("body")
-    if depth_of(value) > 127:
+    if depth_of(whole) > 127:
         unreadable("body")
-    return object_at(value, "body")
+    return object_at(json.loads(body, **numbers), "body")
 
 
 def object_at(value, path):
