@@ -6,6 +6,7 @@ from urllib.parse import urlencode
 
 from odd_values import ODD_VALUES, places_in
 from privileges import GRANTABLE, PRIVILEGES
+from random_clients import RandomClients, shown
 from random_tables import RandomTables
 from routes import ROUTES
 
@@ -38,8 +39,9 @@ DELEGATIONS = ["vended-credentials", "remote-signing, Vended-Credentials", "remo
 PARENTS = ["", "parent=", "parent=%ff", "parent=%1F"]
 SCOPES = ["ALL", "readers", "readers", "writers", "service_admin", "", "no one"]
 
-# How often a request of a method is asked, and one that isn't built.
+# How often a request of a method is asked, one of these actions, and one that isn't built.
 WEIGHTS = {"GET": 2, "HEAD": 2, "POST": 4, "PUT": 5, "DELETE": 0.7}
+OFTEN = {"create_table": 8, "load_table": 8, "commit_table": 24, "commit_transaction": 12}
 NOT_BUILT = 0.15
 
 
@@ -49,6 +51,8 @@ class RandomRequests:
     def __init__(self, seed):
         self.random = Random(seed)
         self.tables = RandomTables(seed)
+        self.clients = RandomClients(seed)
+        self.known = ()
         self.tokens = []
         self.secrets = {"root": "s3cr3t"}
 
@@ -60,8 +64,9 @@ class RandomRequests:
 
     def next(self):
         """The method, target, fields, content and bearer of a request."""
-        weights = [WEIGHTS[row[0]] if row[2] else NOT_BUILT for row in ROUTES]
+        weights = [OFTEN.get(row[2], WEIGHTS[row[0]]) if row[2] else NOT_BUILT for row in ROUTES]
         method, path, action, *form = self.random.choices(ROUTES, weights)[0]
+        self.known = self.clients.turn(action)
         target = self.target_of(path, action)
         content = self.content_of(action, *form)
         if self.seldom(0.02):
@@ -85,8 +90,11 @@ class RandomRequests:
     def segment(self, parameter):
         if parameter == "*path":
             return "b/x"
+        known = dict(zip(("prefix", "namespace", "table"), self.known)) if not self.seldom(0.02) else {}
         if parameter == "namespace":
-            return self.encoded("\x1f".join(self.levels()))
+            return self.encoded("\x1f".join(known.get(parameter) or self.levels()))
+        if parameter in known:
+            return self.encoded(known[parameter])
         odd = ODD_TABLES if parameter == "table" else ODD_NAMES
         return self.encoded(self.pick(NAMES.get(parameter, ["t"]), odd))
 
@@ -178,6 +186,22 @@ class RandomRequests:
             body["properties"]["format-version"] = self.pick(["2"], ["1", "3", "02", ""], 0.3)
         return body
 
+    def commit(self):
+        """A commit to the table that a client asks for, or a short one."""
+        if self.known:
+            return self.clients.commit_to(self.known)
+        return {"requirements": [], "updates": [{"action": "set-properties", "updates": self.texts()}]}
+
+    def transaction(self):
+        return self.clients.transaction(self.known[0]) if self.known else {"table-changes": []}
+
+    def renaming(self):
+        """The name of a table that a client knows, mostly, and another one."""
+        names = [{"namespace": self.levels(), "name": self.pick(NAMES["table"], ODD_TABLES)} for _ in range(2)]
+        if self.known and not self.seldom():
+            names[0] = shown(self.known)
+        return {"source": names[0], "destination": names[1]}
+
     def grant(self):
         kind = self.random.choice(["catalog", "namespace", "namespace", "table", "view"])
         grant = {"type": kind, "privilege": self.pick(sorted(GRANTABLE[kind]), PRIVILEGES)}
@@ -208,7 +232,7 @@ class RandomRequests:
             key = json.dumps(self.random.choice(list(body)))
             text = f"{{{key}:{json.dumps(self.random.choice(ODD_VALUES))},{text[1:]}"
         if isinstance(body, dict) and body and self.seldom(0.01):
-            text = f'{{"more":{self.random.choice(ODD_TEXTS)},{text[1:]}'
+            text = f'{{"odd":{self.random.choice(ODD_TEXTS)},{text[1:]}'
         if self.seldom(0.02):
             text = text[: self.random.randrange(len(text) + 1)]
         if self.seldom(0.01):

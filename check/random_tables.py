@@ -16,13 +16,16 @@ ODD_TYPES += ["fixed[0]", "fixed[2147483648]", "fixed[01]", "fixed", "fixed[]", 
 TRANSFORMS = ["identity", "void", "year", "month", "day", "hour", "bucket[16]", "truncate[1]", "bucket[2147483647]"]
 ODD_TRANSFORMS = ["bucket[0]", "truncate[0]", "bucket[2147483648]", "bucket[016]", "bucket", "bucket[-1]", "years", ""]
 NUMBERS = [0, -1, 1, 3, 999, 1000, 1001, 2147483446, 2147483447, 2147483448, 2147483646, 2147483647, 2147483648, 2**64]
-# Numbers as they are written, in place of a text that holds them.
-UUIDS = ["00010203-0405-0607-0809-0a0b0c0d0e0f", "00010203-0405-0607-0809-0A0B0C0D0E0F"]
-UUIDS += ["000102030405060708090a0b0c0d0e0f", "{00010203-0405-0607-0809-0a0b0c0d0e0f}"]
-UUIDS += ["URN:uuid:00010203-0405-0607-0809-0a0b0c0d0e0f"]
+UUID = "00010203-0405-0607-0809-0a0b0c0d0e0f"
 ODD_UUIDS = ["", "00010203-0405-0607-08090a0b-0c0d0e0f0", "g0010203-0405-0607-0809-0a0b0c0d0e0f", "{" + "0" * 37]
+# Numbers as they are written, in place of a text that holds them.
 WRITTEN = ["1.0", "1e0", "-0", "0.0", "1E400", "1e308", "18446744073709551616", "-1", "00", "[", "nul"]
 MARK = "written:"
+
+
+def uuid_texts(uuid):
+    """The texts that are read as a uuid."""
+    return [uuid, uuid.upper(), uuid.replace("-", ""), f"{{{uuid}}}", f"URN:uuid:{uuid}"]
 
 
 class RandomTables:
@@ -186,7 +189,7 @@ class RandomTables:
             "snapshot-log": self.some(lambda: {"snapshot-id": self.long(), "timestamp-ms": self.long()}),
             "snapshots": self.some(self.snapshot),
             "sort-orders": self.some(self.order),
-            "table-uuid": self.random.choice(UUIDS),
+            "table-uuid": self.random.choice(uuid_texts(UUID)),
             "more": 1,
         }
         return self.without_some(metadata, "current-snapshot-id", "more")

@@ -5,12 +5,11 @@ import json
 from copy import deepcopy
 
 from odd_values import places_in
-from random_tables import NUMBERS, UUIDS, RandomTables
+from random_tables import NUMBERS, UUID, RandomTables, uuid_texts
 from reading import Refused, compact
 from tables import NotMade
 from updates import LEFT_OUT, METADATA_LOG, ORDER, SCHEMA, SNAPSHOT_LOG, SPEC, Draft, column_ids, update
 
-UUID = "00010203-0405-0607-0809-0a0b0c0d0e0f"
 OTHER_UUID = "00000000-0000-4000-8000-000000000000"
 MOST_UPDATES = 30
 REFS = ["main", "main", "main", "a", "b", "é", "main2", "mai", "\x7f"]
@@ -136,8 +135,11 @@ class RandomCommits(RandomTables):
     def met(self):
         name = self.random.choice(REFS)
         named = self.former["refs"].get(name, {}).get("snapshot-id")
-        uuid = {"type": "assert-table-uuid", "uuid": self.random.choice(UUIDS)}
+        uuid = {"type": "assert-table-uuid", "uuid": self.uuid_text()}
         return self.pick(self.equal(None), self.of_ref(name, named), uuid)
+
+    def uuid_text(self):
+        return self.random.choice(uuid_texts(self.former["table-uuid"]))
 
     def unmet(self):
         uuid = {"type": "assert-table-uuid", "uuid": OTHER_UUID}
@@ -308,7 +310,7 @@ class RandomCommits(RandomTables):
 
     def text_update(self):
         return self.pick(
-            {"action": "assign-uuid", "uuid": self.random.choice(UUIDS)},
+            {"action": "assign-uuid", "uuid": self.uuid_text()},
             {"action": "upgrade-format-version", "format-version": 2},
             {"action": "set-location", "location": self.pick(*LOCATIONS, *LONG_LOCATIONS)},
             {"action": "set-properties", "updates": {key: self.pick("v", "", "é") for key in self.names(3)}},

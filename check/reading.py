@@ -17,8 +17,10 @@ STATUS_AND_TYPE = {
     "NameTaken": (409, "AlreadyExistsException"),
     "NotEmpty": (409, "NamespaceNotEmptyException"),
     "KeyTwice": (422, "UnprocessableEntityException"),
-    "Update 0 of table 0 refused": (400, "BadRequestException"),
-    "BadLocation of table 0": (400, "BadRequestException"),
+    "TableTwice": (400, "BadRequestException"),
+    "RequirementFailed": (409, "CommitFailedException"),
+    "UpdateRefused": (400, "BadRequestException"),
+    "BadLocation": (400, "BadRequestException"),
     "LocationOutside": (400, "BadRequestException"),
     "LocationOverlap": (400, "BadRequestException"),
     "Unsupported": (406, "UnsupportedOperationException"),
@@ -71,29 +73,33 @@ def dotted(levels):
     return b".".join(levels)
 
 
-def location_of(text):
-    """The segments of a location's text. What is none is refused."""
+def refuse_location(table, why):
+    raise Refused("BadLocation", f"BadLocation of table {table}: {why}")
+
+
+def location_of(text, table=0):
+    """The segments of a location's text, of the table at this place. What is none is refused."""
     scheme = b"lake://"
     if text.startswith(scheme) and text[len(scheme) :].endswith(b"/"):
         text = text[:-1]
     if len(text) > 1024:
-        refuse("BadLocation of table 0", b"TooLong")
+        refuse_location(table, "TooLong")
     if not text.startswith(scheme):
-        refuse("BadLocation of table 0", b"BadScheme")
-    return location_below(text[len(scheme) :].split(b"/"))
+        refuse_location(table, "BadScheme")
+    return location_below(text[len(scheme) :].split(b"/"), table)
 
 
-def location_below(segments):
+def location_below(segments, table=0):
     """The location of these segments. What is none is refused."""
     if len(location_text(segments)) > 1024:
-        refuse("BadLocation of table 0", b"TooLong")
+        refuse_location(table, "TooLong")
     for segment in segments:
         if not segment:
-            refuse("BadLocation of table 0", b"EmptySegment")
+            refuse_location(table, "EmptySegment")
         if segment in (b".", b".."):
-            refuse("BadLocation of table 0", b"DotSegment")
+            refuse_location(table, "DotSegment")
         if any(byte < 0x20 or byte in b"/\x7f" for byte in segment):
-            refuse("BadLocation of table 0", b"ControlByte")
+            refuse_location(table, "ControlByte")
     return segments
 
 

@@ -1,10 +1,12 @@
 """The catalogue's rules written a second time, as a plain program, so that the proved one can be compared with it.
 
-`Rules.answer` answers one request after another. Of what the program draws at random, which is told by its own answer,
-it takes the program's word. No session expires here, and of the bounds on quantities only those on allowed locations
-and properties are known."""
+`Rules.answer` answers one request after another. Of what the program draws at random, and of what its clock says, it
+takes the program's word, which is told by the first answer that shows it. No session expires here, and of the bounds on
+quantities only those on allowed locations, on what a table has, and on tables in a transaction are known, but for a
+metadata's weight."""
 
 import hashlib
+import json
 import re
 from dataclasses import dataclass, field
 
@@ -41,11 +43,15 @@ from reading import (
 )
 from routes import ENDPOINTS, route_of
 from tables import NotMade, created, request_of
+from updates import LEFT_OUT, NotApplied, Unmet, identifier, judge, metadata_file, read_commit, read_transaction, updated
 
 plain = meeting(is_plain)
 BASE = b"default-base-location"
 FIRST_GRANTS = ("CATALOG_MANAGE_ACCESS", "CATALOG_MANAGE_CONTENT")
 SCOPE = b"PRINCIPAL_ROLE:"
+# What a table has at most of each of its parts, by the keys of these and their names in refusals.
+PARTS = [(key, key.replace("-", " "), 1000) for key in ("schemas", "partition-specs", "sort-orders", "refs")]
+PARTS += [("snapshots", "snapshots", 10_000), ("properties", "properties", 1000)]
 UUID = "[0-9a-f]{8}-[0-9a-f]{4}-4[0-9a-f]{3}-[89ab][0-9a-f]{3}-[0-9a-f]{12}"
 TOKEN = {
     "expires_in": 3600,
@@ -83,10 +89,27 @@ class Table:
     id: int
     location: list
     metadata: dict
+    version: int = 0
 
-    def shown(self):
-        place = b"%b/metadata/00000-%b.metadata.json" % (location_text(self.location), self.metadata["table-uuid"].encode())
-        return {"config": {}, "metadata": self.metadata, "metadata-location": place, "storage-credentials": []}
+    def committed(self):
+        return {"metadata": self.metadata, "metadata-location": metadata_file(self.metadata, self.version)}
+
+    def loaded(self):
+        return {"config": {}, **self.committed(), "storage-credentials": []}
+
+    def is_moved(self, former):
+        return self.metadata["location"] != former.metadata["location"]
+
+
+class Moment:
+    """A moment of the program's clock."""
+
+    told = None
+
+    def learn(self, answered):
+        if self.told is None:
+            self.told = answered if type(answered) is int else "no moment was told"
+        return self.told
 
 
 @dataclass
@@ -103,6 +126,14 @@ class Request:
     @property
     def query(self):
         return self.target.partition(b"?")[2]
+
+    def shown(self, value):
+        """A value as JSON, in which moments that weren't told yet are those of the answer."""
+        try:
+            answered = json.loads(self.answered)
+        except ValueError:
+            answered = None
+        return compact(with_moments(value, answered))
 
     @property
     def is_delegated(self):
@@ -384,9 +415,8 @@ class Rules:
         metadata = made(asked, request)
         given = asked["location"]
         location = location_below([*row.base, *path, asked["name"]]) if given is None else location_of(given)
-        if not any(covers(upper, location) for upper in [row.base, *row.allowed]):
-            refuse("LocationOutside", location_text(location))
-        self.refuse_overlap(location)
+        refuse_outside(row, location)
+        refuse_overlap(location, self.tables())
         if asked["staged"]:
             refuse("Unsupported", b"stage-create")
         if version != b"2":
@@ -394,24 +424,18 @@ class Rules:
         refuse_many(asked["properties"])
         table = Table(self.new_id(), location, metadata | {"location": location_text(location)})
         namespace.tables[asked["name"]] = table
-        return 200, compact(table.shown())
+        return 200, request.shown(table.loaded())
 
-    def refuse_overlap(self, location):
-        """Refuses a location that overlaps that of a table, of several that of the oldest one."""
+    def tables(self):
+        """All tables, of whatever catalogue."""
         namespaces = [namespace for row in self.catalogs.values() for namespace in row.namespaces.values()]
-        tables = [table for namespace in namespaces for table in namespace.tables.values()]
-        for table in sorted(tables, key=lambda table: table.id):
-            if covers(table.location, location) or covers(location, table.location):
-                refuse("LocationOverlap", b"%b and %b" % (location_text(location), location_text(table.location)))
+        return [table for namespace in namespaces for table in namespace.tables.values()]
 
     def at_table(self, request, name, path, part, privilege):
         """The namespace of a path and the table of a name in it, which must be there."""
         row = self.in_catalog(request, name, privilege, path, part)
         refuse_missing(row, path)
-        namespace = row.namespaces[path]
-        if part not in namespace.tables:
-            refuse("NoTable", dotted([*path, part]))
-        return namespace, namespace.tables[part]
+        return row.namespaces[path], table_there(row, path, part)
 
     def load_table(self, request, segment, second, third):
         place = plain_segment(segment), namespace_segment(second), name_segment(third)
@@ -419,7 +443,10 @@ class Rules:
         if shown not in (None, b"all", b"refs"):
             unreadable("snapshots")
         _, table = self.at_table(request, *place, "TABLE_READ_PROPERTIES")
-        return 200, compact(table.shown())
+        loaded = table.loaded()
+        if shown == b"refs":
+            loaded["metadata"] = with_named_snapshots(loaded["metadata"])
+        return 200, request.shown(loaded)
 
     def head_table(self, request, segment, second, third):
         place = plain_segment(segment), namespace_segment(second), name_segment(third)
@@ -436,6 +463,62 @@ class Rules:
         namespace, table = self.at_table(request, *place, "TABLE_DROP")
         del namespace.tables[place[2]]
         self.grants = [grant for grant in self.grants if grant[2] != ("table", table.id)]
+        return 204, None
+
+    # Commits to tables, and their names
+
+    def commit_table(self, request, segment, second, third):
+        name, path, part = plain_segment(segment), namespace_segment(second), name_segment(third)
+        change = {"identifier": {"namespace": path, "name": part}, **read_commit(request.content)}
+        self.commit(request, name, [change])
+        return 200, request.shown(self.catalogs[name].namespaces[path].tables[part].committed())
+
+    def commit_transaction(self, request, segment):
+        name = plain_segment(segment)
+        self.commit(request, name, read_transaction(request.content))
+        return 204, None
+
+    def commit(self, request, name, changes):
+        """Makes all of these changes of tables, or refuses the first of the rules that fails."""
+        places = [(change["identifier"]["namespace"], change["identifier"]["name"]) for change in changes]
+        self.active_roles(request)
+        row = self.catalog(name)
+        for path, part in places:
+            self.in_catalog(request, name, "TABLE_WRITE_PROPERTIES", path, part)
+        for path, _ in places:
+            refuse_missing(row, path)
+        former = [table_there(row, path, part) for path, part in places]
+        refuse_twice(places)
+        after = committed(former, changes, Moment())
+        moved = [table for table, before in zip(after, former) if table.is_moved(before)]
+        for table in moved:
+            refuse_outside(row, table.location)
+        replaced = {table.id: table for table in after}
+        tables = [replaced.get(table.id, table) for table in self.tables()]
+        for table in moved:
+            refuse_overlap(table.location, [other for other in tables if other.id != table.id])
+        refuse_left_out(changes)
+        if len(changes) > 100:
+            refuse("Limit", b"tables in a transaction 100")
+        for table in after:
+            refuse_large(table.metadata)
+        for (path, part), table in zip(places, after):
+            row.namespaces[path].tables[part] = table
+
+    def rename_table(self, request, segment):
+        name = plain_segment(segment)
+        body = request.body()
+        source, destination = (required(body, key, identifier) for key in ("source", "destination"))
+        path, part = destination["namespace"], destination["name"]
+        row = self.in_catalog(request, name, "TABLE_DROP", source["namespace"], source["name"])
+        self.in_catalog(request, name, "TABLE_CREATE", path)
+        refuse_missing(row, source["namespace"])
+        refuse_missing(row, path)
+        table = table_there(row, source["namespace"], source["name"])
+        if part in row.namespaces[path].tables:
+            refuse("NameTaken", part)
+        del row.namespaces[source["namespace"]].tables[source["name"]]
+        row.namespaces[path].tables[part] = table
         return 204, None
 
     # Principals and principal roles
@@ -661,14 +744,58 @@ def drawn(request, pattern):
     return found.group(1) if found else "nothing was drawn"
 
 
+def with_moments(value, answered):
+    """A value in which moments that weren't told yet are those at their places in an answer."""
+    if isinstance(value, Moment):
+        return value.learn(answered)
+    if isinstance(value, dict):
+        found = answered if isinstance(answered, dict) else {}
+        return {key: with_moments(part, found.get(key)) for key, part in value.items()}
+    if isinstance(value, list):
+        found = answered if isinstance(answered, list) else []
+        return [with_moments(*pair) for pair in zip(value, [*found, *[None] * len(value)])]
+    return value
+
+
+def refuse_update(table, update, why):
+    raise Refused("UpdateRefused", f"Update {update} of table {table} refused: {why}")
+
+
 def made(asked, request):
-    """The metadata of a new table, with the moment and the uuid that its answer tells."""
+    """The metadata of a new table, with the uuid that its answer tells."""
     uuid = drawn(request, f'"table-uuid":"({UUID})"')
-    moment = drawn(request, r'"last-updated-ms":([0-9]+)')
     try:
-        return created(asked, uuid, int(moment) if moment.isdigit() else moment)
+        return created(asked, uuid, Moment())
     except NotMade as why:
-        refuse("Update 0 of table 0 refused", str(why).encode())
+        refuse_update(0, 0, why)
+
+
+def with_named_snapshots(metadata):
+    """A metadata without the snapshots that no reference names."""
+    named = {reference["snapshot-id"] for reference in metadata["refs"].values()}
+    return metadata | {"snapshots": [one for one in metadata["snapshots"] if one["snapshot-id"] in named]}
+
+
+def committed(former, changes, moment):
+    """Tables after their changes at a moment: all requirements are judged before all updates, and these before the
+    locations."""
+    for place, (table, change) in enumerate(zip(former, changes)):
+        try:
+            judge(table.metadata, change["requirements"])
+        except Unmet as unmet:
+            raise Refused("RequirementFailed", f"Requirement {unmet.place} of table {place} failed") from None
+    after = []
+    for place, (table, change) in enumerate(zip(former, changes)):
+        updates = change["updates"]
+        try:
+            metadata = updated(table.metadata, updates, table.version, moment)
+        except NotApplied as refused:
+            refuse_update(place, refused.place, refused.why)
+        after.append(Table(table.id, table.location, metadata, table.version + bool(updates)))
+    for place, (table, before) in enumerate(zip(after, former)):
+        if table.is_moved(before):
+            table.location = location_of(table.metadata["location"], place)
+    return after
 
 
 def add(facts, fact):
@@ -687,6 +814,44 @@ def refuse_missing(row, path):
     for depth in range(1, len(path) + 1):
         if path[:depth] not in row.namespaces:
             refuse("NoNamespace", dotted(path[:depth]))
+
+
+def table_there(row, path, part):
+    """The table of a name in a namespace of a catalogue that is there."""
+    if part not in row.namespaces[path].tables:
+        refuse("NoTable", dotted([*path, part]))
+    return row.namespaces[path].tables[part]
+
+
+def refuse_twice(places):
+    """Refuses the first place that names a table again."""
+    for second, place in enumerate(places):
+        if place in places[:second]:
+            refuse("TableTwice", f"{places.index(place)} and {second}".encode())
+
+
+def refuse_outside(row, location):
+    if not any(covers(upper, location) for upper in [row.base, *row.allowed]):
+        refuse("LocationOutside", location_text(location))
+
+
+def refuse_overlap(location, tables):
+    """Refuses a location that overlaps that of one of these tables, of several that of the oldest one."""
+    for table in sorted(tables, key=lambda table: table.id):
+        if covers(table.location, location) or covers(location, table.location):
+            refuse("LocationOverlap", b"%b and %b" % (location_text(location), location_text(table.location)))
+
+
+def refuse_left_out(changes):
+    for action, _ in [one for change in changes for one in change["updates"]]:
+        if action in LEFT_OUT:
+            refuse("Unsupported", action.encode())
+
+
+def refuse_large(metadata):
+    for key, word, bound in PARTS:
+        if len(metadata[key]) > bound:
+            refuse("Limit", f"{word} {bound}".encode())
 
 
 def refuse_many(properties):

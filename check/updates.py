@@ -68,7 +68,7 @@ def told(former, content):
 def transaction_told(content):
     """What is told of a transaction: how many changes of tables it has, or its first bad field."""
     try:
-        return str(len(transaction(body_of(content), "")["table-changes"]))
+        return str(len(read_transaction(content)))
     except Refused as refused:
         return refused.message
 
@@ -164,6 +164,10 @@ def read_commit(content):
     return commit(body_of(content), "")
 
 
+def read_transaction(content):
+    return transaction(body_of(content), "")["table-changes"]
+
+
 def read_metadata(content):
     return metadata(body_of(content), "")
 
@@ -214,9 +218,10 @@ def column_ids(part):
 class Draft:
     """A metadata amid a list of updates, and what the list added last. Each update is a method of its name."""
 
-    def __init__(self, former):
+    def __init__(self, former, moment=MOMENT):
         self.now = dict(former)
         self.last = {}
+        self.moment = moment
 
     def apply(self, action, asked):
         if action not in LEFT_OUT:
@@ -323,7 +328,7 @@ class Draft:
         self.now["refs"] = self.now["refs"] | {ref_name: reference}
         if ref_name == "main":
             self.now["current-snapshot-id"] = found
-            self.now["snapshot-log"] = self.now["snapshot-log"] + [{"snapshot-id": found, "timestamp-ms": MOMENT}]
+            self.now["snapshot-log"] = self.now["snapshot-log"] + [{"snapshot-id": found, "timestamp-ms": self.moment}]
 
     def without_refs(self, is_gone):
         self.now["refs"] = {name: part for name, part in self.now["refs"].items() if not is_gone(name, part)}
@@ -355,34 +360,45 @@ def settled(location):
         return location
 
 
-def metadata_file(found):
+def metadata_file(found, version):
     """Where the file of a metadata stands."""
-    return found["location"] + f"/metadata/{VERSION:05}-{found['table-uuid']}.metadata.json".encode()
+    return found["location"] + f"/metadata/{version:05}-{found['table-uuid']}.metadata.json".encode()
 
 
-def finished(former, now):
+def finished(former, version, draft):
     """What is done after the whole of a list."""
+    now = draft.now
     there = {snapshot["snapshot-id"] for snapshot in now["snapshots"]}
     entries = now["snapshot-log"]
     begin = max((place + 1 for place, entry in enumerate(entries) if entry["snapshot-id"] not in there), default=0)
-    former_entry = {"metadata-file": metadata_file(former), "timestamp-ms": former["last-updated-ms"]}
+    former_entry = {"metadata-file": metadata_file(former, version), "timestamp-ms": former["last-updated-ms"]}
     return now | {
-        "last-updated-ms": MOMENT,
+        "last-updated-ms": draft.moment,
         "location": settled(now["location"]),
         "metadata-log": (now["metadata-log"] + [former_entry])[-METADATA_LOG:],
         "snapshot-log": entries[begin:][-SNAPSHOT_LOG:],
     }
 
 
-def committed(former, asked):
-    """The metadata after a commit."""
-    for place, one in enumerate(asked["requirements"]):
+def judge(former, requirements):
+    """The requirements of a metadata must hold."""
+    for place, one in enumerate(requirements):
         if not is_met(former, *one):
             raise Unmet(place)
-    draft = Draft(former)
-    for place, one in enumerate(asked["updates"]):
+
+
+def updated(former, updates, version, moment):
+    """The metadata of a version after updates at a moment."""
+    draft = Draft(former, moment)
+    for place, one in enumerate(updates):
         try:
             draft.apply(*one)
         except NotMade as refused:
             raise NotApplied(place, refused) from None
-    return finished(former, draft.now) if asked["updates"] else former
+    return finished(former, version, draft) if updates else former
+
+
+def committed(former, asked):
+    """The metadata after a commit."""
+    judge(former, asked["requirements"])
+    return updated(former, asked["updates"], VERSION, MOMENT)

@@ -4,7 +4,7 @@ use Rattle.pol_locations.specs.Location.{location_text}
 use Rattle.pol_locations.specs.LocationRefused.{word_of}
 use Rattle.pol_meta.specs.Why as why_refused
 use Rattle.pol_commands.specs.declared.reply.Refusal.{Refusal}
-use Rattle.pol_commands.specs.declared.reply.Refusal.TheVariants.{RunFull, InvalidClient, InvalidScope, Unauthenticated, NoCatalogue, Forbidden, NoNamespace, NoTable, NoView, NoSuchRole, NameTaken, NotEmpty, KeyTwice, UpdateRefused, BadLocation, LocationOutside, LocationOverlap, Unsupported, Limit, Reserved}
+use Rattle.pol_commands.specs.declared.reply.Refusal.TheVariants.{RunFull, InvalidClient, InvalidScope, Unauthenticated, NoCatalogue, Forbidden, NoNamespace, NoTable, NoView, NoSuchRole, NameTaken, NotEmpty, KeyTwice, TableTwice, RequirementFailed, UpdateRefused, BadLocation, LocationOutside, LocationOverlap, Unsupported, Limit, Reserved}
 use Rattle.pol_access.specs.Privilege.{text_of}
 use Rattle.pol_commands.specs.Reply.{option_text, quantity_text}
 use Rattle.pol_commands.specs.Securables.{securable_text}
@@ -26,6 +26,8 @@ status_of (NoSuchRole name) = 404
 status_of (NameTaken name) = 409
 status_of (NotEmpty name) = 409
 status_of (KeyTwice key) = 422
+status_of (TableTwice first second) = 400
+status_of (RequirementFailed table requirement) = 409
 status_of (UpdateRefused table update why) = 400
 status_of (BadLocation place why) = 400
 status_of (LocationOutside location) = 400
@@ -49,6 +51,8 @@ kind_of (NoSuchRole name) = Some (codes "NotFoundException")
 kind_of (NameTaken name) = Some (codes "AlreadyExistsException")
 kind_of (NotEmpty name) = Some (codes "NamespaceNotEmptyException")
 kind_of (KeyTwice key) = Some (codes "UnprocessableEntityException")
+kind_of (TableTwice first second) = Some (codes "BadRequestException")
+kind_of (RequirementFailed table requirement) = Some (codes "CommitFailedException")
 kind_of (UpdateRefused table update why) = Some (codes "BadRequestException")
 kind_of (BadLocation place why) = Some (codes "BadRequestException")
 kind_of (LocationOutside location) = Some (codes "BadRequestException")
@@ -76,6 +80,9 @@ message_of (NoSuchRole name) = codes "NoSuchRole: " ++ name
 message_of (NameTaken name) = codes "NameTaken: " ++ name
 message_of (NotEmpty name) = codes "NotEmpty: " ++ name
 message_of (KeyTwice key) = codes "KeyTwice: " ++ key
+message_of (TableTwice first second) = codes "TableTwice: " ++ (decimal first ++ (codes " and " ++ decimal second))
+message_of (RequirementFailed table requirement) =
+    codes "Requirement " ++ (decimal requirement ++ (codes " of table " ++ (decimal table ++ codes " failed")))
 message_of (UpdateRefused table update why) =
     codes "Update " ++ (decimal update ++ (codes " of table " ++ (decimal table ++ (codes " refused: " ++ why_refused.word_of why))))
 message_of (BadLocation place why) = codes "BadLocation of table " ++ (decimal place ++ (codes ": " ++ word_of why))

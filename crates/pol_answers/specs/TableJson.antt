@@ -25,3 +25,11 @@ loaded_object place meta =
 
 abbrev pub loaded_json : List ℕ → TableMetadata → Data
 loaded_json place meta = loaded_object place (table_json meta)
+
+-- the same after a commit to it (CommitTableResponse)
+abbrev pub committed_object : List ℕ → Data → Data
+committed_object place meta =
+    object (member (codes "metadata") meta (member (codes "metadata-location") (string place) no_members))
+
+abbrev pub committed_json : List ℕ → TableMetadata → Data
+committed_json place meta = committed_object place (table_json meta)

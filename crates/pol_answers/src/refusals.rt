@@ -15,6 +15,8 @@ pub(crate) const UNSUPPORTED_OPERATION: &str = "UnsupportedOperationException";
 
 const ALREADY_EXISTS: &str = "AlreadyExistsException";
 
+const COMMIT_FAILED: &str = "CommitFailedException";
+
 const FORBIDDEN: &str = "ForbiddenException";
 
 const NAMESPACE_NOT_EMPTY: &str = "NamespaceNotEmptyException";
@@ -35,6 +37,7 @@ pub(crate) fn status_of(refusal: &Refusal) -> u16
 {
     match refusal {
         Refusal::InvalidScope
+        | Refusal::TableTwice { .. }
         | Refusal::UpdateRefused { .. }
         | Refusal::BadLocation { .. }
         | Refusal::LocationOutside { .. }
@@ -49,7 +52,8 @@ pub(crate) fn status_of(refusal: &Refusal) -> u16
         | Refusal::NoView { .. }
         | Refusal::NoSuchRole { .. } => 404,
         Refusal::Unsupported { .. } => 406,
-        Refusal::NameTaken { .. } | Refusal::NotEmpty { .. } => 409,
+        Refusal::NameTaken { .. } | Refusal::NotEmpty { .. } | Refusal::RequirementFailed { .. } =>
+            { 409 }
         Refusal::KeyTwice { .. } => 422,
         Refusal::RunFull { .. } => 503,
     }
@@ -71,7 +75,9 @@ pub(crate) fn kind_of(refusal: &Refusal) -> Option<&'static str>
         Refusal::NameTaken { .. } => Some(ALREADY_EXISTS),
         Refusal::NotEmpty { .. } => Some(NAMESPACE_NOT_EMPTY),
         Refusal::KeyTwice { .. } => Some(UNPROCESSABLE_ENTITY),
-        Refusal::UpdateRefused { .. }
+        Refusal::RequirementFailed { .. } => Some(COMMIT_FAILED),
+        Refusal::TableTwice { .. }
+        | Refusal::UpdateRefused { .. }
         | Refusal::BadLocation { .. }
         | Refusal::LocationOutside { .. }
         | Refusal::LocationOverlap { .. }
@@ -105,6 +111,12 @@ pub(crate) fn message_of(alloc: Global, refusal: &Refusal) -> Result<String, All
         Refusal::NameTaken { name } => format!(in alloc; "NameTaken: {name}"),
         Refusal::NotEmpty { name } => format!(in alloc; "NotEmpty: {name}"),
         Refusal::KeyTwice { key } => format!(in alloc; "KeyTwice: {key}"),
+        Refusal::TableTwice { first, second } => format!(in alloc;
+            "TableTwice: {first} and {second}"
+        ),
+        Refusal::RequirementFailed { table, requirement } => format!(in alloc;
+            "Requirement {requirement} of table {table} failed"
+        ),
         Refusal::UpdateRefused { table, update, why } => format!(in alloc;
             "Update {update} of table {table} refused: {why}"
         ),

@@ -58,3 +58,23 @@ fn loaded_object(alloc: Global, place: &str, metadata: Value) -> Result<Value, A
         "storage-credentials": []
     })
 }
+
+/// A table after a commit to it, with its metadata, which is at this place.
+#[tactic(auto, using(crate::proofs::TableJsonLemmas::committed_whole))]
+pub(crate) fn committed_json(
+    alloc: Global,
+    place: &Text,
+    metadata: &TableMetadata,
+) -> Result<Value, OutOfMemory>
+    ensures json { IfOk result (λ json. view json ≡ spec.committed_json place.now metadata.now) }
+    ensures whole { IfOk result (λ json. has_float (view json) ≡ false) }
+{
+    let metadata = table_value(alloc, metadata)?;
+    Ok(committed_object(alloc, place.as_str(), metadata)?)
+}
+
+fn committed_object(alloc: Global, place: &str, metadata: Value) -> Result<Value, AllocError>
+    ensures { IfOk result (λ json. view json ≡ spec.committed_object place.now (view metadata)) }
+{
+    json!(in alloc; {"metadata": metadata, "metadata-location": place})
+}

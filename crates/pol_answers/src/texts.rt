@@ -14,7 +14,7 @@ use crate::refusals::{
     BAD_REQUEST, NOT_FOUND, SERVICE_UNAVAILABLE, UNSUPPORTED_OPERATION, kind_of, message_of,
     status_of,
 };
-use crate::table_json::{identifiers_json, loaded_json};
+use crate::table_json::{committed_json, identifiers_json, loaded_json};
 use pol_commands::{Answer as Done, Refusal, Reply};
 use pol_http::{Answer, Body, HeadRefused};
 use pol_names::Plain;
@@ -77,6 +77,14 @@ fn done_answer(alloc: Global, done: &Done) -> Result<Answer, OutOfMemory>
             200,
             loaded_json(alloc, metadata_location, metadata.get())?,
         ),
+        Done::TableCommitted {
+            metadata_location,
+            metadata,
+        } => json_answer(
+            alloc,
+            200,
+            committed_json(alloc, metadata_location, metadata.get())?,
+        ),
         Done::PrincipalsListed(rows) => json_answer(alloc, 200, principals_json(alloc, rows)?),
         Done::PrincipalCreated {
             name,
@@ -103,6 +111,8 @@ fn done_answer(alloc: Global, done: &Done) -> Result<Answer, OutOfMemory>
         | Done::TableThere
         | Done::TableDropped
         | Done::MetricsReported
+        | Done::TransactionCommitted
+        | Done::TableRenamed
         | Done::PrincipalDropped
         | Done::RoleDropped
         | Done::MemberEnded

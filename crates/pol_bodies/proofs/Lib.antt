@@ -1,2 +1,3 @@
+pub mod CommitBodyLemmas
 pub mod TableBodyLemmas
 pub mod UnreadLemmas

@@ -7,6 +7,8 @@ pub const CATALOG: &str = "catalog";
 
 pub const CATALOG_ROLE: &str = "catalogRole";
 
+pub const DESTINATION: &str = "destination";
+
 pub const GRANT: &str = "grant";
 
 pub const INTERNAL: &str = "INTERNAL";
@@ -24,6 +26,8 @@ pub const PRIVILEGE: &str = "privilege";
 pub const PROPERTIES: &str = "properties";
 
 pub const REMOVALS: &str = "removals";
+
+pub const SOURCE: &str = "source";
 
 pub const STORAGE_CONFIG_INFO: &str = "storageConfigInfo";
 

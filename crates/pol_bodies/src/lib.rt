@@ -3,13 +3,17 @@
 
 mod bodies;
 mod body;
+mod commit_bodies;
 mod held;
 pub mod keys;
 pub mod laws;
 mod management_bodies;
+mod renaming;
 mod table_body;
 
 pub use bodies::{CatalogBody, NewCatalog, NewNamespace, PropertyUpdates};
 pub use body::body_of;
+pub use commit_bodies::{commit_of, commits_of};
 pub use management_bodies::{CatalogRoleBody, GrantBody, PrincipalBody, PrincipalRoleBody};
+pub use renaming::RenameBody;
 pub use table_body::create_table_of;

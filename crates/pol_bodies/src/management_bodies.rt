@@ -209,7 +209,7 @@ fn granted_on(alloc: Global, value: &Value, kind: GrantType) -> Result<GrantedOn
 
 /// The full name of a table or a view, whose own name stands under that key.
 #[tactic(auto, unfolding(crate::specs::ManagementBodies::identifier))]
-fn identifier(alloc: Global, value: &Value, key: &str) -> Result<Identifier, ReadError>
+pub(crate) fn identifier(alloc: Global, value: &Value, key: &str) -> Result<Identifier, ReadError>
     ensures { Gives result ((spec.identifier key.now).read (view value.now)) }
 {
     let within: Held<Namespace> = field(alloc, value, keys::NAMESPACE)?;

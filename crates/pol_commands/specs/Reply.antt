@@ -3,17 +3,29 @@ use Rattle.std.specs.Prelude.{ℕ, Bool, true, false, List, codes}
 use Rattle.pol_commands.specs.declared.reply.OptionName.{OptionName}
 use Rattle.pol_commands.specs.declared.reply.OptionName.TheVariants as option
 use Rattle.pol_commands.specs.declared.reply.Quantity.{Quantity}
-use Rattle.pol_commands.specs.declared.reply.Quantity.TheVariants.{Catalogs, Principals, PrincipalRoles, CatalogRoles, Members, Joins, Grants, Namespaces, Tables, AllowedLocations, Schemas, PartitionSpecs, SortOrders, Refs, Snapshots, Properties, Weight, NextId, NextSerial, Version}
+use Rattle.pol_commands.specs.declared.reply.Quantity.TheVariants.{Catalogs, Principals, PrincipalRoles, CatalogRoles, Members, Joins, Grants, Namespaces, Tables, AllowedLocations, Schemas, PartitionSpecs, SortOrders, Refs, Snapshots, Properties, Weight, TransactionTables, NextId, NextSerial, Version}
 use Rattle.pol_commands.specs.declared.reply.Refusal.{Refusal}
-use Rattle.pol_commands.specs.declared.reply.Refusal.TheVariants.{RunFull, InvalidClient, InvalidScope, Unauthenticated, NoCatalogue, Forbidden, NoNamespace, NoTable, NoView, NoSuchRole, NameTaken, NotEmpty, KeyTwice, UpdateRefused, BadLocation, LocationOutside, LocationOverlap, Unsupported, Limit, Reserved}
+use Rattle.pol_commands.specs.declared.reply.Refusal.TheVariants.{RunFull, InvalidClient, InvalidScope, Unauthenticated, NoCatalogue, Forbidden, NoNamespace, NoTable, NoView, NoSuchRole, NameTaken, NotEmpty, KeyTwice, TableTwice, RequirementFailed, UpdateRefused, BadLocation, LocationOutside, LocationOverlap, Unsupported, Limit, Reserved}
 use Rattle.pol_commands.specs.declared.reply.Reply.{Reply}
 use Rattle.pol_commands.specs.declared.reply.Reply.TheVariants.{Answered, Refused}
+use Rattle.pol_updates.specs.declared.update.LeftOut.{LeftOut}
+use Rattle.pol_updates.specs.declared.update.LeftOut.TheVariants as left
+
+-- the name of an update that isn't served (Iceberg REST OpenAPI, TableUpdate)
+abbrev pub left_out_text : LeftOut → List ℕ
+left_out_text left.SetStatistics = codes "set-statistics"
+left_out_text left.RemoveStatistics = codes "remove-statistics"
+left_out_text left.SetPartitionStatistics = codes "set-partition-statistics"
+left_out_text left.RemovePartitionStatistics = codes "remove-partition-statistics"
+left_out_text left.AddEncryptionKey = codes "add-encryption-key"
+left_out_text left.RemoveEncryptionKey = codes "remove-encryption-key"
 
 -- the name of an option
 abbrev pub option_text : OptionName → List ℕ
 option_text option.Type = codes "type"
 option_text option.StageCreate = codes "stage-create"
 option_text option.FormatVersion = codes "format-version"
+option_text (option.Update action) = left_out_text action
 
 -- the name of a quantity
 abbrev pub quantity_text : Quantity → List ℕ
@@ -34,6 +46,7 @@ quantity_text Refs = codes "refs"
 quantity_text Snapshots = codes "snapshots"
 quantity_text Properties = codes "properties"
 quantity_text Weight = codes "weight"
+quantity_text TransactionTables = codes "tables in a transaction"
 quantity_text NextId = codes "next_id"
 quantity_text NextSerial = codes "next_serial"
 quantity_text Version = codes "version"
@@ -53,6 +66,8 @@ is_full (NoSuchRole name) = false
 is_full (NameTaken name) = false
 is_full (NotEmpty name) = false
 is_full (KeyTwice key) = false
+is_full (TableTwice first second) = false
+is_full (RequirementFailed table requirement) = false
 is_full (UpdateRefused table update why) = false
 is_full (BadLocation place why) = false
 is_full (LocationOutside location) = false

@@ -1,4 +1,4 @@
-use crate::{CreateTable, Grant};
+use crate::{Commit, CreateTable, Grant};
 use pol_names::{Identifier, Namespace, Plain};
 use pol_properties::Properties;
 use pol_types::{Bytes, Listed, Text};
@@ -133,6 +133,23 @@ pub enum Action {
     ReportMetrics {
         catalog: Plain,
         identifier: Identifier,
+    },
+    /// Commits to a table (Iceberg REST OpenAPI, updateTable).
+    CommitTable {
+        catalog: Plain,
+        commit: Commit,
+    },
+    /// Commits to several tables, to all of them or to none (Iceberg REST OpenAPI, commitTransaction).
+    CommitTransaction {
+        catalog: Plain,
+        commits: Listed<Commit>,
+    },
+    /// Gives a table another name, in its namespace or another one of the catalogue (Iceberg REST OpenAPI,
+    /// renameTable).
+    RenameTable {
+        catalog: Plain,
+        source: Identifier,
+        destination: Identifier,
     },
     /// Lists all principals.
     ListPrincipals,

@@ -1,5 +1,5 @@
 ghost use Rattle.std.specs.Prelude.{◌≡◌, Some};
-ghost use Rattle.pol_commands.specs.Reply.{is_run_full, option_text, quantity_text};
+ghost use Rattle.pol_commands.specs.Reply.{is_run_full, left_out_text, option_text, quantity_text};
 
 use crate::{Grant, SecurableName};
 use pol_access::{PrincipalRow, Privilege};
@@ -9,6 +9,7 @@ use pol_meta::{TableMetadata, Why};
 use pol_names::{Identifier, Namespace, Plain};
 use pol_properties::Properties;
 use pol_types::{Listed, Text};
+use pol_updates::LeftOut;
 use std::fmt;
 
 /// What a command is answered.
@@ -85,6 +86,15 @@ pub enum Answer {
     TableDropped,
     /// A report on a table was taken.
     MetricsReported,
+    /// A table was committed to: where its metadata is now, and the metadata, shared with its row.
+    TableCommitted {
+        metadata_location: Text,
+        metadata: Handle<TableMetadata>,
+    },
+    /// Several tables were committed to.
+    TransactionCommitted,
+    /// A table has another name.
+    TableRenamed,
     /// All principals, in byte order of their names.
     PrincipalsListed(Listed<PrincipalRow>),
     /// This principal was created, with this secret.
@@ -181,6 +191,17 @@ pub enum Refusal {
     KeyTwice {
         key: Text,
     },
+    /// A table is named at two places of a transaction, counted from 0.
+    TableTwice {
+        first: u64,
+        second: u64,
+    },
+    /// A requirement of a table doesn't hold. The places are those of the table and of the requirement in the request,
+    /// from 0.
+    RequirementFailed {
+        table: u64,
+        requirement: u64,
+    },
     /// What a table is to be made of, or an update of it, is refused. The places are those of the table and of the
     /// update in the request, from 0; a table that is created has the place 0 for both.
     UpdateRefused {
@@ -226,6 +247,8 @@ pub enum OptionName {
     StageCreate,
     /// A format version other than 2.
     FormatVersion,
+    /// An update that isn't served.
+    Update(LeftOut),
 }
 
 impl fmt::Display for OptionName {
@@ -236,7 +259,22 @@ impl fmt::Display for OptionName {
             OptionName::Type => f.write_str("type"),
             OptionName::StageCreate => f.write_str("stage-create"),
             OptionName::FormatVersion => f.write_str("format-version"),
+            OptionName::Update(action) => f.write_str(left_out_text(*action)),
         }
+    }
+}
+
+/// The name of an update that isn't served (Iceberg REST OpenAPI, TableUpdate).
+fn left_out_text(action: LeftOut) -> &'static str
+    ensures { result.now ≡ left_out_text action }
+{
+    match action {
+        LeftOut::SetStatistics => "set-statistics",
+        LeftOut::RemoveStatistics => "remove-statistics",
+        LeftOut::SetPartitionStatistics => "set-partition-statistics",
+        LeftOut::RemovePartitionStatistics => "remove-partition-statistics",
+        LeftOut::AddEncryptionKey => "add-encryption-key",
+        LeftOut::RemoveEncryptionKey => "remove-encryption-key",
     }
 }
 
@@ -260,6 +298,7 @@ pub enum Quantity {
     Snapshots,
     Properties,
     Weight,
+    TransactionTables,
     NextId,
     NextSerial,
     Version,
@@ -287,6 +326,7 @@ impl fmt::Display for Quantity {
             Quantity::Snapshots => "snapshots",
             Quantity::Properties => "properties",
             Quantity::Weight => "weight",
+            Quantity::TransactionTables => "tables in a transaction",
             Quantity::NextId => "next_id",
             Quantity::NextSerial => "next_serial",
             Quantity::Version => "version",

@@ -16,9 +16,9 @@ use Rattle.pol_tables.proofs.ListLemmas.{and_true, each-all, each-filter, each-j
 use Rattle.pol_tables.proofs.NamedLemmas.{each-own}
 use Rattle.pol_tables.proofs.NumberedLemmas.{AreNumbered-filter, AreNumbered-map, AreNumbered-more, AreNumbered-push, below-next}
 use Rattle.pol_tables.proofs.RisingLemmas.{IdsDiffer-rising, knows-below}
-use Rattle.pol_tables.proofs.TableLemmas.{is_some-row_of, rows_with-known, some_is}
-use Rattle.pol_table_rows.specs.Sound.{IsSoundTable}
-use Rattle.pol_table_rows.specs.Tables.{holds_table, is_table_named, member_of, overlapping, table_id, table_named}
+use Rattle.pol_tables.proofs.TableLemmas.{differ_past, is_some-row_of, lacks_past, map-lacks, replaced, rows_with-known, some_is}
+use Rattle.pol_table_rows.specs.Sound.{IsSoundTable, LocationsApart}
+use Rattle.pol_table_rows.specs.Tables.{TableNamesDiffer, holds_table, is_table_named, member_of, overlapping, table_id, table_named}
 use Rattle.pol_table_rows.specs.declared.row.TableRow.{TableRow}
 use Rattle.pol_content.specs.Content.{catalog_id, first_missing, is_catalog_named, is_missing, is_namespace_named, ContentRows, lies_below, namespace_id, none_below, same_levels, catalog_is_empty, catalog_named, is_empty, namespace_named}
 use Rattle.pol_content.specs.Sound.{AreSoundTables, HasParent, IsParentThere, IsSoundContent}
@@ -473,3 +473,93 @@ dropped_table next_id id content sound =
         each = each-filter IsSoundTable keep content.tables sound.tables.each;
       };
     }
+
+-- no catalogue and no namespace has an id
+abbrev Untaken : ContentRows → ℕ → Type 0
+Untaken content id = (knows catalog_id id content.catalogs || knows namespace_id id content.namespaces) ≡ false
+
+-- tables may be altered under their ids, where their names differ then, their namespaces are there, no two overlap and each
+-- is sound by itself
+pub altered_tables : (next_id : ℕ) (content : ContentRows) (alter : TableRow → TableRow) → ((row : TableRow) → (alter row).id ≡ row.id) → TableNamesDiffer (map alter content.tables)
+    → AllByRecursion (λ row. knows namespace_id row.namespace content.namespaces ≡ true) (map alter content.tables) → LocationsApart (map alter content.tables) → AllByRecursion IsSoundTable (map alter content.tables)
+    → IsSoundContent next_id content → IsSoundContent next_id (record content { tables = map alter content.tables })
+altered_tables next_id content alter ids names namespaces apart each sound = record {
+  catalogs = sound.catalogs;
+  namespaces = sound.namespaces;
+  ids_differ = sound.ids_differ;
+  catalog_names_differ = sound.catalog_names_differ;
+  namespace_names_differ = sound.namespace_names_differ;
+  namespace_catalogs = sound.namespace_catalogs;
+  namespace_parents = sound.namespace_parents;
+  tables = record {
+    numbered = AreNumbered-map table_id next_id alter ids content.tables sound.tables.numbered;
+    ids_differ = each-map (λ kept. Untaken content kept.id) alter content.tables (each-weaken (λ kept. Untaken content kept.id) (λ kept. Untaken content (alter kept).id) content.tables (λ kept none. subst (Untaken content) (sym (ids kept)) none) sound.tables.ids_differ);
+    names_differ = names;
+    namespaces = namespaces;
+    apart = apart;
+    each = each;
+  };
+}
+
+-- where one row is put in the place of that of its id, and is like none of the others, no two are alike
+module _ {X : Type 0} (equal : X → X → Bool) (symmetric : (left right : X) → equal left right ≡ equal right left) (key : X → ℕ) where
+  distinct-replaced : (row : X) (rows : List X) → IdsDiffer key rows → list_any (equal row) rows ≡ false → IsDistinct equal rows → IsDistinct equal (map (replaced key row) rows)
+  distinct-replaced row [] ids none differ = differ
+  distinct-replaced row (first ∷ rest) ids none differ =
+      let parts = or_parts (equal row first) (list_any (equal row) rest) none in
+      let later = distinct-replaced row rest (differ_past key first rest ids) parts.1 (IsDistinct-tail equal first rest differ) in
+      elim (cases_Bool (has_id key (key row) first)) [
+        | inl here ↦
+            let stay = map-lacks key (key row) row rest (lacks_past key (key row) first rest ids here) in
+            rw here (IsDistinct-cons equal row (map (replaced key row) rest) (subst (λ others. AllByRecursion (λ other. equal row other ≡ false) others) (sym stay) (each-fails (equal row) rest parts.1)) later)
+        | inr apart ↦
+            rw apart (IsDistinct-cons equal first (map (replaced key row) rest) (each-map (λ other. equal first other ≡ false) (replaced key row) rest (each-weaken (λ other. equal first other ≡ false) (λ other. equal first (replaced key row other) ≡ false) rest (λ other old. by other (has_id key (key row) other) (symmetric first row ∙ parts.0) old) (IsDistinct-head equal first rest differ))) later)
+      ]
+    where
+      by : (other : X) (b : Bool) → equal first row ≡ false → equal first other ≡ false → equal first (cond b row other) ≡ false
+      by other true new old = new
+      by other false new old = old
+
+-- a row of the id of one that is there, which differs from it in its name and namespace alone: to put it is to alter these
+-- under its id
+module _ (row : TableRow) where
+  abbrev with_name : Bool → TableRow → TableRow
+  with_name has kept = record {
+    id = kept.id;
+    namespace = cond has row.namespace kept.namespace;
+    name = cond has row.name kept.name;
+    version = kept.version;
+    moves = kept.moves;
+    location = kept.location;
+    metadata = kept.metadata;
+  }
+
+  abbrev rename_one : TableRow → TableRow
+  rename_one kept = with_name (has_id table_id row.id kept) kept
+
+  is_renamed : (old : TableRow) (rows : List TableRow) → row_of table_id row.id rows ≡ Some old → row ≡ record old { namespace = row.namespace; name = row.name }
+      → (kept : TableRow) → row_of table_id kept.id rows ≡ Some kept → (has : Bool) → has_id table_id row.id kept ≡ has → cond has row kept ≡ with_name has kept
+  is_renamed old rows found so kept own false apart = refl
+  is_renamed old rows found so kept own true has =
+      let ids = eqb-true row.id kept.id has in
+      let is : old ≡ kept = some_is old kept (sym found ∙ ap (λ id. row_of table_id id rows) ids ∙ own) in
+      so ∙ ap (λ (one : TableRow). record one { namespace = row.namespace; name = row.name }) is
+
+-- one table may get a name that is free, in a namespace that is there
+pub renamed_table : (next_id : ℕ) (content : ContentRows) (old row : TableRow) → IsSoundContent next_id content → row_of table_id row.id content.tables ≡ Some old
+    → row ≡ record old { namespace = row.namespace; name = row.name } → knows namespace_id row.namespace content.namespaces ≡ true → table_named row.namespace row.name content.tables ≡ None
+    → IsSoundContent next_id (record content { tables = rows_with table_id row content.tables })
+renamed_table next_id content old row sound found so there free =
+    let rows = content.tables in
+    let differ = IdsDiffer-rising table_id rows sound.tables.numbered.rise in
+    let known : knows table_id row.id rows ≡ true = sym (is_some-row_of table_id row.id rows) ∙ ap is_some found in
+    let alike = map-each (λ kept. cond (has_id table_id row.id kept) row kept) (rename_one row) rows (each-weaken (λ kept. row_of table_id kept.id rows ≡ Some kept) (λ kept. cond (has_id table_id row.id kept) row kept ≡ rename_one row kept) rows (λ kept own. is_renamed row old rows found so kept own (has_id table_id row.id kept) refl) (each-own table_id rows differ)) in
+    let names = subst TableNamesDiffer alike (distinct-replaced same_table same_table-equiv.symm table_id row rows differ (none-found (is_table_named row.namespace row.name) rows free) sound.tables.names_differ) in
+    let namespaces = each-map (λ one. knows namespace_id one.namespace content.namespaces ≡ true) (rename_one row) rows (each-weaken (λ kept. knows namespace_id kept.namespace content.namespaces ≡ true) (λ kept. knows namespace_id (rename_one row kept).namespace content.namespaces ≡ true) rows (λ kept before. by kept (has_id table_id row.id kept) before) sound.tables.namespaces) in
+    let apart = distinct-map overlap_rows (rename_one row) (λ left right. refl) rows sound.tables.apart in
+    let each = each-map IsSoundTable (rename_one row) rows (each-weaken IsSoundTable (λ kept. IsSoundTable (rename_one row kept)) rows (λ kept itself. record { metadata = itself.metadata; placed = itself.placed; moved = itself.moved }) sound.tables.each) in
+    subst (λ after. IsSoundContent next_id (record content { tables = after })) (sym (rows_with-known table_id row rows known ∙ alike)) (altered_tables next_id content (rename_one row) (λ kept. refl) names namespaces apart each sound)
+  where
+    by : (kept : TableRow) (has : Bool) → knows namespace_id kept.namespace content.namespaces ≡ true → knows namespace_id (cond has row.namespace kept.namespace) content.namespaces ≡ true
+    by kept true before = there
+    by kept false before = before

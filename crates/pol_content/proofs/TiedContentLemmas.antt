@@ -1,5 +1,5 @@
 -- Rows that are tied stay so once a catalogue, a namespace, a table or a catalogue role is put or dropped.
-use Rattle.std.proofs.Common.{◌≡◌, ◌≢◌, ℕ, ◌+◌, Bool, true, false, not, ◌&&◌, ◌||◌, List, [], ◌∷◌, ◌++◌, Option, Some, None, is_some, option_and_then, option_map, nat_eq, refl, sym, ap, ◌∙◌, true≢false, arith, codes}
+use Rattle.std.proofs.Common.{◌≡◌, ◌≢◌, ℕ, ◌+◌, Bool, true, false, not, cond, ◌&&◌, ◌||◌, List, [], ◌∷◌, ◌++◌, map, Option, Some, None, is_some, option_and_then, option_map, nat_eq, refl, sym, ap, ◌∙◌, true≢false, arith, codes}
 use Rattle.std.specs.Cmp.{nat_eq_equiv}
 use Rattle.std.specs.Cmp.Lexicographic.{nat_list_eq_equiv}
 use Rattle.std.specs.List.{find, list_any, AllByRecursion}
@@ -24,7 +24,7 @@ use Rattle.pol_tables.specs.Facts.{facts_with, holds}
 use Rattle.pol_tables.specs.Same.{same}
 use Rattle.pol_tables.specs.Table.{has_id, knows, row_of, rows_with, rows_without, IdsDiffer}
 use Rattle.pol_tables.proofs.FactsLemmas.{facts_with-new}
-use Rattle.pol_tables.proofs.ListLemmas.{each-push, each-weaken}
+use Rattle.pol_tables.proofs.ListLemmas.{each-map, each-push, each-weaken}
 use Rattle.pol_tables.proofs.NamedLemmas.{each-rows_with, each-rows_without, find-none}
 use Rattle.pol_tables.proofs.SameLemmas.{same-differ, same-refl}
 use Rattle.pol_tables.proofs.TableLemmas.{is_some-row_of, key-row_of, rows_with-new}
@@ -169,10 +169,10 @@ dropped_namespace access content tied gone empty =
     lies id kept catalog found in_ other =
         ap (option_map (λ (one : NamespaceRow). one.catalog)) (find-without namespace_id (has_id namespace_id id) gone kept content.namespaces found other) ∙ ap Some in_
 
--- a table may be put, a new one or one that stays in its namespace, whose id is no principal's and no role's
-pub put_table : (access : AccessRows) (content : ContentRows) → AreTied access content → (row : TableRow) → ((old : TableRow) → row_of table_id row.id content.tables ≡ Some old → row.namespace ≡ old.namespace)
+-- a table may be put, a new one or one that stays in its catalogue, whose id is no principal's and no role's
+pub put_table : (access : AccessRows) (content : ContentRows) → AreTied access content → (row : TableRow) → ((old : TableRow) → row_of table_id row.id content.tables ≡ Some old → catalog_of_namespace row.namespace content ≡ catalog_of_namespace old.namespace content)
     → is_access_id row.id access ≡ false → AreTied access (record content { tables = rows_with table_id row content.tables })
-put_table access content tied row same_namespace none =
+put_table access content tied row same_catalog none =
     let after : ContentRows = record content { tables = rows_with table_id row content.tables } in
     record {
       role_catalogs = tied.role_catalogs;
@@ -190,7 +190,7 @@ put_table access content tied row same_namespace none =
         → catalog_of (Table id) (record content { tables = rows_with table_id row content.tables }) ≡ Some catalog
     lies id kept catalog found inside true is =
         let one = eqb-true id row.id is in
-        ap (option_and_then (λ (other : TableRow). catalog_of_namespace other.namespace content)) (ap (λ n. row_of table_id n (rows_with table_id row content.tables)) one ∙ row_of-put table_id row content.tables) ∙ ap (λ n. catalog_of_namespace n content) (same_namespace kept (ap (λ n. row_of table_id n content.tables) (sym one) ∙ found)) ∙ inside
+        ap (option_and_then (λ (other : TableRow). catalog_of_namespace other.namespace content)) (ap (λ n. row_of table_id n (rows_with table_id row content.tables)) one ∙ row_of-put table_id row content.tables) ∙ same_catalog kept (ap (λ n. row_of table_id n content.tables) (sym one) ∙ found) ∙ inside
     lies id kept catalog found inside false is =
         ap (option_and_then (λ (other : TableRow). catalog_of_namespace other.namespace content)) (row_of-other table_id id row content.tables is ∙ found) ∙ inside
 
@@ -362,3 +362,28 @@ admin_rows_last access content tied catalog service unknown joins_there = (
     grants_last : facts_with grant.the_row.coded (admin_grant CatalogManageContent catalog) (facts_with grant.the_row.coded (admin_grant CatalogManageAccess catalog) access.grants) ≡ access.grants ++ admin_grant CatalogManageAccess catalog ∷ admin_grant CatalogManageContent catalog ∷ []
     grants_last =
         ap (facts_with grant.the_row.coded (admin_grant CatalogManageContent catalog)) (facts_with-new grant.the_row.coded (admin_grant CatalogManageAccess catalog) access.grants (new_grant CatalogManageAccess)) ∙ facts_with-new grant.the_row.coded (admin_grant CatalogManageContent catalog) (access.grants ++ admin_grant CatalogManageAccess catalog ∷ []) (none-push (same grant.the_row.coded (admin_grant CatalogManageContent catalog)) access.grants (admin_grant CatalogManageAccess catalog) (new_grant CatalogManageContent) apart) ∙ append_assoc access.grants (admin_grant CatalogManageAccess catalog ∷ []) (admin_grant CatalogManageContent catalog ∷ [])
+
+-- tables may be altered under their ids, where each stays in its catalogue
+altered-found : (alter : TableRow → TableRow) → ((row : TableRow) → (alter row).id ≡ row.id) → (id : ℕ) (row : TableRow) (rows : List TableRow) → row_of table_id id rows ≡ Some row → row_of table_id id (map alter rows) ≡ Some (alter row)
+altered-found alter ids id row [] found = let contrary : None ≡ Some row = found in cc
+altered-found alter ids id row (first ∷ rows) found =
+    ap (λ other. cond (nat_eq id other) (Some (alter first)) (row_of table_id id (map alter rows))) (ids first) ∙ by (has_id table_id id first) found (altered-found alter ids id row rows)
+  where
+    by : (b : Bool) → cond b (Some first) (row_of table_id id rows) ≡ Some row → (row_of table_id id rows ≡ Some row → row_of table_id id (map alter rows) ≡ Some (alter row)) → cond b (Some (alter first)) (row_of table_id id (map alter rows)) ≡ Some (alter row)
+    by true found rest = ap (option_map alter) found
+    by false found rest = rest found
+
+pub altered_tables : (access : AccessRows) (content : ContentRows) → AreTied access content → (alter : TableRow → TableRow) → ((row : TableRow) → (alter row).id ≡ row.id)
+    → ((id : ℕ) (row : TableRow) → row_of table_id id content.tables ≡ Some row → catalog_of_namespace (alter row).namespace content ≡ catalog_of_namespace row.namespace content) → AreTied access (record content { tables = map alter content.tables })
+altered_tables access content tied alter ids same_catalog =
+    let after : ContentRows = record content { tables = map alter content.tables } in
+    record {
+      role_catalogs = tied.role_catalogs;
+      grants_within = each-weaken (IsGrantWithin access content) (IsGrantWithin access after) access.grants (λ one within. record { role = within.role; there = within.there; within = lies-kept content after within.role.catalog (λ kept found. found) one.securable (λ id kept is found in_. ap (option_map (λ (other : NamespaceRow). other.catalog)) found ∙ ap Some in_) (λ id kept is found inside. ap (option_and_then (λ (other : TableRow). catalog_of_namespace other.namespace content)) (altered-found alter ids id kept content.tables found) ∙ same_catalog id kept found ∙ inside) within.within }) tied.grants_within;
+      catalog_admins = tied.catalog_admins;
+      ids_apart = record {
+        catalogs = tied.ids_apart.catalogs;
+        namespaces = tied.ids_apart.namespaces;
+        tables = each-map (λ kept. is_access_id kept.id access ≡ false) alter content.tables (each-weaken (λ kept. is_access_id kept.id access ≡ false) (λ kept. is_access_id (alter kept).id access ≡ false) content.tables (λ kept apart. ap (λ id. is_access_id id access) (ids kept) ∙ apart) tied.ids_apart.tables);
+      };
+    }

@@ -13,11 +13,13 @@ use Rattle.pol_content_actions.specs.Namespaces.{create_namespace, drop_namespac
 use Rattle.pol_principal_actions.specs.PrincipalRoles.{create_principal_role, drop_principal_role, get_principal_role, list_principal_roles}
 use Rattle.pol_principal_actions.specs.Principals.{create_principal, drop_principal, get_principal, list_principals, rotate}
 use Rattle.pol_content_actions.specs.Sessions.{open_session}
+use Rattle.pol_commit_actions.specs.Commits.{commit_table, commit_transaction}
+use Rattle.pol_commit_actions.specs.Renaming.{rename_table}
 use Rattle.pol_table_actions.specs.Creation.{create_table}
 use Rattle.pol_table_actions.specs.Loading.{load_table}
 use Rattle.pol_table_actions.specs.Tables.{drop_table, head_table, list_tables, report_metrics}
 use Rattle.pol_commands.specs.declared.command.Action.{Action}
-use Rattle.pol_commands.specs.declared.command.Action.TheVariants.{OpenSession, GetConfig, ListCatalogs, CreateCatalog, GetCatalog, DropCatalog, ListNamespaces, CreateNamespace, LoadNamespace, HeadNamespace, DropNamespace, UpdateProperties, ListTables, CreateTable, LoadTable, HeadTable, DropTable, ReportMetrics, ListPrincipals, CreatePrincipal, GetPrincipal, DropPrincipal, Rotate, ListMembers, AddMember, EndMember, ListPrincipalRoles, CreatePrincipalRole, GetPrincipalRole, DropPrincipalRole, ListJoins, AddJoin, EndJoin, ListCatalogRoles, CreateCatalogRole, GetCatalogRole, DropCatalogRole, ListGrants, AddGrant, Revoke}
+use Rattle.pol_commands.specs.declared.command.Action.TheVariants.{OpenSession, GetConfig, ListCatalogs, CreateCatalog, GetCatalog, DropCatalog, ListNamespaces, CreateNamespace, LoadNamespace, HeadNamespace, DropNamespace, UpdateProperties, ListTables, CreateTable, LoadTable, HeadTable, DropTable, ReportMetrics, CommitTable, CommitTransaction, RenameTable, ListPrincipals, CreatePrincipal, GetPrincipal, DropPrincipal, Rotate, ListMembers, AddMember, EndMember, ListPrincipalRoles, CreatePrincipalRole, GetPrincipalRole, DropPrincipalRole, ListJoins, AddJoin, EndJoin, ListCatalogRoles, CreateCatalogRole, GetCatalogRole, DropCatalogRole, ListGrants, AddGrant, Revoke}
 use Rattle.pol_commands.specs.declared.command.Command.{Command}
 use Rattle.pol_commands.specs.declared.reply.Answer.{Answer}
 use Rattle.pol_commands.specs.declared.reply.Answer.TheVariants.{NamespaceThere}
@@ -45,6 +47,9 @@ acting s command (LoadTable name identifier refs_only) = load_table s command na
 acting s command (HeadTable name identifier) = head_table s command name identifier
 acting s command (DropTable name identifier) = drop_table s command name identifier
 acting s command (ReportMetrics name identifier) = report_metrics s command name identifier
+acting s command (CommitTable name commit) = commit_table s command name commit
+acting s command (CommitTransaction name commits) = commit_transaction s command name commits
+acting s command (RenameTable name source destination) = rename_table s command name source destination
 acting s command ListPrincipals = list_principals s command
 acting s command (CreatePrincipal name client_id secret) = create_principal s command name client_id secret
 acting s command (GetPrincipal name) = get_principal s command name

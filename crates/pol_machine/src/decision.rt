@@ -8,6 +8,8 @@ ghost use Rattle.pol_machine.specs.Machine.{acting, next_state, reply_of};
 ghost use Rattle.pol_state.specs.Sound.{IsSound};
 
 use pol_commands::{Action, Command, Refusal, Reply};
+use pol_commit_actions::commits::{commit_table, commit_transaction};
+use pol_commit_actions::renaming::rename_table;
 use pol_content::Change;
 use pol_content_actions::catalogs::{
     create_catalog, drop_catalog, get_catalog, get_config, list_catalogs,
@@ -158,6 +160,15 @@ fn act(asked: &Asked<'_>) -> Result<Acted, Undone>
             catalog,
             identifier,
         } => report_metrics(asked, catalog, identifier),
+        Action::CommitTable { catalog, commit } => commit_table(asked, catalog, commit),
+        Action::CommitTransaction { catalog, commits } => {
+            commit_transaction(asked, catalog, commits.as_slice())
+        }
+        Action::RenameTable {
+            catalog,
+            source,
+            destination,
+        } => rename_table(asked, catalog, source, destination),
         Action::ListPrincipals => list_principals(asked),
         Action::CreatePrincipal {
             name,

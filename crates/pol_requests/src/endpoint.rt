@@ -19,6 +19,8 @@ pub enum ContentRequest {
     GetConfig,
     ListNamespaces,
     CreateNamespace,
+    RenameTable,
+    CommitTransaction,
 }
 
 /// One namespace of a catalogue, and the tables in it.
@@ -37,6 +39,7 @@ pub enum NamespaceRequest {
 pub enum TableRequest {
     LoadTable,
     HeadTable,
+    CommitTable,
     DropTable,
     ReportMetrics,
 }

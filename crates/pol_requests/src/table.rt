@@ -126,7 +126,10 @@ pub const TABLE: [Row; ROW_COUNT] = [
     (
         "POST",
         "/api/catalog/v1/{prefix}/namespaces/{namespace}/tables/{table}",
-        Service::NotBuilt,
+        Service::Built {
+            endpoint: Endpoint::Table(TableRequest::CommitTable),
+            words: 0,
+        },
     ),
     (
         "DELETE",
@@ -152,12 +155,18 @@ pub const TABLE: [Row; ROW_COUNT] = [
     (
         "POST",
         "/api/catalog/v1/{prefix}/tables/rename",
-        Service::NotBuilt,
+        Service::Built {
+            endpoint: Endpoint::Content(ContentRequest::RenameTable),
+            words: 0,
+        },
     ),
     (
         "POST",
         "/api/catalog/v1/{prefix}/transactions/commit",
-        Service::NotBuilt,
+        Service::Built {
+            endpoint: Endpoint::Content(ContentRequest::CommitTransaction),
+            words: 0,
+        },
     ),
     (
         "GET",

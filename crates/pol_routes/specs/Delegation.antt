@@ -6,7 +6,7 @@ use Rattle.pol_requests.specs.declared.endpoint.Endpoint.TheVariants.{OpenSessio
 use Rattle.pol_requests.specs.declared.endpoint.NamespaceRequest.{NamespaceRequest}
 use Rattle.pol_requests.specs.declared.endpoint.NamespaceRequest.TheVariants.{LoadNamespace, HeadNamespace, DropNamespace, UpdateProperties, ListTables, CreateTable}
 use Rattle.pol_requests.specs.declared.endpoint.TableRequest.{TableRequest}
-use Rattle.pol_requests.specs.declared.endpoint.TableRequest.TheVariants.{LoadTable, HeadTable, DropTable, ReportMetrics}
+use Rattle.pol_requests.specs.declared.endpoint.TableRequest.TheVariants.{LoadTable, HeadTable, CommitTable, DropTable, ReportMetrics}
 
 -- some field of that name lists the word, in any case
 abbrev pub is_delegated : List (List ℕ × List ℕ) → Bool
@@ -24,6 +24,7 @@ on_namespace_may CreateTable = true
 abbrev pub on_table_may : TableRequest → Bool
 on_table_may LoadTable = true
 on_table_may HeadTable = false
+on_table_may CommitTable = false
 on_table_may DropTable = false
 on_table_may ReportMetrics = false
 

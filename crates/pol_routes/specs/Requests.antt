@@ -9,13 +9,13 @@ use Rattle.pol_requests.specs.Refused.{◌>>=◌}
 use Rattle.pol_requests.specs.declared.endpoint.CatalogRequest.TheVariants.{ListCatalogs, CreateCatalog, GetCatalog, DropCatalog}
 use Rattle.pol_requests.specs.declared.endpoint.CatalogRoleRequest.{CatalogRoleRequest}
 use Rattle.pol_requests.specs.declared.endpoint.CatalogRoleRequest.TheVariants.{ListCatalogRoles, CreateCatalogRole, GetCatalogRole, DropCatalogRole, ListGrants, AddGrant, Revoke}
-use Rattle.pol_requests.specs.declared.endpoint.ContentRequest.TheVariants.{GetConfig, ListNamespaces, CreateNamespace}
+use Rattle.pol_requests.specs.declared.endpoint.ContentRequest.TheVariants.{GetConfig, ListNamespaces, CreateNamespace, RenameTable, CommitTransaction}
 use Rattle.pol_requests.specs.declared.endpoint.Endpoint.{Endpoint}
 use Rattle.pol_requests.specs.declared.endpoint.Endpoint.TheVariants.{OpenSession, Content, Namespace, Table, Catalog, Principal, PrincipalRole, CatalogRole}
 use Rattle.pol_requests.specs.declared.endpoint.NamespaceRequest.{NamespaceRequest}
 use Rattle.pol_requests.specs.declared.endpoint.NamespaceRequest.TheVariants.{LoadNamespace, HeadNamespace, DropNamespace, UpdateProperties, ListTables, CreateTable}
 use Rattle.pol_requests.specs.declared.endpoint.TableRequest.{TableRequest}
-use Rattle.pol_requests.specs.declared.endpoint.TableRequest.TheVariants.{LoadTable, HeadTable, DropTable, ReportMetrics}
+use Rattle.pol_requests.specs.declared.endpoint.TableRequest.TheVariants.{LoadTable, HeadTable, CommitTable, DropTable, ReportMetrics}
 use Rattle.pol_requests.specs.declared.endpoint.PrincipalRequest.TheVariants.{ListPrincipals, CreatePrincipal, GetPrincipal, DropPrincipal, Rotate, ListMembers, AddMember, EndMember}
 use Rattle.pol_requests.specs.declared.endpoint.PrincipalRoleRequest.TheVariants.{ListPrincipalRoles, CreatePrincipalRole, GetPrincipalRole, DropPrincipalRole, ListJoins, AddJoin, EndJoin}
 use Rattle.pol_requests.specs.declared.refused.RouteRefused.{RouteRefused}
@@ -23,6 +23,8 @@ use Rattle.pol_requests.specs.declared.refused.RouteRefused.TheVariants.{GrantTy
 use Rattle.pol_bodies.specs.declared.bodies.NewCatalog.{NewCatalog}
 use Rattle.pol_bodies.specs.Bodies.{catalog_body, new_namespace, property_updates}
 use Rattle.pol_bodies.specs.Body.{body_of}
+use Rattle.pol_bodies.specs.CommitBodies.{commit_of, commits_of}
+use Rattle.pol_bodies.specs.Renaming.{renaming}
 use Rattle.pol_bodies.specs.TableBody.{create_table_of}
 use Rattle.pol_names.specs.declared.identifier.Identifier.{Identifier}
 use Rattle.pol_bodies.specs.ManagementBodies.{catalog_role_body, grant_body, principal_body, principal_role_body}
@@ -84,6 +86,7 @@ on_namespace request catalog levels CreateTable = create_table_of request.body >
 abbrev pub on_table : Request → List ℕ → Identifier → TableRequest → Result Action RouteRefused
 on_table request catalog identifier LoadTable = load_table request.target catalog identifier
 on_table request catalog identifier HeadTable = Ok (action.HeadTable catalog identifier)
+on_table request catalog identifier CommitTable = commit_of identifier request.body >>= λ commit. Ok (action.CommitTable catalog commit)
 on_table request catalog identifier DropTable = drop_table request.target catalog identifier
 on_table request catalog identifier ReportMetrics = Ok (action.ReportMetrics catalog identifier)
 
@@ -103,6 +106,8 @@ action_of request OpenSession = open_session request.body
 action_of request (Content GetConfig) = warehouse request.target >>= λ catalog. Ok (action.GetConfig catalog)
 action_of request (Content ListNamespaces) = plain PREFIX.now request >>= λ catalog. parent request.target >>= λ within. Ok (action.ListNamespaces catalog within)
 action_of request (Content CreateNamespace) = plain PREFIX.now request >>= λ catalog. body_of (body new_namespace request.body) >>= λ new. Ok (action.CreateNamespace catalog new.namespace new.properties)
+action_of request (Content RenameTable) = plain PREFIX.now request >>= λ catalog. body_of (body renaming request.body) >>= λ names. Ok (action.RenameTable catalog names.source names.destination)
+action_of request (Content CommitTransaction) = plain PREFIX.now request >>= λ catalog. commits_of request.body >>= λ commits. Ok (action.CommitTransaction catalog commits)
 action_of request (Namespace asked) = plain PREFIX.now request >>= λ catalog. namespace request >>= λ levels. on_namespace request catalog levels asked
 action_of request (Table asked) = plain PREFIX.now request >>= λ catalog. namespace request >>= λ levels. table request >>= λ name. on_table request catalog (record { namespace = levels; name = name }) asked
 action_of request (Catalog ListCatalogs) = Ok action.ListCatalogs

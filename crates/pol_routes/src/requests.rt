@@ -14,7 +14,9 @@ use crate::segment::{namespace_of, plain_of};
 use crate::tables::{drop_table, load_table};
 use crate::target::query_of;
 use crate::token_form::{TokenForm, read_token_form};
-use pol_bodies::{NewNamespace, PropertyUpdates, body_of, create_table_of};
+use pol_bodies::{
+    NewNamespace, PropertyUpdates, RenameBody, body_of, commit_of, commits_of, create_table_of,
+};
 use pol_commands::Action;
 use pol_names::{Identifier, Namespace, Plain};
 use pol_requests::{
@@ -69,6 +71,19 @@ fn content_action(
                 properties: new.properties,
             })
         }
+        ContentRequest::RenameTable => {
+            let catalog = message.plain(alloc, PREFIX)?;
+            let names: RenameBody = body_of(alloc, message.body)?;
+            Ok(Action::RenameTable {
+                catalog,
+                source: names.source,
+                destination: names.destination,
+            })
+        }
+        ContentRequest::CommitTransaction => Ok(Action::CommitTransaction {
+            catalog: message.plain(alloc, PREFIX)?,
+            commits: commits_of(alloc, message.body)?,
+        }),
     }
 }
 
@@ -141,6 +156,7 @@ fn table_action(
 }
 
 /// What a request asks for of a table that it names.
+#[tactic(auto, using(pol_requests::proofs::RefusedLemmas::chained))]
 fn on_table(
     alloc: Global,
     asked: TableRequest,
@@ -155,6 +171,10 @@ fn on_table(
         TableRequest::HeadTable => Ok(Action::HeadTable {
             catalog,
             identifier,
+        }),
+        TableRequest::CommitTable => Ok(Action::CommitTable {
+            catalog,
+            commit: commit_of(alloc, identifier, message.body)?,
         }),
         TableRequest::DropTable => drop_table(alloc, message.target, catalog, identifier),
         TableRequest::ReportMetrics => Ok(Action::ReportMetrics {

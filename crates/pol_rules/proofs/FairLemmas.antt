@@ -69,18 +69,18 @@ limit-other rows =
 
 module _ {s : Rows} where
   -- a rule that doesn't look at the sessions
-  fair-same : {rule : Option Refusal} → tells_full rule ≡ false → IsFair s rule rule
+  pub fair-same : {rule : Option Refusal} → tells_full rule ≡ false → IsFair s rule rule
   fair-same other = record { other = other; alike = λ sound. refl }
 
-  fair-if : (test : Bool) (why : Refusal) → is_full why ≡ false → IsFair s (refuse_if test why) (refuse_if test why)
+  pub fair-if : (test : Bool) (why : Refusal) → is_full why ≡ false → IsFair s (refuse_if test why) (refuse_if test why)
   fair-if test why other = fair-same (refuse_if-other test why other)
 
   -- a refusal that is made of what was found
-  fair-mapped : {A : Type 0} (found : Option A) (why : A → Refusal) → ((one : A) → is_full (why one) ≡ false) → IsFair s (option_map why found) (option_map why found)
+  pub fair-mapped : {A : Type 0} (found : Option A) (why : A → Refusal) → ((one : A) → is_full (why one) ≡ false) → IsFair s (option_map why found) (option_map why found)
   fair-mapped None why other = fair-same refl
   fair-mapped (Some one) why other = fair-same (other one)
 
-  fair-either : {first one second two : Option Refusal} → IsFair s first one → IsFair s second two → IsFair s (option_or first second) (option_or one two)
+  pub fair-either : {first one second two : Option Refusal} → IsFair s first one → IsFair s second two → IsFair s (option_or first second) (option_or one two)
   fair-either fair next = record {
     other = either-other _ _ fair.other next.other;
     alike = λ sound i. option_or (fair.alike sound i) (next.alike sound i);

@@ -1,5 +1,5 @@
 -- What each action owes: its changes lead to its rows after, which are orderly, and the live part does the same.
-use Rattle.std.proofs.Common.{◌≡◌, ◌+◌, true, ◌++◌, ◌∙◌, List, filter, Option, None, Some, nat_lt, refl, sym, subst, arith}
+use Rattle.std.proofs.Common.{◌≡◌, true, ◌++◌, ◌∙◌, List, filter, Option, None, Some, nat_lt, refl, sym, subst, arith}
 use Rattle.std.specs.List.{AllByRecursion}
 use Rattle.std.proofs.lemmas.Bool.{and_parts}
 use Rattle.pol_access.specs.Access.{principal_id}

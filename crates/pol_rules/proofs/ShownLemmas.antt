@@ -9,7 +9,7 @@ use Rattle.pol_access.specs.declared.privilege.Privilege.{Privilege}
 use Rattle.pol_access.specs.declared.securable.Securable.TheVariants as securable
 use Rattle.pol_commands.specs.declared.securables.SecurableName.TheVariants as name
 use Rattle.pol_content.specs.Chain.{deepest, deepest_of_table, first_or, namespace_at, table_or}
-use Rattle.pol_content.specs.Content.{catalog_id, catalog_named, is_catalog_named, is_namespace_named, lineage, namespace_id, namespace_named, same_levels}
+use Rattle.pol_content.specs.Content.{catalog_id, is_catalog_named, is_namespace_named, lineage, namespace_id, namespace_named, same_levels}
 use Rattle.pol_content.specs.declared.rows.CatalogRow.{CatalogRow}
 use Rattle.pol_content.specs.declared.rows.NamespaceRow.{NamespaceRow}
 use Rattle.pol_content.proofs.TiesLemmas.{found-own}

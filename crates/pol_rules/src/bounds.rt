@@ -7,7 +7,7 @@ ghost use Rattle.pol_rules.specs.Counted.{count_after, counts_after, kind_taken,
 ghost use Rattle.pol_rules.specs.Judged.{Sees};
 ghost use Rattle.pol_commands.specs.declared.reply.Refusal.TheVariants.{Limit};
 ghost use Rattle.pol_state.specs.Applied.{applied};
-ghost use Rattle.pol_state.specs.Bounds.{any_above, first_refusal, over_limit, refuse_if};
+ghost use Rattle.pol_state.specs.Bounds.{any_above, first_refusal, over_limit, refuse_if, table_over_limit, table_weight};
 ghost use Rattle.pol_state.specs.Changes.{changes_between};
 ghost use Rattle.pol_state.specs.Rows.{Rows};
 ghost use Rattle.pol_state.specs.Sound.{IsOrderly, IsSound};
@@ -138,6 +138,30 @@ pub fn within_bounds(state: &State, changes: &Listed<Change>) -> Result<(), Refu
 {
     counts_within(counts_after(state, changes))?;
     numbers_within(changes)
+}
+
+/// No quantity of a table is above its bound.
+#[tactic(auto, unfolding(pol_state::specs::Bounds::table_over_limit))]
+pub fn table_within(row: &TableRow) -> Result<(), Refusal>
+    ensures { Sees (table_over_limit row.now) (λ _. ⊤) result }
+{
+    let numbers = table_numbers(row);
+    within(Quantity::Schemas, PARTS, numbers.schemas)?;
+    within(Quantity::PartitionSpecs, PARTS, numbers.specs)?;
+    within(Quantity::SortOrders, PARTS, numbers.orders)?;
+    within(Quantity::Refs, PARTS, numbers.refs)?;
+    within(Quantity::Snapshots, SNAPSHOTS, numbers.snapshots)?;
+    within(Quantity::Properties, PROPERTIES, numbers.table_properties)?;
+    unless(is_heavy_row(row), Quantity::Weight, WEIGHT)?;
+    within(Quantity::Version, COUNTER_BOUND, numbers.version)
+}
+
+/// Whether the metadata of a table is above its bound.
+#[tactic(auto, unfolding(pol_meta::specs::Weight::capped))]
+fn is_heavy_row(row: &TableRow) -> bool
+    ensures { result ≡ nat_lt 16777216 (table_weight row.now) }
+{
+    row.metadata.get().weight() > WEIGHT
 }
 
 /// There are no more rows of any kind than its bound allows.

@@ -103,7 +103,7 @@ pub fn allowed_on_parent(
 
 /// The caller has what the action needs. The first need that isn't met is told.
 #[tactic(auto, unfolding(crate::specs::Needs::forbidden))]
-fn allowed(asked: &Asked<'_>, needs: &[Need]) -> Result<(), Undone>
+pub fn allowed(asked: &Asked<'_>, needs: &[Need]) -> Result<(), Undone>
     requires { IsSound asked.now.state.now.rows }
     ensures { Judges (forbidden asked.now.state.now.rows asked.now.command.now needs.now) (λ _. ⊤) result }
 {

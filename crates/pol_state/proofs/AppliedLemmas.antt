@@ -6,17 +6,17 @@ use Rattle.std.specs.declared.cmp.Ordering.{Ordering}
 use Rattle.std.proofs.lemmas.Bool.{or_parts}
 use Rattle.std.proofs.lemmas.List.{append-nil}
 use Rattle.std.proofs.lemmas.List.Sums.{fold-append}
-use Rattle.pol_tables.specs.Changes.{gone_ids}
+use Rattle.pol_tables.specs.Changes.{gone_ids, new_rows}
 use Rattle.pol_tables.specs.Facts.{facts_without, holds}
 use Rattle.pol_tables.specs.Order.{in_order}
 use Rattle.pol_tables.specs.Rising.{KeysBelow, KeysRise}
 use Rattle.pol_tables.specs.Same.{same}
 use Rattle.pol_tables.specs.Table.{knows, rows_with, rows_without}
-use Rattle.pol_tables.proofs.ChangesLemmas.{each_held_itself, each_known, gone_ids-filter, new_rows-filter}
+use Rattle.pol_tables.proofs.ChangesLemmas.{each_held_itself, each_known, gone_ids-filter, gone_ids-map, new_rows-filter, new_rows-map}
 use Rattle.pol_tables.proofs.FactChangesLemmas.{any-in_order, holds-filter}
-use Rattle.pol_tables.proofs.ListLemmas.{and_true, each-all, each-filter, each-weaken, filter-alike, filter-every}
+use Rattle.pol_tables.proofs.ListLemmas.{and_true, each-all, each-filter, each-map, each-weaken, filter-alike, filter-every}
 use Rattle.pol_tables.proofs.ReplayLemmas.{rebuilt-new}
-use Rattle.pol_tables.proofs.RisingLemmas.{IdsDiffer-rising, KeysRise-filter}
+use Rattle.pol_tables.proofs.RisingLemmas.{IdsDiffer-rising, KeysRise-filter, KeysRise-map}
 use Rattle.pol_tables.proofs.SameLemmas.{same-symmetric}
 use Rattle.pol_content.specs.declared.change.Change.{Change}
 use Rattle.pol_state.specs.Applied.{changed}
@@ -107,3 +107,18 @@ module _ {R : Type 0} (code : Coded R) (key : R → ℕ) where
       → Makes (holding rows) (map drop (map key (filter gone rows))) (holding (filter (λ row. not (gone row)) rows))
   rows-dropped drop holding drops gone rows rise =
       record { is = alone holding (λ kept id. rows_without key id kept) drop drops rows (map key (filter gone rows)) ∙ ap holding (without-gone gone rows rise) }
+
+  -- rows whose ids rise, altered under their ids, are made by putting those that change
+  with-altered : (alter : R → R) → ((row : R) → key (alter row) ≡ key row) → (rows : List R) → KeysRise key rows → fold (λ kept row. rows_with key row kept) rows (map alter (filter (λ row. not (same code (alter row) row)) rows)) ≡ map alter rows
+  with-altered alter keeps rows rise =
+      let differ = IdsDiffer-rising key rows rise in
+      let own = subst (λ all. AllByRecursion (λ row. knows key (key row) all ≡ true) rows) (append-nil rows) (each_known code key rows []) in
+      let above = each-map (λ row. knows key (key row) rows ≡ false → KeysBelow key (key row) rows) alter rows (each-weaken (λ row. knows key (key row) rows ≡ true) (λ row. knows key (key (alter row)) rows ≡ false → KeysBelow key (key (alter row)) rows) rows (λ row here none. absurd (true≢false (sym here ∙ ap (λ id. knows key id rows) (sym (keeps row)) ∙ none))) own) in
+      ap (λ more. fold (λ kept row. rows_with key row kept) rows more) (sym (new_rows-map code key alter keeps rows differ))
+      ∙ ap (λ gone. fold (λ kept id. rows_without key id kept) (fold (λ kept row. rows_with key row kept) rows (new_rows code rows (map alter rows))) gone) (sym (gone_ids-map code key alter keeps rows))
+      ∙ rebuilt-new key code rows (map alter rows) rise (KeysRise-map key alter keeps rows rise) above
+
+  pub rows-altered : (put : R → Change) (holding : List R → Rows) → ((rows : List R) (row : R) → changed (holding rows) (put row) ≡ holding (rows_with key row rows)) → (alter : R → R) → ((row : R) → key (alter row) ≡ key row) → (rows : List R) → KeysRise key rows
+      → Makes (holding rows) (map put (map alter (filter (λ row. not (same code (alter row) row)) rows))) (holding (map alter rows))
+  rows-altered put holding puts alter keeps rows rise =
+      record { is = alone holding (λ kept row. rows_with key row kept) put puts rows (map alter (filter (λ row. not (same code (alter row) row)) rows)) ∙ ap holding (with-altered alter keeps rows rise) }

@@ -69,6 +69,23 @@ table_weight row = metadata_weight row.metadata
 abbrev pub table_version : TableRow → ℕ
 table_version row = row.version
 
+-- the quantities of a table that are above their bounds
+abbrev pub table_limits : TableRow → List (Option Refusal)
+table_limits row =
+    above quantity.Schemas 1000 (schema_count row)
+    ∷ above quantity.PartitionSpecs 1000 (spec_count row)
+    ∷ above quantity.SortOrders 1000 (order_count row)
+    ∷ above quantity.Refs 1000 (ref_count row)
+    ∷ above quantity.Snapshots 10000 (snapshot_count row)
+    ∷ above quantity.Properties 1000 (table_properties row)
+    ∷ above quantity.Weight 16777216 (table_weight row)
+    ∷ above quantity.Version (2 ^ 62) (table_version row)
+    ∷ []
+
+-- the first of them
+unfoldable pub table_over_limit : TableRow → Option Refusal
+table_over_limit row = first_refusal (table_limits row)
+
 -- the quantities of these rows that are above their bounds
 abbrev pub limits : Rows → List (Option Refusal)
 limits rows =

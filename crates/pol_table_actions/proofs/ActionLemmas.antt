@@ -20,6 +20,7 @@ use Rattle.pol_table_rows.specs.declared.row.TableRow.{TableRow}
 use Rattle.pol_content.specs.Chain.{table_at}
 use Rattle.pol_content.specs.Content.{catalog_named, is_namespace_named, namespace_id, namespace_named, part_named}
 use Rattle.pol_content.specs.Sound.{IsSoundContent}
+use Rattle.pol_content.specs.Ties.{catalog_of_namespace}
 use Rattle.pol_content.specs.declared.rows.CatalogRow.{CatalogRow}
 use Rattle.pol_content.specs.declared.rows.NamespaceRow.{NamespaceRow}
 use Rattle.pol_content.proofs.SoundLemmas.{dropped_table, new_rows_last, pushed_table}
@@ -141,7 +142,7 @@ module _ (s : Rows) (command : Command) where
           (subst (λ rows. IsSoundContent (s.next_id + 1) (record s.content { tables = rows })) (sym last) pushed)
           (put_table s.access s.content sound.orderly.ties row (λ old known. unknown-row old (ap (λ n. row_of table_id n s.content.tables) (sym id) ∙ known) unknown) (unknown-later s sound row.id (omega (arith, id))))
         where
-          unknown-row : (old : TableRow) → row_of table_id s.next_id s.content.tables ≡ Some old → knows table_id s.next_id s.content.tables ≡ false → row.namespace ≡ old.namespace
+          unknown-row : (old : TableRow) → row_of table_id s.next_id s.content.tables ≡ Some old → knows table_id s.next_id s.content.tables ≡ false → catalog_of_namespace row.namespace s.content ≡ catalog_of_namespace old.namespace s.content
           unknown-row old known unknown = absurd (true≢false (sym (sym (is_some-row_of table_id s.next_id s.content.tables) ∙ ap is_some known) ∙ unknown))
 
       pub orderly-create_table : (name : List ℕ) (levels : List (List ℕ)) (request : CreateTable) → EachPasses (create_table s command name levels request).rules → IsOrderly (stamped s command (create_table s command name levels request).after)

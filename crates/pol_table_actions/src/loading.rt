@@ -43,7 +43,7 @@ pub(crate) fn loaded(alloc: Global, row: &TableRow, refs_only: bool) -> Result<A
 }
 
 /// Where the metadata of a table is.
-fn metadata_location(alloc: Global, row: &TableRow) -> Result<Text, OutOfMemory>
+pub fn metadata_location(alloc: Global, row: &TableRow) -> Result<Text, OutOfMemory>
     ensures { IfOk result (λ text. text ≡ metadata_location row.now) }
 {
     let location = row.location.text(alloc)?;

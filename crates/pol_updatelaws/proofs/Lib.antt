@@ -1,6 +1,6 @@
 mod ChainLemmas
 mod CurrentLemmas
-mod ListLemmas
+pub mod ListLemmas
 mod MemberLemmas
 mod OrderLemmas
 mod RefLemmas
@@ -9,5 +9,5 @@ mod SequenceLemmas
 mod SnapshotLemmas
 mod SpecLemmas
 mod SumLemmas
-mod ValidLemmas
+pub mod ValidLemmas
 mod WeightLemmas

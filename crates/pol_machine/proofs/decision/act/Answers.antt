@@ -19,3 +19,7 @@ returns-in-CreatePrincipal c =
 pub returns-in-CreateTable : goal.returns-in-CreateTable
 returns-in-CreateTable c =
     subst (λ (action : Action). Acts c.args.asked.now (λ s command. acting s command action) c.create_table.result) (sym c.in-CreateTable.is) c.create_table.ensures
+
+pub returns-in-CommitTable : goal.returns-in-CommitTable
+returns-in-CommitTable c =
+    subst (λ (action : Action). Acts c.args.asked.now (λ s command. acting s command action) c.commit_table.result) (sym c.in-CommitTable.is) c.commit_table.ensures
