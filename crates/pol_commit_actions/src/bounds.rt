@@ -5,8 +5,8 @@ ghost use Rattle.pol_commit_actions.specs.Rules.{any_over_limit};
 ghost use Rattle.pol_commit_actions.specs.Seen.{committed_tables};
 
 use crate::target::Committed;
+use pol_bounds::table_within;
 use pol_commands::Refusal;
-use pol_rules::bounds::table_within;
 
 /// No table is above a bound. The first such is told.
 #[tactic(auto, unfolding(crate::specs::Rules::any_over_limit))]

@@ -34,7 +34,8 @@ pub(crate) fn all_committed<'a>(
     requires sound { IsSound asked.now.state.now.rows }
     requires there { AreThere asked.now.state.now.rows (commits_to targets.now) }
     requires once { IsDistinct nat_eq (map (λ (one : CommitTo). one.row.id) (commits_to targets.now)) }
-    requires made { commit_outcome (time_of asked.now.state.now.rows asked.now.command.now) (commits_to targets.now) ≡ Ok metas.items }
+    requires made { commit_outcome (time_of asked.now.state.now.rows asked.now.command.now) (commits_to targets.now)
+        ≡ Ok metas.items }
     ensures { let tables = all_committed (commits_to targets.now) metas.items in
         Judges (bad_location_from 0 tables)
         (λ made. (committed_tables made.items ≡ tables) × AreReplaced asked.now.state.now.rows tables) result }
@@ -186,7 +187,8 @@ fn apart(
     requires replaced { AreReplaced asked.now.state.now.rows (committed_tables tables.now) }
     requires ids { ids.now ≡ map (λ table. table.after.id) tables.now }
     requires among { list_any (λ owner. nat_eq owner row.now.id) ids.now ≡ true }
-    ensures { let after = tables_left (rows_after (committed_tables tables.now)) asked.now.state.now.rows.content.tables in
+    ensures { let s = asked.now.state.now.rows in
+        let after = tables_left (rows_after (committed_tables tables.now)) s.content.tables in
         Judges (overlap_among after row.now) (λ _. ⊤) result }
 {
     match overlapping_one(asked, ids, tables, row) {

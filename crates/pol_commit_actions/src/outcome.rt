@@ -23,7 +23,8 @@ pub(crate) fn outcome(
     asked: &Asked<'_>,
     targets: &[Target<'_>],
 ) -> Result<Vec<TableMetadata>, Undone>
-    ensures { let outcome = commit_outcome (time_of asked.now.state.now.rows asked.now.command.now) (commits_to targets.now) in
+    ensures { let time = time_of asked.now.state.now.rows asked.now.command.now in
+        let outcome = commit_outcome time (commits_to targets.now) in
         Judges (refused_by outcome) (λ made. outcome ≡ Ok made.items) result }
 {
     requirements_met(targets)?;
@@ -68,7 +69,8 @@ fn all_made(asked: &Asked<'_>, targets: &[Target<'_>]) -> Result<Vec<TableMetada
 
 /// The metadata of a table after its updates. The table has this place.
 fn made_in(asked: &Asked<'_>, table: usize, target: &Target<'_>) -> Result<TableMetadata, Undone>
-    ensures { let made = told_at table (made_in (time_of asked.now.state.now.rows asked.now.command.now) (commit_to target.now)) in
+    ensures { let time = time_of asked.now.state.now.rows asked.now.command.now in
+        let made = told_at table (made_in time (commit_to target.now)) in
         Judges (refused_by made) (λ meta. made ≡ Ok meta) result }
 {
     match updated::<Brand>(asked.alloc, Blank::new(1), target, time_of(asked)) {

@@ -57,7 +57,8 @@ fn allowed_to_rename(
 ) -> Result<(), Undone>
     requires { IsSound asked.now.state.now.rows }
     ensures { let s = asked.now.state.now.rows in
-        Judges (forbidden s asked.now.command.now (rename_needs s source.now destination.now catalog.now)) (λ _. ⊤) result }
+        Judges (forbidden s asked.now.command.now (rename_needs s source.now destination.now catalog.now)) (λ _. ⊤)
+        result }
 {
     let content = asked.state.content();
     let dropping = Need {

@@ -33,8 +33,16 @@ impl Model for Content {
     ghost Value = { ContentValue };
 
     ghost view = { λ content. record {
-      rows = record { catalogs = content.catalogs.rows; namespaces = content.namespaces.rows; tables = content.tables.rows };
-      room = record { catalogs = content.catalogs.room; namespaces = content.namespaces.room; tables = content.tables.room };
+      rows = record {
+        catalogs = content.catalogs.rows;
+        namespaces = content.namespaces.rows;
+        tables = content.tables.rows;
+      };
+      room = record {
+        catalogs = content.catalogs.room;
+        namespaces = content.namespaces.room;
+        tables = content.tables.room;
+      };
     } };
 }
 

@@ -7,6 +7,7 @@ ghost use Rattle.pol_rules.specs.Rules.{run_full};
 ghost use Rattle.pol_machine.specs.Machine.{acting, next_state, reply_of};
 ghost use Rattle.pol_state.specs.Sound.{IsSound};
 
+use pol_bounds::within_bounds;
 use pol_commands::{Action, Command, Refusal, Reply};
 use pol_commit_actions::commits::{commit_table, commit_transaction};
 use pol_commit_actions::renaming::rename_table;
@@ -31,7 +32,6 @@ use pol_principal_actions::principal_roles::{
 use pol_principal_actions::principals::{
     create_principal, drop_principal, get_principal, list_principals, rotate,
 };
-use pol_rules::bounds::within_bounds;
 use pol_rules::rules::{Acted, Asked, Undone, run_open};
 use pol_state::State;
 use pol_table_actions::creation::create_table;

@@ -1,7 +1,5 @@
 pub mod AccessRulesLemmas
-pub mod BoundsLemmas
 pub mod ContentLemmas
-pub mod CountedLemmas
 pub mod FairLemmas
 pub mod FoundLemmas
 pub mod JudgedLemmas

@@ -20,7 +20,7 @@ use Rattle.pol_tables.specs.Table.{row_of}
 use Rattle.pol_tables.proofs.RisingLemmas.{IdsDiffer-rising}
 use Rattle.pol_state.specs.Rows.{Rows}
 use Rattle.pol_state.specs.Sound.{IsSound}
-use Rattle.pol_rules.specs.Laws.{AreShownIn, IsShownIn, NeedsAreShown}
+use Rattle.pol_rules.specs.Laws.{AreShown, IsPartShownIn, IsShownIn, NeedsAreShown}
 use Rattle.pol_rules.specs.Needs.{catalog_shown, identifier_shown, levels_shown, namespace_shown, on_parent, shown, table_shown, table_shown_in}
 
 module _ (s : Rows) (sound : IsSound s) (catalog : CatalogRow) (own : row_of catalog_id catalog.id s.content.catalogs ≡ Some catalog) where
@@ -43,7 +43,7 @@ module _ (s : Rows) (sound : IsSound s) (catalog : CatalogRow) (own : row_of cat
           → (found : Option NamespaceRow) → namespace_named catalog.id path s.content ≡ found
           → IsShownIn s catalog (first_or catalog.id (cons_option (option_map (λ (row : NamespaceRow). securable.Namespace row.id) found) (filter_map (namespace_at catalog.id s.content) paths)))
       by rest None found = rest
-      by rest (Some row) found = inr (inl (row.levels, namespace-is path row found))
+      by rest (Some row) found = inr (row.levels, namespace-is path row found)
 
   path-shown : (levels : List (List ℕ)) → IsShownIn s catalog (deepest catalog.id levels s.content)
   path-shown levels = first-shown (reverse (lineage levels))
@@ -63,22 +63,22 @@ module _ (s : Rows) (sound : IsSound s) (catalog : CatalogRow) (own : row_of cat
       ∙ ap (λ id. identifier_shown (row_of catalog_id id s.content.catalogs) upper.levels row.name) (sym within)
       ∙ ap (λ one. identifier_shown one upper.levels row.name) own
 
-  table-shown : (identifier : Identifier) → IsShownIn s catalog (deepest_of_table catalog.id identifier.namespace identifier.name s.content)
+  table-shown : (identifier : Identifier) → IsPartShownIn s catalog (deepest_of_table catalog.id identifier.namespace identifier.name s.content)
   table-shown identifier = by (namespace_named catalog.id identifier.namespace s.content) refl
     where
       of : (upper : NamespaceRow) → namespace_named catalog.id identifier.namespace s.content ≡ Some upper → (found : Option TableRow) → table_named upper.id identifier.name s.content.tables ≡ found
-          → IsShownIn s catalog (table_or (deepest catalog.id identifier.namespace s.content) found)
-      of upper there None missing = path-shown identifier.namespace
+          → IsPartShownIn s catalog (table_or (deepest catalog.id identifier.namespace s.content) found)
+      of upper there None missing = inl (path-shown identifier.namespace)
       of upper there (Some row) found =
           let named : Identifier = record { namespace = upper.levels; name = row.name } in
-          inr (inr (named, table-is identifier.namespace identifier.name upper row there found))
+          inr (named, table-is identifier.namespace identifier.name upper row there found)
 
       by : (upper : Option NamespaceRow) → namespace_named catalog.id identifier.namespace s.content ≡ upper
-          → IsShownIn s catalog (table_or (deepest catalog.id identifier.namespace s.content) (option_and_then (λ (row : NamespaceRow). table_named row.id identifier.name s.content.tables) upper))
-      by None missing = path-shown identifier.namespace
+          → IsPartShownIn s catalog (table_or (deepest catalog.id identifier.namespace s.content) (option_and_then (λ (row : NamespaceRow). table_named row.id identifier.name s.content.tables) upper))
+      by None missing = inl (path-shown identifier.namespace)
       by (Some upper) there = of upper there (table_named upper.id identifier.name s.content.tables) refl
 
-  parent-shown : (privilege : Privilege) (parent : Option (List (List ℕ))) → AreShownIn s catalog (on_parent s privilege parent catalog)
+  parent-shown : (privilege : Privilege) (parent : Option (List (List ℕ))) → AreShown (IsShownIn s catalog) (on_parent s privilege parent catalog)
   parent-shown privilege None = (inl catalog-is, tt)
   parent-shown privilege (Some parent) = (path-shown parent, tt)
 

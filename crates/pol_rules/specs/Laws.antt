@@ -12,22 +12,27 @@ use Rattle.pol_state.specs.Sound.{IsSound}
 use Rattle.pol_rules.specs.Needs.{on_catalog, on_parent, on_path, on_table, shown}
 use Rattle.pol_rules.specs.declared.needs.Need.{Need}
 
--- a securable is shown as the catalogue, or as a namespace or a table in it
+-- a securable is shown as the catalogue, or as a namespace in it
 abbrev pub IsShownIn : Rows → CatalogRow → Securable → Type 0
 IsShownIn s catalog on =
     (shown s on ≡ name.Catalog catalog.name)
-    ⊎ (((levels : List (List ℕ)) × (shown s on ≡ name.Namespace catalog.name levels))
-    ⊎ ((identifier : Identifier) × (shown s on ≡ name.Table catalog.name identifier)))
+    ⊎ ((levels : List (List ℕ)) × (shown s on ≡ name.Namespace catalog.name levels))
+
+-- or as a table in it
+abbrev pub IsPartShownIn : Rows → CatalogRow → Securable → Type 0
+IsPartShownIn s catalog on =
+    IsShownIn s catalog on
+    ⊎ ((identifier : Identifier) × (shown s on ≡ name.Table catalog.name identifier))
 
 -- and so is what each of these needs is on
-abbrev pub AreShownIn : Rows → CatalogRow → List Need → Type 0
-AreShownIn s catalog needs = AllByRecursion (λ need. IsShownIn s catalog need.on) needs
+abbrev pub AreShown : (Securable → Type 0) → List Need → Type 0
+AreShown Is needs = AllByRecursion (λ need. Is need.on) needs
 
--- needs on a catalogue that is there, on a path in it, on a table's path and on a parent are shown so
+-- needs on a catalogue that is there, on a path in it and on a parent are shown so, and those on a table's path
 abbrev pub NeedsAreShown : Type 0
 NeedsAreShown =
     (s : Rows) (text : List ℕ) (catalog : CatalogRow) (privilege : Privilege) → IsSound s → catalog_named text s.content ≡ Some catalog
-    → AreShownIn s catalog (on_catalog privilege catalog)
-    × ((levels : List (List ℕ)) → AreShownIn s catalog (on_path s privilege levels catalog))
-    × ((identifier : Identifier) → AreShownIn s catalog (on_table s privilege identifier catalog))
-    × ((parent : Option (List (List ℕ))) → AreShownIn s catalog (on_parent s privilege parent catalog))
+    → AreShown (IsShownIn s catalog) (on_catalog privilege catalog)
+    × ((levels : List (List ℕ)) → AreShown (IsShownIn s catalog) (on_path s privilege levels catalog))
+    × ((identifier : Identifier) → AreShown (IsPartShownIn s catalog) (on_table s privilege identifier catalog))
+    × ((parent : Option (List (List ℕ))) → AreShown (IsShownIn s catalog) (on_parent s privilege parent catalog))

@@ -1,6 +1,5 @@
 pub mod AccessRules
 pub mod Acting
-pub mod Counted
 pub mod Judged
 pub mod Laws
 pub mod Live

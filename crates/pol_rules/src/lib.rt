@@ -2,7 +2,6 @@
 #![tactic(auto)]
 
 pub mod access_rules;
-pub mod bounds;
 pub mod callers;
 pub mod catalog_rules;
 pub mod changes;

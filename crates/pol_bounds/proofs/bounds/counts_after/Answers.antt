@@ -1,7 +1,7 @@
 use Rattle.std.proofs.Common.{◌≡◌, length, rules}
 use Rattle.pol_content.specs.declared.change.RowKind.TheVariants as kind
-use Rattle.pol_rules.specs.Counted.{count_after}
-use Rattle.pol_rules.proofs.bounds.counts_after.Goals as goal
+use Rattle.pol_bounds.specs.Counted.{count_after}
+use Rattle.pol_bounds.proofs.bounds.counts_after.Goals as goal
 
 -- one count after the other
 pub returns : goal.returns

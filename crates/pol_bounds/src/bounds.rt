@@ -3,7 +3,7 @@ ghost use Rattle.std.specs.Prelude.{◌≡◌, ℕ, ◌≤◌, nat_lt};
 ghost use Rattle.std.specs.List.{list_any};
 ghost use Rattle.std.specs.Bool.{⊤};
 ghost use Rattle.pol_content.specs.Change.{puts};
-ghost use Rattle.pol_rules.specs.Counted.{count_after, counts_after, kind_taken, limits_of, limits_put, numbers_of, own_of, part_limits, property_limits, table_numbers, takes, weight_put, where_known};
+ghost use Rattle.pol_bounds.specs.Counted.{count_after, counts_after, kind_taken, limits_of, limits_put, numbers_of, own_of, part_limits, property_limits, table_numbers, takes, weight_put, where_known};
 ghost use Rattle.pol_rules.specs.Judged.{Sees};
 ghost use Rattle.pol_commands.specs.declared.reply.Refusal.TheVariants.{Limit};
 ghost use Rattle.pol_state.specs.Applied.{applied};
@@ -12,9 +12,9 @@ ghost use Rattle.pol_state.specs.Changes.{changes_between};
 ghost use Rattle.pol_state.specs.Rows.{Rows};
 ghost use Rattle.pol_state.specs.Sound.{IsOrderly, IsSound};
 
-use crate::rules::within;
 use pol_commands::{Quantity, Refusal};
 use pol_content::{Change, RowKind, TableRow};
+use pol_rules::rules::within;
 use pol_state::State;
 use pol_types::Listed;
 

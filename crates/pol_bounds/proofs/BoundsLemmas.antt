@@ -36,8 +36,8 @@ use Rattle.pol_state.specs.Changes.{changes_between, headed, id_change, in_turn,
 use Rattle.pol_state.specs.Rows.{Rows}
 use Rattle.pol_state.specs.Sound.{IsOrderly, IsSound}
 use Rattle.pol_state.proofs.BoundsLemmas.{above-within, each-within}
-use Rattle.pol_rules.specs.Counted.{allowed_put, catalog_properties_put, catalogs_put, counts_after, id_set, limits_of, limits_put, namespace_properties_put, namespaces_put, number_of, orders_put, part_limits, property_limits, refs_put, schemas_put, serial_set, snapshots_put, specs_put, table_properties_put, tables_put, version_put, weight_put}
-use Rattle.pol_rules.proofs.CountedLemmas.{count-catalogs, count-principals, count-principal_roles, count-catalog_roles, count-members, count-joins, count-grants, count-namespaces, count-tables, filter-alone, of_kind, Fails, filter-quiet}
+use Rattle.pol_bounds.specs.Counted.{allowed_put, catalog_properties_put, catalogs_put, counts_after, id_set, limits_of, limits_put, namespace_properties_put, namespaces_put, number_of, orders_put, part_limits, property_limits, refs_put, schemas_put, serial_set, snapshots_put, specs_put, table_properties_put, tables_put, version_put, weight_put}
+use Rattle.pol_bounds.proofs.CountedLemmas.{count-catalogs, count-principals, count-principal_roles, count-catalog_roles, count-members, count-joins, count-grants, count-namespaces, count-tables, filter-alone, of_kind, Fails, filter-quiet}
 use Rattle.pol_rules.proofs.RulesLemmas.{first-joined, refused-not}
 
 -- whether any passes a test is told by those that do

@@ -3,11 +3,11 @@ use Rattle.std.specs.Bool.{⊤}
 use Rattle.std.specs.Option.{option_or}
 use Rattle.pol_commands.specs.declared.reply.Refusal.{Refusal}
 use Rattle.pol_state.specs.Bounds.{first_refusal}
-use Rattle.pol_rules.specs.Counted.{limits_of, limits_put}
+use Rattle.pol_bounds.specs.Counted.{limits_of, limits_put}
 use Rattle.pol_rules.specs.Judged.{Sees}
-use Rattle.pol_rules.proofs.BoundsLemmas.{limits-after}
+use Rattle.pol_bounds.proofs.BoundsLemmas.{limits-after}
 use Rattle.pol_rules.proofs.JudgedLemmas.{seen-stopped}
-use Rattle.pol_rules.proofs.bounds.within_bounds.Goals as goal
+use Rattle.pol_bounds.proofs.bounds.within_bounds.Goals as goal
 
 pub returns-in_err-counts_within : goal.returns-in_err-counts_within
 returns-in_err-counts_within c after charge orderly is leads =

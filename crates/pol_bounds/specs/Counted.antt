@@ -11,10 +11,10 @@ use Rattle.pol_content.specs.declared.rows.CatalogRow.{CatalogRow}
 use Rattle.pol_content.specs.declared.rows.NamespaceRow.{NamespaceRow}
 use Rattle.pol_commands.specs.declared.reply.Quantity.TheVariants as quantity
 use Rattle.pol_commands.specs.declared.reply.Refusal.{Refusal}
-use Rattle.pol_rules.specs.declared.bounds.Counts.{Counts}
-use Rattle.pol_rules.specs.declared.bounds.Own.{Own}
-use Rattle.pol_rules.specs.declared.bounds.Own.TheVariants as own
-use Rattle.pol_rules.specs.declared.bounds.Numbers.{Numbers}
+use Rattle.pol_bounds.specs.declared.bounds.Counts.{Counts}
+use Rattle.pol_bounds.specs.declared.bounds.Own.{Own}
+use Rattle.pol_bounds.specs.declared.bounds.Own.TheVariants as own
+use Rattle.pol_bounds.specs.declared.bounds.Numbers.{Numbers}
 use Rattle.pol_state.specs.Applied.{changed}
 use Rattle.pol_state.specs.Bounds.{above, allowed_count, any_above, catalog_properties, first_refusal, namespace_properties, order_count, ref_count, schema_count, snapshot_count, spec_count, table_properties, table_version, table_weight}
 use Rattle.pol_state.specs.Rows.{Rows}

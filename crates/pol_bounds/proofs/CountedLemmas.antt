@@ -44,7 +44,7 @@ use Rattle.pol_tokens.specs.declared.session.SessionRow.{SessionRow}
 use Rattle.pol_state.specs.Changes.{changes_between, headed, id_change, in_turn, row_changes, serial_change, RowChanges}
 use Rattle.pol_state.specs.Rows.{Rows}
 use Rattle.pol_tokens.specs.contracts.session.SessionRow as session
-use Rattle.pol_rules.specs.Counted.{count_after, takes, where_known}
+use Rattle.pol_bounds.specs.Counted.{count_after, takes, where_known}
 
 -- the rows' changes of one kind
 abbrev pub of_kind : RowKind → RowChanges → List Change

@@ -1,0 +1,2 @@
+mod BoundsLemmas
+mod CountedLemmas
