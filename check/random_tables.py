@@ -226,7 +226,7 @@ class RandomTables:
     def odd_word(self, places):
         odd = dict.fromkeys(["type", "element", "key", "value"], ODD_TYPES) | {"transform": ODD_TRANSFORMS}
         odd |= {"direction": ["ASC", "asc "], "null-order": ["nulls-First", ""], "name": ["", "x" * 129, "\x7f", "\n"]}
-        odd |= {"table-uuid": ODD_UUIDS, "operation": ["Append", ""]}
+        odd |= {"table-uuid": ODD_UUIDS, "view-uuid": ODD_UUIDS, "operation": ["Append", ""]}
         holder, key = self.place(places, lambda _, key, value: key in odd and isinstance(value, str))
         holder[key] = self.random.choice(odd.get(key, [""]))
 

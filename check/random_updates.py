@@ -148,13 +148,13 @@ class RandomCommits(RandomTables):
 
     def updates(self):
         """Updates, of which one is refused at times; each is made for the metadata that those before it lead to."""
-        self.draft, made = Draft(self.former), []
+        self.draft, made = self.begun(self.former), []
         count = self.pick(0, 1, 1, 2, 3, self.random.randint(0, MOST_UPDATES), MOST_UPDATES)
         refused_at = self.random.randrange(count) if count and self.is_seldom(0.4) else None
         while len(made) < count:
             one = self.refused() if len(made) == refused_at else self.update()
             try:
-                self.draft.apply(*update(json.loads(json.dumps(one)), ""))
+                self.draft.apply(*self.read(json.loads(json.dumps(one))))
             except NotMade:
                 if len(made) != refused_at:
                     continue
@@ -162,6 +162,12 @@ class RandomCommits(RandomTables):
                 continue
             made.append(one)
         return made
+
+    def begun(self, former):
+        return Draft(former)
+
+    def read(self, one):
+        return update(one, "")
 
     def update(self):
         make = self.pick(

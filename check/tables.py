@@ -284,6 +284,7 @@ reference = members(
     ("min-snapshots-to-keep?", kept),
 )
 bound_field = with_id("field-id", partition_id, partition_field)
+numbered_schema = with_id("schema-id", any_id, lambda *at: Schema(*at).printed())
 metadata = members(
     ("current-schema-id", any_id),
     ("current-snapshot-id?", long),
@@ -299,7 +300,7 @@ metadata = members(
     ("partition-specs", listed(members(("spec-id", any_id), ("fields", listed(bound_field))))),
     ("properties", text_map),
     ("refs", entries(reference)),
-    ("schemas", listed(with_id("schema-id", any_id, lambda *at: Schema(*at).printed()))),
+    ("schemas", listed(numbered_schema)),
     ("snapshot-log", listed(members(("snapshot-id", long), ("timestamp-ms", long)))),
     ("snapshots", listed(snapshot)),
     ("sort-orders", listed(members(("order-id", any_id), ("fields", listed(sort_field))))),
@@ -331,6 +332,11 @@ def judge_sources(fields, columns):
         raise NotMade("NoSuchField")
 
 
+def place_of(request):
+    """Where a table or a view lies: where it is asked to, or below one location by its name."""
+    return b"lake://b/" + request["name"] if request["location"] is None else request["location"]
+
+
 def created(request, uuid=UUID, moment=MOMENT):
     """The metadata of a new table, as it is printed."""
     schema, spec, order = request["schema"], request["spec"], request["order"]
@@ -349,7 +355,7 @@ def created(request, uuid=UUID, moment=MOMENT):
         "last-partition-id": max([999, *(field["field-id"] for field in spec)]),
         "last-sequence-number": 0,
         "last-updated-ms": moment,
-        "location": b"lake://b/" + request["name"] if request["location"] is None else request["location"],
+        "location": place_of(request),
         "metadata-log": [],
         "partition-specs": [{"fields": spec, "spec-id": 0}],
         "properties": request["properties"],

@@ -55,8 +55,13 @@ ORDER = Kind("sort-orders", "order-id", "default-sort-order-id")
 
 def told(former, content):
     """What is told of a commit to a metadata: the JSON of the metadata after it, or what stands against it."""
+    return told_of(lambda: committed(former, read_commit(content)))
+
+
+def told_of(make):
+    """What is told of a metadata that a commit makes: its JSON, or what stands against it."""
     try:
-        return compact(committed(former, read_commit(content)))
+        return compact(make())
     except Refused as refused:
         return refused.message
     except Unmet as unmet:
@@ -124,12 +129,19 @@ requirement = by_word(
 )
 LEFT_OUT = [f"{way}-{what}" for what in ("statistics", "partition-statistics") for way in ("set", "remove")]
 LEFT_OUT += ["add-encryption-key", "remove-encryption-key"]
+# Updates of tables and of views.
+SHARED = {
+    "assign-uuid": members(("uuid", uuid)),
+    "upgrade-format-version": members(("format-version", any_id)),
+    "add-schema": members(("schema", Schema)),
+    "set-location": members(("location", text)),
+    "set-properties": members(("updates", text_map)),
+    "remove-properties": members(("removals", texts)),
+} | dict.fromkeys(LEFT_OUT, members())
 update = by_word(
     "action",
-    {
-        "assign-uuid": members(("uuid", uuid)),
-        "upgrade-format-version": members(("format-version", any_id)),
-        "add-schema": members(("schema", Schema)),
+    SHARED
+    | {
         "set-current-schema": members(("schema-id", or_last)),
         "add-spec": members(("spec", fields_beside("spec-id", partition_field))),
         "set-default-spec": members(("spec-id", or_last)),
@@ -146,13 +158,9 @@ update = by_word(
         ),
         "remove-snapshots": members(("snapshot-ids", listed(long))),
         "remove-snapshot-ref": members(("ref-name", any_word)),
-        "set-location": members(("location", text)),
-        "set-properties": members(("updates", text_map)),
-        "remove-properties": members(("removals", texts)),
         "remove-partition-specs": members(("spec-ids", listed(any_id))),
         "remove-schemas": members(("schema-ids", listed(any_id))),
-    }
-    | dict.fromkeys(LEFT_OUT, members()),
+    },
 )
 COMMIT = [("requirements", listed(requirement)), ("updates", listed(update))]
 commit = members(*COMMIT)
@@ -183,6 +191,7 @@ EQUAL = {
     "assert-current-schema-id": ("current-schema-id", "current-schema-id"),
     "assert-default-spec-id": ("default-spec-id", "default-spec-id"),
     "assert-default-sort-order-id": ("default-sort-order-id", "default-sort-order-id"),
+    "assert-view-uuid": ("uuid", "view-uuid"),
 }
 
 
@@ -230,13 +239,17 @@ class Draft:
     def ids(self, kind):
         return [member[kind.id] for member in self.now[kind.all]]
 
-    def chosen(self, kind, asked):
-        """Puts the member that is asked for to use."""
+    def named(self, kind, asked):
+        """The id of the member that is asked for."""
         if asked == -1:
             refuse_where(kind not in self.last, "NoneAdded")
             asked = self.last[kind]
         refuse_where(asked not in self.ids(kind), "NoSuchId")
-        self.now[kind.used] = asked
+        return asked
+
+    def chosen(self, kind, asked):
+        """Puts the member that is asked for to use."""
+        self.now[kind.used] = self.named(kind, asked)
 
     def added(self, kind, member, is_same, first=None):
         """Adds a member where none is the same, under the highest id plus one, unless another one is its first."""
@@ -263,10 +276,13 @@ class Draft:
     def upgrade_format_version(self, format_version):
         refuse_where(format_version != 2, "FormatVersion")
 
-    def add_schema(self, schema):
-        shown = schema.printed()
+    def added_schema(self, shown):
         same = ("fields", "identifier-field-ids")
         self.added(SCHEMA, shown, lambda other: all(other.get(key) == shown.get(key) for key in same))
+
+    def add_schema(self, schema):
+        shown = schema.printed()
+        self.added_schema(shown)
         self.now["last-column-id"] = max([self.now["last-column-id"], *column_ids(shown)])
 
     def set_current_schema(self, schema_id):
@@ -365,18 +381,22 @@ def metadata_file(found, version):
     return found["location"] + f"/metadata/{version:05}-{found['table-uuid']}.metadata.json".encode()
 
 
+def log_left(entries, key, members):
+    """The longest end of a log whose entries all name a member that is there by the id under a key."""
+    there = {member[key] for member in members}
+    return entries[max((place + 1 for place, entry in enumerate(entries) if entry[key] not in there), default=0) :]
+
+
 def finished(former, version, draft):
     """What is done after the whole of a list."""
     now = draft.now
-    there = {snapshot["snapshot-id"] for snapshot in now["snapshots"]}
-    entries = now["snapshot-log"]
-    begin = max((place + 1 for place, entry in enumerate(entries) if entry["snapshot-id"] not in there), default=0)
+    snapshot_log = log_left(now["snapshot-log"], "snapshot-id", now["snapshots"])
     former_entry = {"metadata-file": metadata_file(former, version), "timestamp-ms": former["last-updated-ms"]}
     return now | {
         "last-updated-ms": draft.moment,
         "location": settled(now["location"]),
         "metadata-log": (now["metadata-log"] + [former_entry])[-METADATA_LOG:],
-        "snapshot-log": entries[begin:][-SNAPSHOT_LOG:],
+        "snapshot-log": snapshot_log[-SNAPSHOT_LOG:],
     }
 
 
@@ -387,15 +407,19 @@ def judge(former, requirements):
             raise Unmet(place)
 
 
-def updated(former, updates, version, moment):
-    """The metadata of a version after updates at a moment."""
-    draft = Draft(former, moment)
+def applied(draft, updates):
+    """A draft after updates, one after another."""
     for place, one in enumerate(updates):
         try:
             draft.apply(*one)
         except NotMade as refused:
             raise NotApplied(place, refused) from None
-    return finished(former, version, draft) if updates else former
+    return draft
+
+
+def updated(former, updates, version, moment):
+    """The metadata of a version after updates at a moment."""
+    return finished(former, version, applied(Draft(former, moment), updates)) if updates else former
 
 
 def committed(former, asked):

@@ -1,2 +1,2 @@
 pub mod FormLemmas
-mod WordLemmas
+pub mod WordLemmas

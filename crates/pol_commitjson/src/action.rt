@@ -34,8 +34,9 @@ pub(crate) enum SnapshotAction {
     RemoveRef,
 }
 
+/// What an update changes that is no list of members.
 #[derive(Clone, Copy, Debug, PartialEq, Eq)]
-pub(crate) enum TextAction {
+pub enum TextAction {
     AssignUuid,
     UpgradeFormatVersion,
     SetLocation,

@@ -6,7 +6,7 @@ use std::marker::Model;
 
 /// A part of a commit that is read of JSON, which contracts see as that part.
 #[derive(Drop)]
-pub(crate) struct Asked<T> {
+pub struct Asked<T> {
     value: T,
 }
 
@@ -17,7 +17,7 @@ impl<T> Model for Asked<T> {
 }
 
 impl<T> Asked<T> {
-    pub fn new(value: T) -> Self
+    pub(crate) fn new(value: T) -> Self
         ensures { result ≡ value }
     {
         Asked { value }

@@ -12,4 +12,6 @@ mod members;
 mod requirements;
 mod updates;
 
+pub use action::TextAction;
+pub use asked::Asked;
 pub use commits::{read_commit, read_transaction};

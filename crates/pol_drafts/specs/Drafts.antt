@@ -15,7 +15,7 @@ abbrev pub begun : TableMetadata → Draft
 begun meta = record { meta = meta; last_schema = None; last_spec = None; last_order = None }
 
 -- an update answers so, and leaves this draft: the one that it makes, or its first reason, or memory is wanting
-abbrev pub Becomes : {A : Type 0} → Result Draft Why → Result A Stop → Draft → Type 0
+abbrev pub Becomes : {A D : Type 0} → Result D Why → Result A Stop → D → Type 0
 Becomes made (Ok done) now = made ≡ Ok now
 Becomes made (Err (Refused why)) now = made ≡ Err why
 Becomes made (Err OutOfMemory) now = ⊤

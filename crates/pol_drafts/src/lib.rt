@@ -13,9 +13,13 @@ mod schema_updates;
 mod stop;
 
 pub use draft::Draft;
+pub use ids::next_after;
 pub use lists::{copied, push, taken};
 pub use member::MemberId;
 pub use order_updates::{add_order, set_default_order};
 pub use partition_updates::{add_spec, remove_specs, set_default_spec};
-pub use schema_updates::{add_schema, remove_schemas, set_current_schema};
+pub use schema_updates::{
+    add_schema, chosen_schema, next_schema_id, numbered_schema, remove_schemas, same_schema_id,
+    set_current_schema,
+};
 pub use stop::Stop;

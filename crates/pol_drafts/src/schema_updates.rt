@@ -27,7 +27,7 @@ pub fn add_schema(alloc: Global, draft: &mut Draft, schema: &Schema) -> Result<(
         return Ok(());
     }
     let id = next_schema_id(draft.meta.schemas.as_slice())?;
-    let added = numbered(schema, id)?;
+    let added = numbered_schema(schema, id)?;
     push(alloc, &mut draft.meta.schemas, added)?;
     note_schema(draft, id, schema);
     Ok(())
@@ -38,7 +38,7 @@ pub fn add_schema(alloc: Global, draft: &mut Draft, schema: &Schema) -> Result<(
 pub fn set_current_schema(draft: &mut Draft, member: MemberId) -> Result<(), Stop>
     ensures { Becomes (set_current_schema member draft.old) result draft.new }
 {
-    let id = chosen_schema(draft, member)?;
+    let id = chosen_schema(member, draft.last_schema, draft.meta.schemas.as_slice())?;
     draft.meta.current_schema_id = id;
     Ok(())
 }
@@ -65,14 +65,15 @@ fn schemas_left(schemas: Vec<Schema>, gone: &[u32]) -> Vec<Schema>
     left
 }
 
+/// The id of the schema that is named, among these.
 #[tactic(auto, unfolding(crate::specs::Ids::chosen))]
-fn chosen_schema(draft: &Draft, member: MemberId) -> Result<u32, Why>
-    ensures { result ≡ chosen member draft.now.last_schema (schema_ids draft.now.meta.schemas) }
+pub fn chosen_schema(member: MemberId, last: Option<u32>, schemas: &[Schema]) -> Result<u32, Why>
+    ensures { result ≡ chosen member last (schema_ids schemas.now) }
 {
     match member {
-        MemberId::LastAdded => draft.last_schema.ok_or(Why::NoneAdded),
+        MemberId::LastAdded => last.ok_or(Why::NoneAdded),
         MemberId::Id { id } => {
-            if has_schema(draft.meta.schemas.as_slice(), id) {
+            if has_schema(schemas, id) {
                 Ok(id)
             } else {
                 Err(Why::NoSuchId)
@@ -91,7 +92,7 @@ fn has_schema(schemas: &[Schema], id: u32) -> bool
 }
 
 /// The id of the first schema that has the same columns and identifier ids.
-fn same_schema_id(schema: &Schema, schemas: &[Schema]) -> Option<u32>
+pub fn same_schema_id(schema: &Schema, schemas: &[Schema]) -> Option<u32>
     ensures { result ≡ same_schema_id schema.now schemas.now }
 {
     let same = same_schema(schema, schemas)?;
@@ -113,7 +114,7 @@ fn is_same_schema(left: &Schema, right: &Schema) -> bool
 }
 
 /// The id after those of these schemas.
-fn next_schema_id(schemas: &[Schema]) -> Result<u32, Why>
+pub fn next_schema_id(schemas: &[Schema]) -> Result<u32, Why>
     ensures { result ≡ given (next_id (schema_ids schemas.now)) }
 {
     next_after(
@@ -124,7 +125,8 @@ fn next_schema_id(schemas: &[Schema]) -> Result<u32, Why>
     )
 }
 
-fn numbered(schema: &Schema, id: u32) -> Result<Schema, AllocError>
+/// A copy of a schema under an id.
+pub fn numbered_schema(schema: &Schema, id: u32) -> Result<Schema, AllocError>
     ensures { IfOk result (λ made. made ≡ record schema.now { schema_id = id }) }
 {
     Ok(Schema {

@@ -75,7 +75,7 @@ spec_passes None order passes = refl
 spec_passes (Some why) order passes = cc
 
 -- the parts of a new table have their forms
-schema_form : (schema : Schema) → IsSchema schema → IsSchema (first_schema schema)
+pub schema_form : (schema : Schema) → IsSchema schema → IsSchema (first_schema schema)
 schema_form schema form = record {
   id = lit≤ tt;
   columns = form.columns;
@@ -110,10 +110,10 @@ partition_bound fields forms =
     (All-map (λ id. id ≤ 2147483647) (λ field. field.field_id) fields
     (All-weaker IsPartitionField (λ field. field.field_id ≤ 2147483647) (λ field field_form. field_form.id.most) fields forms))
 
-holds_alone : {A : Type 0} (P : A → Type 0) (x : A) → P x → All P (x ∷ [])
+pub holds_alone : {A : Type 0} (P : A → Type 0) (x : A) → P x → All P (x ∷ [])
 holds_alone P x here = All-cons P x [] here (All-nil P)
 
-alone : (id : ℕ) → IsDistinct nat_eq (id ∷ [])
+pub alone : (id : ℕ) → IsDistinct nat_eq (id ∷ [])
 unfolding IsDistinct
 alone id = (tt, tt)
 

@@ -51,16 +51,16 @@ use Rattle.pol_meta.specs.declared.metadata.TableMetadata.{TableMetadata}
 use Rattle.pol_meta.specs.contracts.metadata.TableMetadataPartialEq.TheImpl as table_metadata_compared
 
 -- two comparisons that both hold tell what each of them tells
-both : {P Q : Type 0} {a b : Bool} → (a ≡ true → P) → (b ≡ true → Q) → (a && b) ≡ true → P × Q
+pub both : {P Q : Type 0} {a b : Bool} → (a ≡ true → P) → (b ≡ true → Q) → (a && b) ≡ true → P × Q
 both {P} {Q} {a} {b} first second same = (first (first_so a b same), second (second_so a b same))
 
-numbers_exact : (left right : ℕ) → nat_eq left right ≡ true → left ≡ right
+pub numbers_exact : (left right : ℕ) → nat_eq left right ≡ true → left ≡ right
 numbers_exact left right same = eqb-true left right same
 
-texts_exact : (left right : List ℕ) → pointwise nat_eq left right ≡ true → left ≡ right
+pub texts_exact : (left right : List ℕ) → pointwise nat_eq left right ≡ true → left ≡ right
 texts_exact left right same = same_text left right (sym same)
 
-options_exact : {A : Type 0} {E : A → A → Bool} → ((x y : A) → E x y ≡ true → x ≡ y) → (left right : Option A)
+pub options_exact : {A : Type 0} {E : A → A → Bool} → ((x y : A) → E x y ≡ true → x ≡ y) → (left right : Option A)
     → option_eq E left right ≡ true → left ≡ right
 options_exact exact None None same = refl
 options_exact exact None (Some y) same = cc

@@ -328,7 +328,7 @@ fn assembled(
 }
 
 /// The schema of a new table.
-fn first_schema(schema: Schema) -> Schema
+pub fn first_schema(schema: Schema) -> Schema
     ensures { result ≡ first_schema schema }
 {
     Schema {
@@ -338,7 +338,7 @@ fn first_schema(schema: Schema) -> Schema
     }
 }
 
-fn list_of_one<T: Drop>(alloc: Global, item: T) -> Result<Listed<T>, AllocError>
+pub fn list_of_one<T: Drop>(alloc: Global, item: T) -> Result<Listed<T>, AllocError>
     ensures { IfOk result (λ list. list ≡ item ∷ []) }
 {
     let mut items = Vec::with_capacity(alloc, 1)?;

@@ -14,10 +14,11 @@ mod schema;
 mod snapshot;
 mod sort;
 mod transform;
-mod weight;
+pub mod weight;
 mod why;
 
 pub use column::{Column, Kind, Part};
+pub use create::{first_schema, list_of_one};
 pub use file_names::metadata_file;
 pub use ids::Ids;
 pub use log::{MetadataLogEntry, SnapshotLogEntry};

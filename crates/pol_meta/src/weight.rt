@@ -1,3 +1,4 @@
+//! Weights of metadata, and of the parts that those of tables and views share.
 ghost use Rattle.std.specs.Prelude.{◌≡◌, ◌<◌, ◌^◌, ℕ, ◌+◌, ◌*◌, length, option_copied, sum_by};
 ghost use Rattle.std.specs.Option.{option_map_or};
 ghost use Rattle.pol_meta.specs.Weight.{capped, column_weight, log_entry_weight, metadata_weight, named_ref_weight, pair_weight, pairs_weight, part_weight, partition_field_weight, partition_spec_weight, properties_weight, schema_weight, snapshot_weight, sort_order_weight};
@@ -40,7 +41,7 @@ fn of_metadata(meta: &TableMetadata) -> u64
 }
 
 /// A part of a metadata that weighs something.
-trait Weighs {
+pub trait Weighs {
     ghost weight: { Self → ℕ };
 
     fn weight(&self) -> u64
@@ -135,14 +136,14 @@ impl Weighs for MetadataLogEntry {
 
 /// The sum of two weights.
 #[tactic(auto, unfolding(crate::specs::Weight::capped))]
-fn plus(left: u64, right: u64) -> u64
+pub fn plus(left: u64, right: u64) -> u64
     ensures { (x y : ℕ) → left ≡ capped x → right ≡ capped y → result ≡ capped (x + y) }
 {
     left.saturating_add(right)
 }
 
 #[tactic(auto, unfolding(crate::specs::Weight::capped))]
-fn nothing() -> u64
+pub fn nothing() -> u64
     ensures { result ≡ capped 0 }
 {
     0
@@ -157,20 +158,20 @@ fn of_item() -> u64
 }
 
 #[tactic(auto, unfolding(crate::specs::Weight::capped))]
-fn of_items(count: usize) -> u64
+pub fn of_items(count: usize) -> u64
     ensures { result ≡ capped (64 * count) }
 {
     (count as u64).saturating_mul(64)
 }
 
 #[tactic(auto, unfolding(crate::specs::Weight::capped))]
-fn of_text(text: &Text) -> u64
+pub fn of_text(text: &Text) -> u64
     ensures { result ≡ capped (length text.now) }
 {
     text.len() as u64
 }
 
-fn of_optional(text: Option<&Text>) -> u64
+pub fn of_optional(text: Option<&Text>) -> u64
     ensures { result ≡ capped (option_map_or length (option_copied text.entry) 0) }
 {
     match text {
@@ -180,19 +181,19 @@ fn of_optional(text: Option<&Text>) -> u64
 }
 
 /// The texts of pairs.
-fn of_pairs(pairs: &Properties) -> u64
+pub fn of_pairs(pairs: &Properties) -> u64
     ensures { result ≡ capped (pairs_weight pairs.now) }
 {
     of_all(pairs.iter().as_slice())
 }
 
-fn of_properties(properties: &Properties) -> u64
+pub fn of_properties(properties: &Properties) -> u64
     ensures { result ≡ capped (properties_weight properties.now) }
 {
     plus(of_items(properties.len()), of_pairs(properties))
 }
 
-fn of_all<T: Weighs>(items: &[T]) -> u64
+pub fn of_all<T: Weighs>(items: &[T]) -> u64
     ensures { result ≡ capped (sum_by T.weight items.now) }
 {
     let mut weight = nothing();

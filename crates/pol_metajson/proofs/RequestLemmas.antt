@@ -25,7 +25,7 @@ use Rattle.pol_metajson.proofs.FormLemmas.{schema_formed}
 use Rattle.pol_metajson.proofs.WordLemmas.{transform_within}
 
 -- what holds of each member holds of all
-items_hold : {A : Type 0} (P : A → Type 0) (grammar : Data → A → Type 0) → ((d : Data) (value : A) → grammar d value → P value)
+pub items_hold : {A : Type 0} (P : A → Type 0) (grammar : Data → A → Type 0) → ((d : Data) (value : A) → grammar d value → P value)
     → (ds : Items) (values : List A) → AreItems grammar ds values → All P values
 items_hold P grammar each no_items [] so = All-nil P
 items_hold P grammar each no_items (value ∷ values) so = absurd so

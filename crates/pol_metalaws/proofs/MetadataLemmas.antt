@@ -209,7 +209,7 @@ listing_read m forms held =
       ),
     )
 
-uuid_read : (bytes : List ℕ) → IsUuid bytes → uuid.stands (string (hyphenated_text lower bytes)) bytes
+pub uuid_read : (bytes : List ℕ) → IsUuid bytes → uuid.stands (string (hyphenated_text lower bytes)) bytes
 unfolding uuid
 uuid_read bytes valid = (
   hyphenated_text lower bytes,

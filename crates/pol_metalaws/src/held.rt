@@ -14,7 +14,8 @@ pub fn each_is_held(meta: &TableMetadata)
     summaries_rise(meta.snapshots.as_slice());
 }
 
-fn has_sixteen(bytes: &[u8; 16])
+/// The bytes of a uuid are 16.
+pub fn has_sixteen(bytes: &[u8; 16])
     ensures { IsUuid bytes.now }
 {
     let all: &[u8] = bytes;

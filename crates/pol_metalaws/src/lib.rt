@@ -5,5 +5,5 @@ mod held;
 pub mod laws;
 mod text;
 
-pub use held::each_is_held;
+pub use held::{each_is_held, has_sixteen};
 pub use text::table_text;

@@ -34,11 +34,11 @@ use Rattle.pol_metaprint.specs.Texts.{direction_text, null_order_text, ref_kind_
 use Rattle.pol_metaprint.specs.Metadata.{put_current, put_ids, put_numbers, put_shapes, put_snapshots, put_table, schema_json, table_json}
 
 -- JSON that nests at most so deep
-record IsWithin (n : ℕ) (d : Data) : Type 0 where
-  most : depth d ≤ n
+pub record IsWithin (n : ℕ) (d : Data) : Type 0 where
+  pub most : depth d ≤ n
 
-record AreWithin (n : ℕ) (ms : Members) : Type 0 where
-  most : members_depth ms ≤ n
+pub record AreWithin (n : ℕ) (ms : Members) : Type 0 where
+  pub most : members_depth ms ≤ n
 
 least : (n : ℕ) → 0 ≤ n
 least n = omega arith
@@ -58,13 +58,13 @@ second_most first second n both = omega (arith, both)
 through : (k m n : ℕ) → m ≤ n → k ≤ m → k ≤ n
 through k m n room within = omega (arith, room, within)
 
-raise : (m n : ℕ) {d : Data} → m ≤ n → IsWithin m d → IsWithin n d
+pub raise : (m n : ℕ) {d : Data} → m ≤ n → IsWithin m d → IsWithin n d
 raise m n {d} room within = record { most = through (depth d) m n room within.most }
 
-number_within : (n m : ℕ) → IsWithin n (number_json m)
+pub number_within : (n m : ℕ) → IsWithin n (number_json m)
 number_within n m = record { most = least n }
 
-text_within : (n : ℕ) (text : List ℕ) → IsWithin n (string text)
+pub text_within : (n : ℕ) (text : List ℕ) → IsWithin n (string text)
 text_within n text = record { most = least n }
 
 truth_within : (n : ℕ) (b : Bool) → IsWithin n (boolean b)
@@ -73,10 +73,10 @@ truth_within n b = record { most = least n }
 null_within : (n : ℕ) → IsWithin n null
 null_within n = record { most = least n }
 
-empty_within : (n : ℕ) → AreWithin n no_members
+pub empty_within : (n : ℕ) → AreWithin n no_members
 empty_within n = record { most = least n }
 
-object_within : (n : ℕ) {ms : Members} → AreWithin n ms → IsWithin (n + 1) (object ms)
+pub object_within : (n : ℕ) {ms : Members} → AreWithin n ms → IsWithin (n + 1) (object ms)
 object_within n {ms} within = record { most = outer (members_depth ms) n within.most }
 
 -- one more member
@@ -98,7 +98,7 @@ put_most name d (member other e ms) n new rest =
     (both_most (depth e) (members_depth (put name d ms)) n (first_most (depth e) (members_depth ms) n rest)
     (put_most name d ms n new later))
 
-put_within : (n : ℕ) (name : List ℕ) {d : Data} {ms : Members} → IsWithin n d → AreWithin n ms
+pub put_within : (n : ℕ) (name : List ℕ) {d : Data} {ms : Members} → IsWithin n d → AreWithin n ms
     → AreWithin n (put name d ms)
 put_within n name {d} {ms} new rest = record { most = put_most name d ms n new.most rest.most }
 
@@ -107,7 +107,7 @@ put_number_within : (n : ℕ) (name : List ℕ) (given : Option ℕ) {ms : Membe
 put_number_within n name None rest = rest
 put_number_within n name (Some m) rest = put_within n name (number_within n m) rest
 
-put_text_within : (n : ℕ) (name : List ℕ) (given : Option (List ℕ)) {ms : Members} → AreWithin n ms
+pub put_text_within : (n : ℕ) (name : List ℕ) (given : Option (List ℕ)) {ms : Members} → AreWithin n ms
     → AreWithin n (put_text name given ms)
 put_text_within n name None rest = rest
 put_text_within n name (Some text) rest = put_within n name (text_within n text) rest
@@ -120,12 +120,12 @@ items_most n json P each (x ∷ xs) all =
     both_most (depth (json x)) (items_depth (items_of (map json xs))) n (each x (All-head P x xs all)).most
     (items_most n json P each xs (All-tail P x xs all))
 
-list_of_within : {A : Type 0} (n : ℕ) (json : A → Data) (P : A → Type 0) → ((x : A) → P x → IsWithin n (json x))
+pub list_of_within : {A : Type 0} (n : ℕ) (json : A → Data) (P : A → Type 0) → ((x : A) → P x → IsWithin n (json x))
     → (xs : List A) → All P xs → IsWithin (n + 1) (list_json json xs)
 list_of_within n json P each xs all =
     record { most = outer (items_depth (items_of (map json xs))) n (items_most n json P each xs all) }
 
-list_within : {A : Type 0} (n : ℕ) (json : A → Data) → ((x : A) → IsWithin n (json x)) → (xs : List A)
+pub list_within : {A : Type 0} (n : ℕ) (json : A → Data) → ((x : A) → IsWithin n (json x)) → (xs : List A)
     → IsWithin (n + 1) (list_json json xs)
 list_within n json each xs = list_of_within n json (λ x. ⊤) (λ x so. each x) xs (λ k d inside. tt)
 
@@ -134,7 +134,7 @@ pairs_put : (pairs : List Property) {ms : Members} → AreWithin 0 ms → AreWit
 pairs_put [] rest = rest
 pairs_put (pair ∷ pairs) rest = pairs_put pairs (put_within 0 pair.key (text_within 0 pair.value) rest)
 
-pairs_within : (pairs : List Property) → IsWithin 1 (pairs_json pairs)
+pub pairs_within : (pairs : List Property) → IsWithin 1 (pairs_json pairs)
 unfolding pairs_json
 pairs_within pairs = object_within 0 (pairs_put pairs (empty_within 0))
 
@@ -361,7 +361,7 @@ ids_within ids {ms} rest = by (length ids == 0)
         put_within 98 key.IDENTIFIER_FIELD_IDS.now
         (raise 1 98 (omega arith) (list_within 0 number_json (number_within 0) ids)) rest
 
-schema_within : (schema : Schema) → IsSchema schema → IsWithin 99 (schema_json schema)
+pub schema_within : (schema : Schema) → IsSchema schema → IsWithin 99 (schema_json schema)
 unfolding schema_json
 schema_within schema form =
     object_within 98 (put_within 98 key.TYPE.now (text_within 98 key.STRUCT.now)

@@ -32,16 +32,16 @@ use Rattle.pol_metaprint.specs.Texts.{kind_text, ref_kind_text}
 use Rattle.pol_metaprint.specs.Metadata.{put_current, put_ids, put_numbers, put_shapes, put_snapshots, put_table, schema_json, table_json}
 
 -- JSON in which no number is a float
-record IsWhole (d : Data) : Type 0 where
-  none : has_float d ≡ false
+pub record IsWhole (d : Data) : Type 0 where
+  pub none : has_float d ≡ false
 
-record AreWhole (ms : Members) : Type 0 where
-  none : members_have_float ms ≡ false
+pub record AreWhole (ms : Members) : Type 0 where
+  pub none : members_have_float ms ≡ false
 
-number_whole : (n : ℕ) → IsWhole (number_json n)
+pub number_whole : (n : ℕ) → IsWhole (number_json n)
 number_whole n = record { none = refl }
 
-text_whole : (text : List ℕ) → IsWhole (string text)
+pub text_whole : (text : List ℕ) → IsWhole (string text)
 text_whole text = record { none = refl }
 
 truth_whole : (b : Bool) → IsWhole (boolean b)
@@ -50,10 +50,10 @@ truth_whole b = record { none = refl }
 null_whole : IsWhole null
 null_whole = record { none = refl }
 
-empty_whole : AreWhole no_members
+pub empty_whole : AreWhole no_members
 empty_whole = record { none = refl }
 
-object_whole : {ms : Members} → AreWhole ms → IsWhole (object ms)
+pub object_whole : {ms : Members} → AreWhole ms → IsWhole (object ms)
 object_whole whole = record { none = whole.none }
 
 or_whole : (b c : Bool) → (b || c) ≡ false → (b ≡ false) × (c ≡ false)
@@ -73,14 +73,14 @@ put_plain key d (member k e ms) new whole =
     let parts = or_whole (has_float e) (members_have_float ms) whole in
     placed_whole (slice_cmp nat_cmp key k) key k d e ms new parts.0 parts.1 (put_plain key d ms new parts.1)
 
-put_whole : (key : List ℕ) {d : Data} {ms : Members} → IsWhole d → AreWhole ms → AreWhole (put key d ms)
+pub put_whole : (key : List ℕ) {d : Data} {ms : Members} → IsWhole d → AreWhole ms → AreWhole (put key d ms)
 put_whole key {d} {ms} new whole = record { none = put_plain key d ms new.none whole.none }
 
 put_number_whole : (key : List ℕ) (n : Option ℕ) {ms : Members} → AreWhole ms → AreWhole (put_number key n ms)
 put_number_whole key None whole = whole
 put_number_whole key (Some n) whole = put_whole key (number_whole n) whole
 
-put_text_whole : (key : List ℕ) (text : Option (List ℕ)) {ms : Members} → AreWhole ms → AreWhole (put_text key text ms)
+pub put_text_whole : (key : List ℕ) (text : Option (List ℕ)) {ms : Members} → AreWhole ms → AreWhole (put_text key text ms)
 put_text_whole key None whole = whole
 put_text_whole key (Some text) whole = put_whole key (text_whole text) whole
 
@@ -89,7 +89,7 @@ items_whole : {A : Type 0} (json : A → Data) → ((x : A) → IsWhole (json x)
 items_whole json each [] = refl
 items_whole json each (x ∷ xs) = rw ((each x).none, items_whole json each xs) refl
 
-list_whole : {A : Type 0} (json : A → Data) → ((x : A) → IsWhole (json x)) → (xs : List A) → IsWhole (list_json json xs)
+pub list_whole : {A : Type 0} (json : A → Data) → ((x : A) → IsWhole (json x)) → (xs : List A) → IsWhole (list_json json xs)
 list_whole json each xs = record { none = items_whole json each xs }
 
 -- objects
@@ -98,7 +98,7 @@ pairs_put [] ms whole = whole
 pairs_put (pair ∷ pairs) ms whole =
     pairs_put pairs (put_pair ms pair) (put_whole pair.key (text_whole pair.value) whole)
 
-pairs_whole : (pairs : List Property) → IsWhole (pairs_json pairs)
+pub pairs_whole : (pairs : List Property) → IsWhole (pairs_json pairs)
 unfolding pairs_json
 pairs_whole pairs = object_whole (pairs_put pairs no_members empty_whole)
 
@@ -242,7 +242,7 @@ ids_whole ids {ms} whole = by (length ids == 0)
     by true = whole
     by false = put_whole key.IDENTIFIER_FIELD_IDS.now (list_whole number_json number_whole ids) whole
 
-schema_whole : (schema : Schema) → IsWhole (schema_json schema)
+pub schema_whole : (schema : Schema) → IsWhole (schema_json schema)
 unfolding schema_json
 schema_whole schema =
     object_whole (put_whole key.TYPE.now (text_whole key.STRUCT.now)

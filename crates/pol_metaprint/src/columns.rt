@@ -1,18 +1,17 @@
 //! The columns of schemas.
 ghost use Rattle.std.specs.Prelude.{◌≡◌, ◌<◌, ◌∷◌, [], IfOk, IfSome, OnOk, map, reverse};
 ghost use Rattle.serde_json.specs.Data.{string};
-ghost use Rattle.serde_json.specs.View.{members_view, view};
-ghost use Rattle.pol_metakeys.specs.declared.keys.TheConstants.{DOC};
+ghost use Rattle.serde_json.specs.View.{view};
 ghost use Rattle.pol_metaprint.specs.Texts.{kind_text};
 ghost use Rattle.pol_metaprint.specs.Columns as spec;
 ghost use Rattle.pol_metaprint.specs.Trees.{shown, tree_of, trees_shown};
 ghost use Rattle.pol_metaprint.specs.Json as json;
 
-use crate::members::{Members, none, with, with_number, with_text};
+use crate::members::{none, with, with_number, with_optional_text, with_text};
 use crate::texts::kind_text;
 use pol_meta::{Column, Kind, Part};
 use pol_metakeys::keys;
-use pol_types::{OutOfMemory, Text};
+use pol_types::OutOfMemory;
 use serde_json::Value;
 use std::alloc::Global;
 
@@ -135,23 +134,12 @@ fn part_value(alloc: Global, part: &Part, id: u32, json: Value) -> Result<Value,
     else {
         return Ok(Value::Null);
     };
-    let members = with_doc(alloc, none(alloc), doc)?;
+    let members = with_optional_text(alloc, none(alloc), keys::DOC, doc)?;
     let members = with_number(alloc, members, keys::ID, id as u64)?;
     let members = with_text(alloc, members, keys::NAME, name.as_str())?;
     let members = with(alloc, members, keys::REQUIRED, Value::from(*required))?;
     let members = with(alloc, members, keys::TYPE, json)?;
     Ok(Value::from(members))
-}
-
-/// The members, and a text about a field if it is there.
-fn with_doc(alloc: Global, members: Members, doc: &Option<Text>) -> Result<Members, OutOfMemory>
-    ensures { IfOk result (λ all. members_view all.entries
-        ≡ spec.put_text DOC.now doc.now (members_view members.entries)) }
-{
-    match doc {
-        Some(doc) => with_text(alloc, members, keys::DOC, doc.as_str()),
-        None => Ok(members),
-    }
 }
 
 fn is_required(part: &Part) -> bool

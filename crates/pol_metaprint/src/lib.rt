@@ -2,11 +2,11 @@
 #![tactic(auto)]
 
 mod columns;
-mod members;
+pub mod members;
 mod metadata;
 mod parts;
 mod printed;
 mod texts;
 
-pub use metadata::table_value;
-pub use printed::Printed;
+pub use metadata::{table_value, uuid_text};
+pub use printed::{Printed, list};

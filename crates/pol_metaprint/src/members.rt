@@ -3,24 +3,25 @@ ghost use Rattle.std.specs.Prelude.{◌≡◌, IfOk};
 ghost use Rattle.std.specs.List.{fold};
 ghost use Rattle.serde_json.specs.Data.{no_members, object, put as with_put, string};
 ghost use Rattle.serde_json.specs.View.{members_view, view};
+ghost use Rattle.pol_metaprint.specs.Columns.{put_text};
 ghost use Rattle.pol_metaprint.specs.Json as spec;
 
 use pol_properties::{Properties, Property};
-use pol_types::OutOfMemory;
+use pol_types::{OutOfMemory, Text};
 use serde_json::{Map, Value, put};
 use std::alloc::Global;
 
 /// The members of an object.
-pub(crate) type Members = Map<String, Value>;
+pub type Members = Map<String, Value>;
 
-pub(crate) fn none(alloc: Global) -> Members
+pub fn none(alloc: Global) -> Members
     ensures { members_view result.entries ≡ no_members }
 {
     Map::new(alloc)
 }
 
 /// The members, and one more.
-pub(crate) fn with(
+pub fn with(
     alloc: Global,
     members: Members,
     key: &str,
@@ -35,7 +36,7 @@ pub(crate) fn with(
 }
 
 /// The members, and a text.
-pub(crate) fn with_text(
+pub fn with_text(
     alloc: Global,
     members: Members,
     key: &str,
@@ -49,7 +50,7 @@ pub(crate) fn with_text(
 }
 
 /// The members, and a number.
-pub(crate) fn with_number(
+pub fn with_number(
     alloc: Global,
     members: Members,
     key: &str,
@@ -77,9 +78,25 @@ pub(crate) fn with_optional(
     }
 }
 
+/// The members, and a text if it is there.
+pub fn with_optional_text(
+    alloc: Global,
+    members: Members,
+    key: &str,
+    text: &Option<Text>,
+) -> Result<Members, OutOfMemory>
+    ensures { IfOk result (λ all. members_view all.entries
+        ≡ put_text key.now text.now (members_view members.entries)) }
+{
+    match text {
+        Some(text) => with_text(alloc, members, key, text.as_str()),
+        None => Ok(members),
+    }
+}
+
 /// An object of texts.
 #[tactic(auto, unfolding(crate::specs::Json::pairs_json))]
-pub(crate) fn pairs(alloc: Global, properties: &Properties) -> Result<Value, OutOfMemory>
+pub fn pairs(alloc: Global, properties: &Properties) -> Result<Value, OutOfMemory>
     ensures { IfOk result (λ value. view value ≡ spec.pairs_json properties.now) }
 {
     let members = pair_members(alloc, properties.iter().as_slice())?;

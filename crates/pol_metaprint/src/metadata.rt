@@ -56,7 +56,8 @@ fn with_table(alloc: Global, members: Members, meta: &TableMetadata) -> Result<M
     with_text(alloc, members, keys::TABLE_UUID, uuid.as_str())
 }
 
-fn uuid_text(alloc: Global, uuid: Uuid) -> Result<Text, OutOfMemory>
+/// The text of a uuid, in small letters with hyphens.
+pub fn uuid_text(alloc: Global, uuid: Uuid) -> Result<Text, OutOfMemory>
     ensures { IfOk result (λ text. text ≡ hyphenated_text lower uuid) }
 {
     let mut buffer = Uuid::encode_buffer();

@@ -19,7 +19,7 @@ pub trait Printed {
 }
 
 /// A list.
-pub(crate) fn list<T: Printed>(alloc: Global, items: &[T]) -> Result<Value, OutOfMemory>
+pub fn list<T: Printed>(alloc: Global, items: &[T]) -> Result<Value, OutOfMemory>
     ensures { IfOk result (λ value. view value ≡ spec.list_json T.json items.now) }
 {
     let mut values = Vec::with_capacity(alloc, items.len())?;

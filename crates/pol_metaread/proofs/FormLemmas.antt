@@ -62,7 +62,7 @@ list_holds P grammar each name d values ordered so =
     items_hold P grammar each so.2.0 values (subst IsOrdered so.2.1 held) so.2.2
 
 -- numbers, there or absent
-is_long : (n : ℕ) → n ≤ 9223372036854775807 → IsLong n
+pub is_long : (n : ℕ) → n ≤ 9223372036854775807 → IsLong n
 is_long n most = omega (arith, most)
 
 given_long : (name : List ℕ) (d : Data) (given : Option ℕ) → MayHaveField name (IsWhole 0 9223372036854775807) d given
@@ -81,7 +81,7 @@ given_kept name d None so = tt
 given_kept name d (Some n) so = record { least = so.3.1; most = is_long n so.3.2 }
 
 -- schemas, specs and orders
-schema_holds : (d : Data) (value : Schema) → IsOrdered d → numbered_schema.stands d value → IsSchema value
+pub schema_holds : (d : Data) (value : Schema) → IsOrdered d → numbered_schema.stands d value → IsSchema value
 unfolding numbered_schema
 schema_holds d value ordered so =
     let form = schema_formed d so.0 so.1 in

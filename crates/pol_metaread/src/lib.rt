@@ -9,4 +9,4 @@ mod stored;
 
 pub use ids::Long;
 pub use metadata::read_table;
-pub use stored::Stored;
+pub use stored::{Stored, parts};

@@ -31,10 +31,7 @@ impl<T> Stored<T> {
 }
 
 /// The parts that are read of the members of a list.
-pub(crate) fn parts<T: Drop>(
-    alloc: Global,
-    stored: Listed<Stored<T>>,
-) -> Result<Listed<T>, OutOfMemory>
+pub fn parts<T: Drop>(alloc: Global, stored: Listed<Stored<T>>) -> Result<Listed<T>, OutOfMemory>
     ensures { IfOk result (λ parts. parts ≡ stored) }
 {
     let stored: Vec<Stored<T>> = stored.into();

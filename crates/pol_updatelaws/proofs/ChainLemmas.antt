@@ -1,7 +1,6 @@
 -- What the outcome of a chain of rules says of its steps.
 use Rattle.std.proofs.Common.{◌≡◌, Bool, true, false, Result, Ok, Err, refl, subst, if◌then◌else◌}
 use Rattle.pol_drafts.specs.Drafts.{and_then}
-use Rattle.pol_drafts.specs.declared.draft.Draft.{Draft}
 use Rattle.pol_meta.specs.declared.why.Why.{Why}
 
 -- a rule that refuses nothing, and what comes after it
@@ -17,15 +16,15 @@ goes_on (Ok value) after final told = (value, refl, told)
 goes_on (Err why) after final told = absurd (cc)
 
 -- what holds of a draft holds of the one that an update makes
-pub same_kept : (P : Draft → Type 0) (refuses : Bool) (why : Why) (d next : Draft) → P d
+pub same_kept : {D : Type 0} (P : D → Type 0) (refuses : Bool) (why : Why) (d next : D) → P d
     → (if refuses then Ok d else Err why) ≡ Ok next → P next
-same_kept P true why d next holds told =
-    let step : ◌≡◌ {A = Result Draft Why} (Ok d) (Ok next) = told in
+same_kept {D} P true why d next holds told =
+    let step : ◌≡◌ {A = Result D Why} (Ok d) (Ok next) = told in
     let same : d ≡ next = cc in
     subst P same holds
-same_kept P false why d next holds told = absurd (cc)
+same_kept {D} P false why d next holds told = absurd (cc)
 
-pub made_kept : (P : Draft → Type 0) (made next : Draft) → P made → ◌≡◌ {A = Result Draft Why} (Ok made) (Ok next) → P next
+pub made_kept : {D : Type 0} (P : D → Type 0) (made next : D) → P made → ◌≡◌ {A = Result D Why} (Ok made) (Ok next) → P next
 made_kept P made next holds told =
     let same : made ≡ next = cc in
     subst P same holds

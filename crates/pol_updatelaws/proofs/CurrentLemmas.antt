@@ -93,4 +93,4 @@ pub current_is_main : CurrentIsMain
 current_is_main meta version moment updates made current told =
     after_cases HasMain meta version moment updates made told current (λ d done.
     finished_has_main meta version moment d
-    (each_keeps DraftHasMain (λ update. ⊤) moment (one_keeps moment) 0 updates (begun meta) d (λ k other within. tt) current done))
+    (each_keeps (after_one moment) DraftHasMain (λ update. ⊤) (one_keeps moment) 0 updates (begun meta) d (λ k other within. tt) current done))

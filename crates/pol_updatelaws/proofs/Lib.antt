@@ -1,13 +1,13 @@
-mod ChainLemmas
+pub mod ChainLemmas
 mod CurrentLemmas
 pub mod ListLemmas
-mod MemberLemmas
+pub mod MemberLemmas
 mod OrderLemmas
 mod RefLemmas
 mod SchemaLemmas
 mod SequenceLemmas
 mod SnapshotLemmas
 mod SpecLemmas
-mod SumLemmas
+pub mod SumLemmas
 pub mod ValidLemmas
-mod WeightLemmas
+pub mod WeightLemmas

@@ -69,7 +69,7 @@ is_among id (other ∷ ids) has = among (other == id) refl (λ found. is_among i
     among false is later found = Contains-append_right (other ∷ []) ids id (later found)
 
 -- what a filter of ids leaves
-distinct_filter : (keep : ℕ → Bool) (ids : List ℕ) → IsDistinct nat_eq ids → IsDistinct nat_eq (filter keep ids)
+pub distinct_filter : (keep : ℕ → Bool) (ids : List ℕ) → IsDistinct nat_eq ids → IsDistinct nat_eq (filter keep ids)
 unfolding IsDistinct
 distinct_filter keep [] apart = apart
 distinct_filter keep (id ∷ ids) apart =

@@ -120,5 +120,5 @@ pub sequence_rises : SequenceRises
 sequence_rises meta version moment updates made rises told =
     after_cases Rises meta version moment updates made told rises (λ d done.
     finished_rises meta version moment d
-    (each_keeps DraftRises (λ update. ⊤) moment (one_keeps moment) 0 updates (begun meta) d (λ k other within. tt)
+    (each_keeps (after_one moment) DraftRises (λ update. ⊤) (one_keeps moment) 0 updates (begun meta) d (λ k other within. tt)
     (record { rising = rises.rising; last = rises.last }) done))

@@ -318,4 +318,4 @@ pub stays_valid : StaysValid
 stays_valid meta version moment updates made valid forms within told =
     after_cases IsValid meta version moment updates made told valid (λ d done.
     finished_valid meta version moment d valid within
-    (each_keeps IsSound HasForm moment (one_keeps moment within) 0 updates (begun meta) d forms (begun_sound meta valid) done))
+    (each_keeps (after_one moment) IsSound HasForm (one_keeps moment within) 0 updates (begun meta) d forms (begun_sound meta valid) done))

@@ -54,7 +54,7 @@ below_only Equal is = refl
 below_only Greater is = absurd (cc)
 
 -- properties that are set and taken away
-abbrev property_weight : Property → ℕ
+abbrev pub property_weight : Property → ℕ
 property_weight pair = 64 + pair_weight pair
 
 value_weighs : (pair : Property) (pairs : List Property)
@@ -64,7 +64,7 @@ value_weighs pair pairs =
     sum_placed property_weight (λ kept. is_lt (properties.compared pair.key kept)) (λ kept. is_gt (properties.compared pair.key kept))
     pairs pair (λ kept. below_only (properties.compared pair.key kept))
 
-all_set_weighs : (updates pairs : List Property)
+pub all_set_weighs : (updates pairs : List Property)
     → sum_by property_weight (all_set updates pairs) ≤ sum_by property_weight pairs + sum_by property_weight updates
 all_set_weighs [] pairs = omega arith
 all_set_weighs (pair ∷ updates) pairs =
@@ -75,7 +75,7 @@ key_weighs : (key : List ℕ) (pairs : List Property)
 unfolding without_key
 key_weighs key pairs = sum_filter property_weight (λ kept. not (properties.has_key key kept)) pairs
 
-all_removed_weighs : (removals : List (List ℕ)) (pairs : List Property)
+pub all_removed_weighs : (removals : List (List ℕ)) (pairs : List Property)
     → sum_by property_weight (all_removed removals pairs) ≤ sum_by property_weight pairs
 all_removed_weighs [] pairs = omega arith
 all_removed_weighs (key ∷ removals) pairs =
@@ -222,7 +222,7 @@ unfolding parse_refusal
 parsed_bounded text told = location_bounded (segments_of text)
     (parse_none (starts_with nat_eq text scheme) (nat_lt 1024 (length text)) (location_refusal (segments_of text)) told)
 
-settled_weighs : (text : List ℕ) → length (settled text) ≤ length text + 1024
+pub settled_weighs : (text : List ℕ) → length (settled text) ≤ length text + 1024
 settled_weighs text = by_refusal (parse_refusal text) refl
   where
     by_refusal : (refusal : Option LocationRefused) → parse_refusal text ≡ refusal
@@ -270,5 +270,5 @@ pub weight_keeps_bound : WeightKeepsBound
 weight_keeps_bound meta version moment updates made light some within told =
     after_cases (λ made. metadata_weight made ≤ 2 ^ 40) meta version moment updates made told (omega (arith, light)) (λ d done.
     let grown : metadata_weight d.meta ≤ metadata_weight meta + updates_weight updates =
-    each_sums (λ d. metadata_weight d.meta) update_weight moment (one_grows moment) 0 updates (begun meta) d done in
+    each_sums (after_one moment) (λ d. metadata_weight d.meta) update_weight (one_grows moment) 0 updates (begun meta) d done in
     omega (arith, grown, light, some, finished_weighs meta version moment d within))

@@ -12,7 +12,7 @@ use Rattle.pol_meta.specs.declared.snapshot.Snapshot.{Snapshot}
 use Rattle.pol_drafts.proofs.PartitionLemmas.{drop_here}
 use Rattle.pol_drafts.specs.Drafts.{Becomes, begun}
 use Rattle.pol_updates.specs.Snapshots.{has_snapshot}
-use Rattle.pol_updates.specs.Updates.{IsRefusal, after_each, after_one, is_there, metadata_after, refused_at, settled}
+use Rattle.pol_updates.specs.Updates.{IsRefusal, after_each, after_one, in_turn, is_there, metadata_after, refused_at, settled}
 use Rattle.pol_updates.specs.declared.refused.ApplyRefused.{ApplyRefused}
 use Rattle.pol_updates.specs.declared.refused.ApplyRefused.TheVariants.{OutOfMemory, Refused}
 use Rattle.pol_drafts.specs.declared.stop.Stop.{Stop}
@@ -22,14 +22,14 @@ use Rattle.pol_updates.specs.declared.update.Update.{Update}
 
 -- an update that is applied leaves those after it to the draft that it makes
 pub after_next : (moment index : ℕ) (updates : List Update) (i : ℕ) (update : Update) (d next : Draft) → i < length updates → update ≡ get_or updates i update → after_one moment update d ≡ Ok next → after_each moment index (drop i updates) d ≡ after_each moment (index + 1) (drop (i + 1) updates) next
-unfolding after_each
+unfolding after_each in_turn
 after_next moment index updates i update d next within here made =
     let step = drop_here updates i update within here in
     rw (step, made)
 
 -- one that is refused ends the list
 pub after_stop : (moment index : ℕ) (updates : List Update) (i : ℕ) (update : Update) (d now : Draft) (stopped : Stop) → i < length updates → update ≡ get_or updates i update → Becomes {A = Unit {0}} (after_one moment update d) (Err stopped) now → IsRefusal (after_each moment index (drop i updates) d) (refused_at index stopped)
-unfolding after_each
+unfolding after_each in_turn
 after_stop moment index updates i update d now stop.OutOfMemory within here refused = tt
 after_stop moment index updates i update d now (stop.Refused why) within here refused =
     let step = drop_here updates i update within here in
@@ -37,7 +37,7 @@ after_stop moment index updates i update d now (stop.Refused why) within here re
 
 -- after the last update the draft is made
 pub after_end : (moment index : ℕ) (updates : List Update) (i : ℕ) (d : Draft) → length updates ≤ i → after_each moment index (drop i updates) d ≡ Ok d
-unfolding after_each
+unfolding after_each in_turn
 after_end moment index updates i d past = rw (drop_all i updates past)
 
 pub ruleset turns = (after_next, after_stop, after_end)

@@ -52,15 +52,20 @@ pub record Place : Type 0 where
   pub why : Why
 
 -- the place of an update in its list is told with its reason
-abbrev pub at_place : ℕ → Result Draft Why → (Draft → Result Draft Place) → Result Draft Place
+abbrev pub at_place : {D : Type 0} → ℕ → Result D Why → (D → Result D Place) → Result D Place
 at_place index (Ok next) after = after next
 at_place index (Err why) after = Err (record { index = index; why = why })
 
--- updates one after another, the first of them at this place of the list; the first that is refused ends it
+-- updates one after another, where a rule says what one makes of a draft; the first of them stands at this place of the
+-- list, and the first that is refused ends it
+unfoldable pub in_turn : {U D : Type 0} → (U → D → Result D Why) → ℕ → List U → D → Result D Place
+in_turn step index [] d = Ok d
+in_turn step index (update ∷ updates) d =
+    at_place index (step update d) (λ next. in_turn step (index + 1) updates next)
+
+-- the updates of a table so, at a moment
 unfoldable pub after_each : ℕ → ℕ → List Update → Draft → Result Draft Place
-after_each moment index [] d = Ok d
-after_each moment index (update ∷ updates) d =
-    at_place index (after_one moment update d) (λ next. after_each moment (index + 1) updates next)
+after_each moment index updates d = in_turn (after_one moment) index updates d
 
 -- what may be answered in place of a result
 abbrev pub IsRefusal : {A : Type 0} → Result A Place → ApplyRefused → Type 0
@@ -110,12 +115,18 @@ finished former version moment meta = record meta {
 }
 
 -- what is made of the draft after a list
-abbrev pub finished_of : (Draft → TableMetadata) → Result Draft Place → Result TableMetadata Place
+abbrev pub finished_of : {D M : Type 0} → (D → M) → Result D Place → Result M Place
 finished_of finish (Ok d) = Ok (finish d)
 finished_of finish (Err place) = Err place
 
--- the metadata after a list of updates; an empty list changes nothing
+-- what is made of a list of updates that leads to this: an empty list changes nothing, and after the whole of any other
+-- its draft is finished
+abbrev pub made_of : {U D M : Type 0} → (D → M) → M → List U → Result D Place → Result M Place
+made_of finish same updates outcome =
+    if length updates == 0 then Ok same
+    else finished_of finish outcome
+
+-- the metadata after a list of updates
 unfoldable pub metadata_after : TableMetadata → ℕ → List Update → ℕ → Result TableMetadata Place
 metadata_after meta version updates moment =
-    if length updates == 0 then Ok meta
-    else finished_of (λ d. finished meta version moment d.meta) (after_each moment 0 updates (begun meta))
+    made_of (λ d. finished meta version moment d.meta) meta updates (after_each moment 0 updates (begun meta))

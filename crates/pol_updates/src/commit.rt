@@ -91,7 +91,7 @@ fn apply_each<L: Ledger>(
 }
 
 /// The refusal of an update at a place.
-fn refused_at(index: usize, stop: Stop) -> ApplyRefused
+pub fn refused_at(index: usize, stop: Stop) -> ApplyRefused
     ensures { result ≡ refused_at index stop }
 {
     match stop {
@@ -236,7 +236,11 @@ fn there_at_end(ids: &IndexSet<u64>, log: &[SnapshotLogEntry]) -> usize
 }
 
 /// The last so many items, or all where there are fewer.
-fn last_items<T: Drop>(alloc: Global, items: Vec<T>, count: usize) -> Result<Vec<T>, OutOfMemory>
+pub fn last_items<T: Drop>(
+    alloc: Global,
+    items: Vec<T>,
+    count: usize,
+) -> Result<Vec<T>, OutOfMemory>
     ensures { IfOk result (λ last. last.items ≡ last_items count items.items) }
 {
     let mut items = items;
@@ -244,7 +248,7 @@ fn last_items<T: Drop>(alloc: Global, items: Vec<T>, count: usize) -> Result<Vec
 }
 
 /// The text of a location as it is printed. A text that is no location stays.
-fn settled(alloc: Global, text: &str) -> Result<Text, OutOfMemory>
+pub fn settled(alloc: Global, text: &str) -> Result<Text, OutOfMemory>
     ensures { IfOk result (λ made. made ≡ settled text.now) }
 {
     match Location::parse(alloc, text) {

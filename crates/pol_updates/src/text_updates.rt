@@ -54,7 +54,8 @@ pub fn remove_properties(draft: &mut Draft, removals: &[Text])
     remove_all(&mut draft.meta.properties, removals);
 }
 
-fn set_all(properties: &mut Properties, updates: &Properties) -> Result<(), OutOfMemory>
+/// Sets each of these pairs.
+pub fn set_all(properties: &mut Properties, updates: &Properties) -> Result<(), OutOfMemory>
     ensures { OnOk result (properties.new ≡ all_set updates.now properties.old) }
 {
     let pairs = updates.iter().as_slice();
@@ -64,7 +65,8 @@ fn set_all(properties: &mut Properties, updates: &Properties) -> Result<(), OutO
     Ok(())
 }
 
-fn remove_all(properties: &mut Properties, removals: &[Text])
+/// Takes each of these keys away.
+pub fn remove_all(properties: &mut Properties, removals: &[Text])
     ensures { properties.new ≡ all_removed removals.now properties.old }
 {
     for key in removals {

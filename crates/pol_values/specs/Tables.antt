@@ -13,17 +13,18 @@ use Rattle.pol_metajson.specs.Table.{create_table}
 use Rattle.pol_metajson.specs.declared.table.CreateTable.{CreateTable}
 use Rattle.pol_metaprint.specs.Metadata.{table_json}
 
--- where a table lies: where it is asked to, or below one location by its name
-abbrev pub location_of : CreateTable → List ℕ
-location_of request = unwrap_or request.location (codes "lake://b/" ++ request.name)
+-- where a table or a view lies: where it is asked to, or below one location by its name
+abbrev pub location_of : Option (List ℕ) → List ℕ → List ℕ
+location_of location name = unwrap_or location (codes "lake://b/" ++ name)
 
--- the metadata of a table that is asked for, with one uuid and at one moment
+-- the uuid of each table and view that is made
 abbrev pub uuid : List ℕ
 uuid = 0 ∷ 1 ∷ 2 ∷ 3 ∷ 4 ∷ 5 ∷ 6 ∷ 7 ∷ 8 ∷ 9 ∷ 10 ∷ 11 ∷ 12 ∷ 13 ∷ 14 ∷ 15 ∷ []
 
+-- the metadata of a table that is asked for, at one moment
 abbrev pub made : CreateTable → TableMetadata
 made request =
-    created uuid (location_of request) request.schema request.partition_spec request.write_order request.properties 1000
+    created uuid (location_of request.location request.name) request.schema request.partition_spec request.write_order request.properties 1000
 
 -- why no such table is made
 abbrev pub refusal : CreateTable → Option Why

@@ -10,6 +10,7 @@ use Rattle.pol_locations.specs.LocationRefused.{word_of}
 use Rattle.pol_locations.specs.declared.refused.LocationRefused.{LocationRefused}
 use Rattle.pol_values.specs.Commits.{TellsCommit, TellsTransaction}
 use Rattle.pol_values.specs.Tables.{TellsMetadata, TellsTable}
+use Rattle.pol_values.specs.Views.{TellsView, TellsViewCommit, TellsViewMetadata}
 use Rattle.pol_values.specs.declared.values.Question.{Question}
 use Rattle.pol_values.specs.declared.values.Question.TheVariants as question
 use Rattle.pol_values.specs.declared.values.Value.{Value}
@@ -84,6 +85,9 @@ Tells question.TableRequest arguments told = OfOne (λ body. TellsTable body tol
 Tells question.TableMetadata arguments told = OfOne (λ text. TellsMetadata text told) arguments
 Tells question.TableCommit arguments told = OfTwo (λ text body. TellsCommit text body told) arguments
 Tells question.TableTransaction arguments told = OfOne (λ body. TellsTransaction body told) arguments
+Tells question.ViewRequest arguments told = OfOne (λ body. TellsView body told) arguments
+Tells question.ViewMetadata arguments told = OfOne (λ text. TellsViewMetadata text told) arguments
+Tells question.ViewCommit arguments told = OfTwo (λ text body. TellsViewCommit text body told) arguments
 
 -- a value is told to be what is wanted
 abbrev pub IsAsWanted : Value → Type 0

@@ -8,6 +8,7 @@ mod escapes;
 mod tables;
 mod unread;
 mod values;
+mod views;
 
 pub use difference::Difference;
 pub use escapes::{shown, unescaped, unescaped_text};

@@ -10,12 +10,14 @@ use pol_meta::{CreateRefused, TableMetadata};
 use pol_metajson::{CreateTable, read_create_table};
 use pol_metalaws::table_text;
 use pol_metaread::read_table;
+use pol_names::Name;
 use pol_readers::ReadError;
+use pol_types::Text;
 use std::alloc::{AllocError, Global};
 use uuid::Uuid;
 
-/// The moment at which tables are made, in milliseconds since the Unix epoch.
-const MOMENT: u64 = 1000;
+/// The moment at which tables and views are made, in milliseconds since the Unix epoch.
+pub(crate) const CREATED: u64 = 1000;
 
 /// How the body of a table is told: by the metadata that it makes, by its first bad field, or by why no table is made.
 pub(crate) fn table(alloc: Global, body: &str) -> Result<String, Unread>
@@ -56,7 +58,7 @@ fn created(alloc: Global, request: CreateTable) -> Result<TableMetadata, CreateR
     ensures passes { OnOk result (spec.refusal request ≡ None) }
     ensures refused { IfErr result (IsCreateRefusal request.schema request.partition_spec request.write_order) }
 {
-    let location = location_of(alloc, &request)?;
+    let location = location_of(alloc, &request.location, &request.name)?;
     let CreateTable {
         schema,
         partition_spec,
@@ -64,27 +66,37 @@ fn created(alloc: Global, request: CreateTable) -> Result<TableMetadata, CreateR
         properties,
         ..
     } = request;
-    let uuid = Uuid::from_bytes([0, 1, 2, 3, 4, 5, 6, 7, 8, 9, 10, 11, 12, 13, 14, 15]);
     TableMetadata::create(
         alloc,
-        uuid,
+        made_uuid(),
         location.as_str(),
         schema,
         partition_spec,
         write_order,
         properties,
-        MOMENT,
+        CREATED,
     )
 }
 
-/// Where a table lies: where it is asked to, or below `lake://b` by its name.
-fn location_of(alloc: Global, request: &CreateTable) -> Result<String, AllocError>
-    ensures { IfOk result (λ location. string_bytes location ≡ spec.location_of request.now) }
+/// The uuid of each table and view that is made.
+pub(crate) fn made_uuid() -> Uuid
+    ensures { result ≡ spec.uuid }
 {
-    match &request.location {
+    Uuid::from_bytes([0, 1, 2, 3, 4, 5, 6, 7, 8, 9, 10, 11, 12, 13, 14, 15])
+}
+
+/// Where a table or a view lies: where it is asked to, or below `lake://b` by its name.
+pub(crate) fn location_of(
+    alloc: Global,
+    location: &Option<Text>,
+    name: &Name,
+) -> Result<String, AllocError>
+    ensures { IfOk result (λ text. string_bytes text ≡ spec.location_of location.now name.now) }
+{
+    match location {
         Some(location) => String::from_str(alloc, location.as_str()),
         None => {
-            let name = request.name.as_str();
+            let name = name.as_str();
             format!(in alloc; "lake://b/{name}")
         }
     }

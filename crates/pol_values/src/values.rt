@@ -8,6 +8,7 @@ use crate::difference::Difference;
 use crate::escapes::{shown, unescaped, unescaped_text};
 use crate::tables::{metadata, table};
 use crate::unread::Unread;
+use crate::views::{view, view_commit, view_metadata};
 use pol_locations::{Location, LocationRefused, covers, overlaps};
 use pol_names::{Name, NameRefused, Namespace, NamespaceRefused, Plain};
 use pol_types::Text;
@@ -39,6 +40,9 @@ pub enum Question {
     TableMetadata,
     TableCommit,
     TableTransaction,
+    ViewRequest,
+    ViewMetadata,
+    ViewCommit,
 }
 
 impl Value {
@@ -99,6 +103,9 @@ impl Question {
             "table-metadata" => Some(Question::TableMetadata),
             "table-commit" => Some(Question::TableCommit),
             "table-transaction" => Some(Question::TableTransaction),
+            "view-request" => Some(Question::ViewRequest),
+            "view-metadata" => Some(Question::ViewMetadata),
+            "view-commit" => Some(Question::ViewCommit),
             _ => None,
         }
     }
@@ -121,6 +128,9 @@ fn told(alloc: Global, question: Question, arguments: &[Text]) -> Result<String,
         (Question::TableMetadata, [text]) => metadata(alloc, text.as_str()),
         (Question::TableCommit, [meta, body]) => commit(alloc, meta.as_str(), body.as_str()),
         (Question::TableTransaction, [body]) => transaction(alloc, body.as_str()),
+        (Question::ViewRequest, [body]) => view(alloc, body.as_str()),
+        (Question::ViewMetadata, [text]) => view_metadata(alloc, text.as_str()),
+        (Question::ViewCommit, [meta, body]) => view_commit(alloc, meta.as_str(), body.as_str()),
         _ => Err(Unread::Form),
     }
 }

@@ -1,0 +1,4 @@
+pub mod DepthLemmas
+pub mod FormLemmas
+pub mod ReadLemmas
+pub mod WholeLemmas

@@ -1,0 +1,13 @@
+pub mod Creation
+pub mod Exactness
+pub mod Forms
+pub mod Laws
+pub mod Left
+pub mod Requirements
+pub mod Schemas
+pub mod Texts
+pub mod Updates
+pub mod Valid
+pub mod Versions
+pub mod Weight
+pub mod Weights
