@@ -1,9 +1,10 @@
 //! The forms of catalogues and namespaces.
+ghost use Rattle.std.specs.Prelude.{⊤};
 ghost use Rattle.pol_codec.specs.Rows as rows;
 
 use crate::Rows;
 use pol_content::{CatalogRow, NamespaceRow};
-use pol_forms::{ByteForm, CodecRefused, Coder, Unread};
+use pol_forms::{CodecRefused, Coder, Common, ListOf, Unread};
 use pol_locations::Location;
 use pol_names::{Namespace, Plain};
 use pol_properties::Properties;
@@ -14,20 +15,22 @@ use std::alloc::Global;
 impl Coder<CatalogRow> for Rows {
     ghost form = { rows.catalog };
 
+    ghost rule = { λ row. ⊤ };
+
     fn write(row: &CatalogRow, written: &mut Vec<u8>) -> Result<(), OutOfMemory> {
-        row.id.write(written)?;
-        row.name.write(written)?;
-        row.base.write(written)?;
-        row.allowed.write(written)?;
-        row.properties.write(written)
+        Common::write(&row.id, written)?;
+        Common::write(&row.name, written)?;
+        Common::write(&row.base, written)?;
+        ListOf::<Common>::write(&row.allowed, written)?;
+        Common::write(&row.properties, written)
     }
 
     fn read(alloc: Global, unread: &mut Unread<'_>) -> Result<CatalogRow, CodecRefused> {
-        let id = u64::read(alloc, unread)?;
-        let name = Plain::read(alloc, unread)?;
-        let base = Location::read(alloc, unread)?;
-        let allowed = Listed::<Location>::read(alloc, unread)?;
-        let properties = Properties::read(alloc, unread)?;
+        let id: u64 = Common::read(alloc, unread)?;
+        let name: Plain = Common::read(alloc, unread)?;
+        let base: Location = Common::read(alloc, unread)?;
+        let allowed: Listed<Location> = ListOf::<Common>::read(alloc, unread)?;
+        let properties: Properties = Common::read(alloc, unread)?;
         Ok(CatalogRow {
             id,
             name,
@@ -42,18 +45,20 @@ impl Coder<CatalogRow> for Rows {
 impl Coder<NamespaceRow> for Rows {
     ghost form = { rows.namespace_row };
 
+    ghost rule = { λ row. ⊤ };
+
     fn write(row: &NamespaceRow, written: &mut Vec<u8>) -> Result<(), OutOfMemory> {
-        row.id.write(written)?;
-        row.catalog.write(written)?;
-        row.levels.write(written)?;
-        row.properties.write(written)
+        Common::write(&row.id, written)?;
+        Common::write(&row.catalog, written)?;
+        Common::write(&row.levels, written)?;
+        Common::write(&row.properties, written)
     }
 
     fn read(alloc: Global, unread: &mut Unread<'_>) -> Result<NamespaceRow, CodecRefused> {
-        let id = u64::read(alloc, unread)?;
-        let catalog = u64::read(alloc, unread)?;
-        let levels = Namespace::read(alloc, unread)?;
-        let properties = Properties::read(alloc, unread)?;
+        let id: u64 = Common::read(alloc, unread)?;
+        let catalog: u64 = Common::read(alloc, unread)?;
+        let levels: Namespace = Common::read(alloc, unread)?;
+        let properties: Properties = Common::read(alloc, unread)?;
         Ok(NamespaceRow {
             id,
             catalog,

@@ -1,5 +1,5 @@
 //! The form of a privilege: one byte, its number.
-ghost use Rattle.std.specs.Prelude.{◌≡◌};
+ghost use Rattle.std.specs.Prelude.{◌≡◌, ⊤};
 ghost use Rattle.pol_access.specs.Privilege.{privilege_number};
 ghost use Rattle.pol_codec.specs.Rows as rows;
 
@@ -42,6 +42,8 @@ const PRIVILEGES: [Privilege; 26] = [
 #[tactic(auto, unfolding(crate::specs::Rows::privilege))]
 impl Coder<Privilege> for Rows {
     ghost form = { rows.privilege };
+
+    ghost rule = { λ row. ⊤ };
 
     fn write(row: &Privilege, written: &mut Vec<u8>) -> Result<(), OutOfMemory> {
         Ok(written.push(number_of(*row))?)

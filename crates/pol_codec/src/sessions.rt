@@ -1,8 +1,9 @@
 //! The forms of scopes and sessions.
+ghost use Rattle.std.specs.Prelude.{⊤};
 ghost use Rattle.pol_codec.specs.Rows as rows;
 
 use crate::Rows;
-use pol_forms::{ByteForm, CodecRefused, Coder, Unread, write_variant};
+use pol_forms::{CodecRefused, Coder, Common, ListOf, Unread, write_variant};
 use pol_names::Scope;
 use pol_tokens::SessionRow;
 use pol_types::{Listed, OutOfMemory};
@@ -13,17 +14,19 @@ use std::alloc::Global;
 impl Coder<Scope> for Rows {
     ghost form = { rows.scope };
 
+    ghost rule = { λ row. ⊤ };
+
     fn write(row: &Scope, written: &mut Vec<u8>) -> Result<(), OutOfMemory> {
         match row {
             Scope::All => Ok(written.push(0)?),
-            Scope::Roles(ids) => write_variant(1, ids, written),
+            Scope::Roles(ids) => write_variant::<Listed<u64>, ListOf<Common>>(1, ids, written),
         }
     }
 
     fn read(alloc: Global, unread: &mut Unread<'_>) -> Result<Scope, CodecRefused> {
         match unread.byte()? {
             0 => Ok(Scope::All),
-            1 => Ok(Scope::Roles(Listed::<u64>::read(alloc, unread)?)),
+            1 => Ok(Scope::Roles(ListOf::<Common>::read(alloc, unread)?)),
             _ => Err(CodecRefused::NoForm),
         }
     }
@@ -33,22 +36,24 @@ impl Coder<Scope> for Rows {
 impl Coder<SessionRow> for Rows {
     ghost form = { rows.session };
 
+    ghost rule = { λ row. ⊤ };
+
     fn write(row: &SessionRow, written: &mut Vec<u8>) -> Result<(), OutOfMemory> {
-        row.serial.write(written)?;
-        row.word_a.write(written)?;
-        row.word_b.write(written)?;
-        row.principal.write(written)?;
-        <Rows as Coder<Scope>>::write(&row.scope, written)?;
-        row.expires.write(written)
+        Common::write(&row.serial, written)?;
+        Common::write(&row.word_a, written)?;
+        Common::write(&row.word_b, written)?;
+        Common::write(&row.principal, written)?;
+        Rows::write(&row.scope, written)?;
+        Common::write(&row.expires, written)
     }
 
     fn read(alloc: Global, unread: &mut Unread<'_>) -> Result<SessionRow, CodecRefused> {
-        let serial = u64::read(alloc, unread)?;
-        let word_a = u64::read(alloc, unread)?;
-        let word_b = u64::read(alloc, unread)?;
-        let principal = u64::read(alloc, unread)?;
-        let scope = <Rows as Coder<Scope>>::read(alloc, unread)?;
-        let expires = u64::read(alloc, unread)?;
+        let serial: u64 = Common::read(alloc, unread)?;
+        let word_a: u64 = Common::read(alloc, unread)?;
+        let word_b: u64 = Common::read(alloc, unread)?;
+        let principal: u64 = Common::read(alloc, unread)?;
+        let scope: Scope = Rows::read(alloc, unread)?;
+        let expires: u64 = Common::read(alloc, unread)?;
         Ok(SessionRow {
             serial,
             word_a,

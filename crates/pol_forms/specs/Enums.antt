@@ -141,3 +141,8 @@ module _ {A : Type 0} (form : Form A) where
 
   unfoldable pub optional : Form (Option A)
   optional = enum optional_written optional_variants optional_read_back
+
+-- a value that may be absent keeps a rule
+abbrev pub IfPresent : {A : Type 0} → (A → Type 0) → Option A → Type 0
+IfPresent rule None = ⊤
+IfPresent rule (Some value) = rule value

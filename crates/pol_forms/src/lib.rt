@@ -2,7 +2,6 @@
 #![tactic(auto)]
 
 mod coder;
-mod form;
 pub mod laws;
 mod lists;
 mod names;
@@ -10,8 +9,8 @@ mod refused;
 mod unread;
 mod values;
 
-pub use coder::{Coder, read_list_by, write_list_by};
-pub use form::{ByteForm, read_whole, write_whole};
-pub use lists::{read_list, write_list, write_variant};
+pub use coder::{Coder, read_whole, write_whole};
+pub use lists::{ListOf, Optional, read_list, write_list, write_variant};
 pub use refused::CodecRefused;
 pub use unread::Unread;
+pub use values::Common;

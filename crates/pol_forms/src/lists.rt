@@ -5,39 +5,54 @@ ghost use Rattle.pol_forms.specs.Enums as enums;
 ghost use Rattle.pol_forms.specs.Forms as forms;
 ghost use Rattle.pol_forms.specs.Reading.{GivesBy, times};
 
-use crate::{ByteForm, CodecRefused, Unread};
+use crate::{CodecRefused, Coder, Common, Unread};
 use pol_types::{Listed, OutOfMemory};
 use std::alloc::Global;
+use std::marker::PhantomData;
+
+/// What stands for the form of a list whose members have the form that `C` stands for.
+pub struct ListOf<C> {
+    member: PhantomData<C>,
+}
+
+/// What stands for the form of a value that may be absent.
+pub struct Optional<C> {
+    value: PhantomData<C>,
+}
 
 /// The number of members, and they.
-impl<F: ByteForm> ByteForm for Listed<F> {
-    ghost form = { forms.list F.form };
+impl<T: Drop, C: Coder<T>> Coder<Listed<T>> for ListOf<C> {
+    ghost form = { forms.list C.form };
 
-    fn write(&self, written: &mut Vec<u8>) -> Result<(), OutOfMemory> {
-        write_list(self.as_slice(), written)
+    ghost rule = { AllByRecursion C.rule };
+
+    fn write(value: &Listed<T>, written: &mut Vec<u8>) -> Result<(), OutOfMemory> {
+        write_list::<T, C>(value.as_slice(), written)
     }
 
-    fn read(alloc: Global, unread: &mut Unread<'_>) -> Result<Self, CodecRefused> {
-        Ok(Listed::from(read_list(alloc, unread)?))
+    fn read(alloc: Global, unread: &mut Unread<'_>) -> Result<Listed<T>, CodecRefused> {
+        Ok(Listed::from(read_list::<T, C>(alloc, unread)?))
     }
 }
 
 /// 0 where it is absent, else 1 and the value.
 #[tactic(auto, unfolding(crate::specs::Enums::optional))]
-impl<F: ByteForm> ByteForm for Option<F> {
-    ghost form = { enums.optional F.form };
+impl<T: Drop, C: Coder<T>> Coder<Option<T>> for Optional<C> {
+    ghost form = { enums.optional C.form };
 
-    fn write(&self, written: &mut Vec<u8>) -> Result<(), OutOfMemory> {
-        match self {
+    ghost rule = { enums.IfPresent C.rule };
+
+    fn write(value: &Option<T>, written: &mut Vec<u8>) -> Result<(), OutOfMemory> {
+        match value {
             None => Ok(written.push(0)?),
-            Some(value) => write_variant(1, value, written),
+            Some(value) => write_variant::<T, C>(1, value, written),
         }
     }
 
-    fn read(alloc: Global, unread: &mut Unread<'_>) -> Result<Self, CodecRefused> {
+    fn read(alloc: Global, unread: &mut Unread<'_>) -> Result<Option<T>, CodecRefused> {
         match unread.byte()? {
             0 => Ok(None),
-            1 => Ok(Some(F::read(alloc, unread)?)),
+            1 => Ok(Some(C::read(alloc, unread)?)),
             _ => Err(CodecRefused::NoForm),
         }
     }
@@ -45,24 +60,24 @@ impl<F: ByteForm> ByteForm for Option<F> {
 
 /// Writes the form of a list.
 #[tactic(auto, unfolding(crate::specs::Forms::list, crate::specs::Forms::number))]
-pub fn write_list<F: ByteForm>(members: &[F], written: &mut Vec<u8>) -> Result<(), OutOfMemory>
+pub fn write_list<T, C: Coder<T>>(members: &[T], written: &mut Vec<u8>) -> Result<(), OutOfMemory>
     ensures bytes { OnOk result (written.new.items
-        ≡ written.old.items ++ (forms.list F.form).write members.now) }
-    ensures holds { OnOk result ((forms.list F.form).holds members.now) }
+        ≡ written.old.items ++ (forms.list C.form).write members.now) }
+    ensures holds { OnOk result (AllByRecursion C.rule members.now → (forms.list C.form).holds members.now) }
 {
     let count = members.len() as u64;
-    count.write(written)?;
-    write_members(members, written)
+    Common::write(&count, written)?;
+    write_members::<T, C>(members, written)
 }
 
 /// Writes the members of a list.
-fn write_members<F: ByteForm>(members: &[F], written: &mut Vec<u8>) -> Result<(), OutOfMemory>
+fn write_members<T, C: Coder<T>>(members: &[T], written: &mut Vec<u8>) -> Result<(), OutOfMemory>
     ensures bytes { OnOk result (written.new.items
-        ≡ written.old.items ++ flat_map F.form.write members.now) }
-    ensures holds { OnOk result (AllByRecursion F.form.holds members.now) }
+        ≡ written.old.items ++ flat_map C.form.write members.now) }
+    ensures holds { OnOk result (AllByRecursion C.rule members.now → AllByRecursion C.form.holds members.now) }
 {
     for member in members {
-        member.write(written)?;
+        C::write(member, written)?;
     }
     Ok(())
 }
@@ -70,43 +85,43 @@ fn write_members<F: ByteForm>(members: &[F], written: &mut Vec<u8>) -> Result<()
 /// Reads the form of a list. Its members are read one after another, and no memory is taken for a number of them that
 /// isn't there.
 #[tactic(auto, unfolding(crate::specs::Forms::list, crate::specs::Forms::number))]
-pub fn read_list<F: ByteForm>(
+pub fn read_list<T: Drop, C: Coder<T>>(
     alloc: Global,
     unread: &mut Unread<'_>,
-) -> Result<Vec<F>, CodecRefused>
-    ensures { GivesBy (λ members. members.items) result unread.new ((forms.list F.form).read unread.old) }
+) -> Result<Vec<T>, CodecRefused>
+    ensures { GivesBy (λ members. members.items) result unread.new ((forms.list C.form).read unread.old) }
 {
-    let count = u64::read(alloc, unread)?;
-    read_members(alloc, count, unread)
+    let count: u64 = Common::read(alloc, unread)?;
+    read_members::<T, C>(alloc, count, unread)
 }
 
 /// Reads so many members.
-fn read_members<F: ByteForm>(
+fn read_members<T: Drop, C: Coder<T>>(
     alloc: Global,
     count: u64,
     unread: &mut Unread<'_>,
-) -> Result<Vec<F>, CodecRefused>
+) -> Result<Vec<T>, CodecRefused>
     ensures { GivesBy (λ members. members.items) result unread.new
-        (times F.form.read count unread.old) }
+        (times C.form.read count unread.old) }
 {
     let mut members = Vec::new(alloc);
     for _ in 0..count {
-        let member = F::read(alloc, unread)?;
+        let member = C::read(alloc, unread)?;
         members.push(member)?;
     }
     Ok(members)
 }
 
 /// Writes a variant of an enum: its place, and its fields.
-pub fn write_variant<F: ByteForm>(
+pub fn write_variant<T, C: Coder<T>>(
     place: u8,
-    fields: &F,
+    fields: &T,
     written: &mut Vec<u8>,
 ) -> Result<(), OutOfMemory>
     ensures bytes { OnOk result (written.new.items
-        ≡ written.old.items ++ place ∷ F.form.write fields.now) }
-    ensures holds { OnOk result (F.form.holds fields.now) }
+        ≡ written.old.items ++ place ∷ C.form.write fields.now) }
+    ensures holds { OnOk result (C.rule fields.now → C.form.holds fields.now) }
 {
     written.push(place)?;
-    fields.write(written)
+    C::write(fields, written)
 }

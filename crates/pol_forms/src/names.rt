@@ -1,12 +1,12 @@
 //! The forms of names, namespaces, locations and properties.
-ghost use Rattle.std.specs.Prelude.{◌≡◌, ◌++◌, OnOk, flat_map};
+ghost use Rattle.std.specs.Prelude.{◌≡◌, ◌++◌, OnOk, flat_map, ⊤};
 ghost use Rattle.std.specs.List.{AllByRecursion};
 ghost use Rattle.pol_forms.specs.Forms as forms;
 ghost use Rattle.pol_forms.specs.Names as names;
 
 use crate::lists::{read_list, write_list};
 use crate::values::{read_text, write_text};
-use crate::{ByteForm, CodecRefused, Unread};
+use crate::{CodecRefused, Coder, Common, Unread};
 use pol_locations::{Location, LocationRefused};
 use pol_names::{Name, NameRefused, Namespace, NamespaceRefused, Plain};
 use pol_properties::{Properties, Property};
@@ -15,14 +15,16 @@ use std::alloc::Global;
 
 /// A text that is a plain name.
 #[tactic(auto, using(crate::proofs::NameRules::plain_rules), unfolding(crate::specs::Names::plain))]
-impl ByteForm for Plain {
+impl Coder<Plain> for Common {
     ghost form = { names.plain };
 
-    fn write(&self, written: &mut Vec<u8>) -> Result<(), OutOfMemory> {
-        write_text(self.as_str(), written)
+    ghost rule = { λ value. ⊤ };
+
+    fn write(value: &Plain, written: &mut Vec<u8>) -> Result<(), OutOfMemory> {
+        write_text(value.as_str(), written)
     }
 
-    fn read(alloc: Global, unread: &mut Unread<'_>) -> Result<Self, CodecRefused> {
+    fn read(alloc: Global, unread: &mut Unread<'_>) -> Result<Plain, CodecRefused> {
         let text = read_text(alloc, unread)?;
         match Plain::new(alloc, text) {
             Ok(name) => Ok(name),
@@ -39,15 +41,17 @@ impl ByteForm for Plain {
 
 /// The list of its levels.
 #[tactic(auto, using(crate::proofs::NameRules::namespace_rules), unfolding(crate::specs::Names::namespace))]
-impl ByteForm for Namespace {
+impl Coder<Namespace> for Common {
     ghost form = { names.namespace };
 
-    fn write(&self, written: &mut Vec<u8>) -> Result<(), OutOfMemory> {
-        write_levels(self.levels(), written)
+    ghost rule = { λ value. ⊤ };
+
+    fn write(value: &Namespace, written: &mut Vec<u8>) -> Result<(), OutOfMemory> {
+        write_levels(value.levels(), written)
     }
 
-    fn read(alloc: Global, unread: &mut Unread<'_>) -> Result<Self, CodecRefused> {
-        let levels = read_list::<Text>(alloc, unread)?;
+    fn read(alloc: Global, unread: &mut Unread<'_>) -> Result<Namespace, CodecRefused> {
+        let levels = read_list::<Text, Common>(alloc, unread)?;
         match Namespace::from_levels(alloc, &levels) {
             Ok(namespace) => Ok(namespace),
             Err(NamespaceRefused::OutOfMemory) => Err(CodecRefused::OutOfMemory),
@@ -69,7 +73,7 @@ fn write_levels(levels: &[Name], written: &mut Vec<u8>) -> Result<(), OutOfMemor
     ensures holds { OnOk result ((forms.list forms.text).holds levels.now) }
 {
     let count = levels.len() as u64;
-    count.write(written)?;
+    Common::write(&count, written)?;
     write_each(levels, written)
 }
 
@@ -87,15 +91,17 @@ fn write_each(levels: &[Name], written: &mut Vec<u8>) -> Result<(), OutOfMemory>
 
 /// The list of its segments.
 #[tactic(auto, using(crate::proofs::NameRules::location_rules), unfolding(crate::specs::Names::location))]
-impl ByteForm for Location {
+impl Coder<Location> for Common {
     ghost form = { names.location };
 
-    fn write(&self, written: &mut Vec<u8>) -> Result<(), OutOfMemory> {
-        write_list(self.segments(), written)
+    ghost rule = { λ value. ⊤ };
+
+    fn write(value: &Location, written: &mut Vec<u8>) -> Result<(), OutOfMemory> {
+        write_list::<Text, Common>(value.segments(), written)
     }
 
-    fn read(alloc: Global, unread: &mut Unread<'_>) -> Result<Self, CodecRefused> {
-        let segments = read_list::<Text>(alloc, unread)?;
+    fn read(alloc: Global, unread: &mut Unread<'_>) -> Result<Location, CodecRefused> {
+        let segments = read_list::<Text, Common>(alloc, unread)?;
         match Location::of_segments(alloc, &segments) {
             Ok(location) => Ok(location),
             Err(LocationRefused::OutOfMemory) => Err(CodecRefused::OutOfMemory),
@@ -112,32 +118,36 @@ impl ByteForm for Location {
 
 /// The key, and the text under it.
 #[tactic(auto, unfolding(crate::specs::Names::property))]
-impl ByteForm for Property {
+impl Coder<Property> for Common {
     ghost form = { names.property };
 
-    fn write(&self, written: &mut Vec<u8>) -> Result<(), OutOfMemory> {
-        self.key.write(written)?;
-        self.value.write(written)
+    ghost rule = { λ value. ⊤ };
+
+    fn write(value: &Property, written: &mut Vec<u8>) -> Result<(), OutOfMemory> {
+        Common::write(&value.key, written)?;
+        Common::write(&value.value, written)
     }
 
-    fn read(alloc: Global, unread: &mut Unread<'_>) -> Result<Self, CodecRefused> {
-        let key = Text::read(alloc, unread)?;
-        let value = Text::read(alloc, unread)?;
+    fn read(alloc: Global, unread: &mut Unread<'_>) -> Result<Property, CodecRefused> {
+        let key: Text = Common::read(alloc, unread)?;
+        let value: Text = Common::read(alloc, unread)?;
         Ok(Property { key, value })
     }
 }
 
 /// The list of the pairs, whose keys ascend.
 #[tactic(auto, using(crate::proofs::PropertyLemmas::property_rules), unfolding(crate::specs::Names::properties))]
-impl ByteForm for Properties {
+impl Coder<Properties> for Common {
     ghost form = { names.properties };
 
-    fn write(&self, written: &mut Vec<u8>) -> Result<(), OutOfMemory> {
-        write_list(self.iter().as_slice(), written)
+    ghost rule = { λ value. ⊤ };
+
+    fn write(value: &Properties, written: &mut Vec<u8>) -> Result<(), OutOfMemory> {
+        write_list::<Property, Common>(value.iter().as_slice(), written)
     }
 
-    fn read(alloc: Global, unread: &mut Unread<'_>) -> Result<Self, CodecRefused> {
-        let pairs = read_list::<Property>(alloc, unread)?;
+    fn read(alloc: Global, unread: &mut Unread<'_>) -> Result<Properties, CodecRefused> {
+        let pairs = read_list::<Property, Common>(alloc, unread)?;
         if !keys_ascend(&pairs) {
             return Err(CodecRefused::NoForm);
         }

@@ -1,55 +1,64 @@
 //! The forms of numbers, truth values, digests and texts.
-ghost use Rattle.std.specs.Prelude.{◌≡◌, ◌++◌, OnOk};
+ghost use Rattle.std.specs.Prelude.{◌≡◌, ◌++◌, OnOk, ⊤};
 ghost use Rattle.pol_forms.specs.Enums as enums;
 ghost use Rattle.pol_forms.specs.Forms as forms;
 ghost use Rattle.pol_forms.specs.Reading.{GivesBy};
 
-use crate::{ByteForm, CodecRefused, Unread};
+use crate::{CodecRefused, Coder, Unread};
 use pol_types::{Bytes, OutOfMemory, Text};
 use std::alloc::Global;
 use std::str;
 
+/// What stands for the forms of numbers, texts, names, locations and properties.
+pub struct Common;
+
 /// Eight bytes, most significant first.
 #[tactic(auto, unfolding(crate::specs::Forms::number))]
-impl ByteForm for u64 {
+impl Coder<u64> for Common {
     ghost form = { forms.number };
 
-    fn write(&self, written: &mut Vec<u8>) -> Result<(), OutOfMemory> {
-        let number = *self;
+    ghost rule = { λ value. ⊤ };
+
+    fn write(value: &u64, written: &mut Vec<u8>) -> Result<(), OutOfMemory> {
+        let number = *value;
         Ok(written.extend_from_slice(&number.to_be_bytes())?)
     }
 
-    fn read(_alloc: Global, unread: &mut Unread<'_>) -> Result<Self, CodecRefused> {
+    fn read(_alloc: Global, unread: &mut Unread<'_>) -> Result<u64, CodecRefused> {
         Ok(u64::from_be_bytes(unread.array::<8>()?))
     }
 }
 
 /// Four bytes, most significant first.
 #[tactic(auto, unfolding(crate::specs::Forms::short_number))]
-impl ByteForm for u32 {
+impl Coder<u32> for Common {
     ghost form = { forms.short_number };
 
-    fn write(&self, written: &mut Vec<u8>) -> Result<(), OutOfMemory> {
-        let number = *self;
+    ghost rule = { λ value. ⊤ };
+
+    fn write(value: &u32, written: &mut Vec<u8>) -> Result<(), OutOfMemory> {
+        let number = *value;
         Ok(written.extend_from_slice(&number.to_be_bytes())?)
     }
 
-    fn read(_alloc: Global, unread: &mut Unread<'_>) -> Result<Self, CodecRefused> {
+    fn read(_alloc: Global, unread: &mut Unread<'_>) -> Result<u32, CodecRefused> {
         Ok(u32::from_be_bytes(unread.array::<4>()?))
     }
 }
 
 /// One byte, 0 or 1.
 #[tactic(auto, unfolding(crate::specs::Enums::truth))]
-impl ByteForm for bool {
+impl Coder<bool> for Common {
     ghost form = { enums.truth };
 
-    fn write(&self, written: &mut Vec<u8>) -> Result<(), OutOfMemory> {
-        let byte = if *self { 1 } else { 0 };
+    ghost rule = { λ value. ⊤ };
+
+    fn write(value: &bool, written: &mut Vec<u8>) -> Result<(), OutOfMemory> {
+        let byte = if *value { 1 } else { 0 };
         Ok(written.push(byte)?)
     }
 
-    fn read(_alloc: Global, unread: &mut Unread<'_>) -> Result<Self, CodecRefused> {
+    fn read(_alloc: Global, unread: &mut Unread<'_>) -> Result<bool, CodecRefused> {
         match unread.byte()? {
             0 => Ok(false),
             1 => Ok(true),
@@ -60,44 +69,50 @@ impl ByteForm for bool {
 
 /// The bytes of a digest, as they are.
 #[tactic(auto, unfolding(crate::specs::Forms::bytes_of))]
-impl ByteForm for [u8; 32] {
+impl Coder<[u8; 32]> for Common {
     ghost form = { forms.bytes_of 32 };
 
-    fn write(&self, written: &mut Vec<u8>) -> Result<(), OutOfMemory> {
-        Ok(written.extend_from_slice(self.as_slice())?)
+    ghost rule = { λ value. ⊤ };
+
+    fn write(value: &[u8; 32], written: &mut Vec<u8>) -> Result<(), OutOfMemory> {
+        Ok(written.extend_from_slice(value.as_slice())?)
     }
 
-    fn read(_alloc: Global, unread: &mut Unread<'_>) -> Result<Self, CodecRefused> {
+    fn read(_alloc: Global, unread: &mut Unread<'_>) -> Result<[u8; 32], CodecRefused> {
         unread.array::<32>()
     }
 }
 
 /// The number of bytes, and they.
 #[tactic(auto, unfolding(crate::specs::Forms::byte_string, crate::specs::Forms::number))]
-impl ByteForm for Bytes {
+impl Coder<Bytes> for Common {
     ghost form = { forms.byte_string };
 
-    fn write(&self, written: &mut Vec<u8>) -> Result<(), OutOfMemory> {
-        let length = self.len() as u64;
-        length.write(written)?;
-        Ok(written.extend_from_slice(self.as_slice())?)
+    ghost rule = { λ value. ⊤ };
+
+    fn write(value: &Bytes, written: &mut Vec<u8>) -> Result<(), OutOfMemory> {
+        let length = value.len() as u64;
+        Common::write(&length, written)?;
+        Ok(written.extend_from_slice(value.as_slice())?)
     }
 
-    fn read(alloc: Global, unread: &mut Unread<'_>) -> Result<Self, CodecRefused> {
+    fn read(alloc: Global, unread: &mut Unread<'_>) -> Result<Bytes, CodecRefused> {
         let bytes = read_bytes(alloc, unread)?;
         Ok(Bytes::from(bytes.to_vec(alloc)?))
     }
 }
 
 /// The number of bytes, and they, which are UTF-8.
-impl ByteForm for Text {
+impl Coder<Text> for Common {
     ghost form = { forms.text };
 
-    fn write(&self, written: &mut Vec<u8>) -> Result<(), OutOfMemory> {
-        write_text(self.as_str(), written)
+    ghost rule = { λ value. ⊤ };
+
+    fn write(value: &Text, written: &mut Vec<u8>) -> Result<(), OutOfMemory> {
+        write_text(value.as_str(), written)
     }
 
-    fn read(alloc: Global, unread: &mut Unread<'_>) -> Result<Self, CodecRefused> {
+    fn read(alloc: Global, unread: &mut Unread<'_>) -> Result<Text, CodecRefused> {
         let text = read_text(alloc, unread)?;
         Ok(Text::from(String::from_str(alloc, text)?))
     }
@@ -110,7 +125,7 @@ pub(crate) fn write_text(text: &str, written: &mut Vec<u8>) -> Result<(), OutOfM
     ensures holds { OnOk result (forms.text.holds text.now) }
 {
     let length = text.len() as u64;
-    length.write(written)?;
+    Common::write(&length, written)?;
     Ok(written.extend_from_slice(text.as_bytes())?)
 }
 
@@ -119,7 +134,7 @@ pub(crate) fn write_text(text: &str, written: &mut Vec<u8>) -> Result<(), OutOfM
 fn read_bytes<'a>(alloc: Global, unread: &mut Unread<'a>) -> Result<&'a [u8], CodecRefused>
     ensures { GivesBy (λ bytes. bytes.now) result unread.new (forms.byte_string.read unread.old) }
 {
-    let length = u64::read(alloc, unread)?;
+    let length: u64 = Common::read(alloc, unread)?;
     unread.front(length)
 }
 
@@ -128,7 +143,7 @@ fn read_bytes<'a>(alloc: Global, unread: &mut Unread<'a>) -> Result<&'a [u8], Co
 pub(crate) fn read_text<'a>(alloc: Global, unread: &mut Unread<'a>) -> Result<&'a str, CodecRefused>
     ensures { GivesBy (λ text. text.now) result unread.new (forms.text.read unread.old) }
 {
-    let length = u64::read(alloc, unread)?;
+    let length: u64 = Common::read(alloc, unread)?;
     let bytes = unread.front(length)?;
     match str::from_utf8(bytes) {
         Ok(text) => Ok(text),

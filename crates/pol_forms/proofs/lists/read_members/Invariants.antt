@@ -5,4 +5,4 @@ use Rattle.pol_forms.proofs.lists.read_members.Given as goal
 
 abbrev pub invariant-loop : goal.invariant-loop
 invariant-loop g l =
-    with_front l.members.items (times g.F.ByteForm.form.read (l.count - l.counter) l.unread) ≡ times g.F.ByteForm.form.read l.count l.fn.unread
+    with_front l.members.items (times g.C.Coder.form.read (l.count - l.counter) l.unread) ≡ times g.C.Coder.form.read l.count l.fn.unread

@@ -4,6 +4,6 @@ use Rattle.pol_forms.proofs.lists.write_members.Given as goal
 
 abbrev pub invariant-loop-member : goal.invariant-loop-member
 invariant-loop-member g l = record {
-  bytes : l.written.items ≡ l.fn.written.items ++ flat_map g.F.ByteForm.form.write (take l.member-index l.members);
-  holds : AllByRecursion g.F.ByteForm.form.holds (take l.member-index l.members);
+  bytes : l.written.items ≡ l.fn.written.items ++ flat_map g.C.Coder.form.write (take l.member-index l.members);
+  holds : AllByRecursion g.C.Coder.rule (take l.member-index l.members) → AllByRecursion g.C.Coder.form.holds (take l.member-index l.members);
 }
