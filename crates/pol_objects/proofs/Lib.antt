@@ -1,0 +1,4 @@
+pub mod Covered
+pub mod Kept
+pub mod Machines
+pub mod Sizes

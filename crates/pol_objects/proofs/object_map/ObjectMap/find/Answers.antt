@@ -1,0 +1,7 @@
+use Rattle.std.proofs.Common.{◌∙◌}
+use Rattle.pol_objects.proofs.Kept.{found}
+use Rattle.pol_objects.proofs.object_map.ObjectMap.find.Goals as goal
+
+pub returns : goal.returns
+returns c =
+    rw (← c.self.view_is) (c.get.ensures.value ∙ found c.self.inside.by_text.entries c.in_ok-text.text c.args.path.now c.self.invariant c.in_ok-text.ensures.text)

@@ -1,0 +1,64 @@
+-- Objects in byte order of their texts: one is found, added or taken away, and those that a path covers.
+use Rattle.std.specs.Prelude.{◌≡◌, ℕ, Bool, not, List, [], ◌∷◌, ◌++◌, map, filter, Option, None, Some, if◌then◌else◌}
+use Rattle.std.specs.BTreeMap.Range.{range_contains}
+use Rattle.std.specs.Cmp.Lexicographic.{slice_cmp}
+use Rattle.std.specs.List.{AllByRecursion, find}
+use Rattle.std.specs.List.Sorted.{IsStrictlySortedBy}
+use Rattle.std.specs.Map.{keys_of, values_of}
+use Rattle.std.specs.Ordering.{is_eq, is_lt, nat_cmp}
+use Rattle.std.specs.declared.cmp.Ordering.{Ordering}
+use Rattle.std.specs.declared.ops.Bound.TheVariants.{Included, Excluded}
+use Rattle.pol_locations.specs.Location.{IsLocation, is_cover, location_text}
+use Rattle.pol_objects.specs.declared.object.Object.{Object}
+
+-- byte order, in which a proper prefix is first
+abbrev pub byte_order : List ℕ → List ℕ → Ordering
+byte_order left right = slice_cmp nat_cmp left right
+
+-- how a text stands to that of an object's path, and whether it is that one
+abbrev pub order_at : List ℕ → Object → Ordering
+order_at text object = byte_order text (location_text object.path)
+
+abbrev pub has_text : List ℕ → Object → Bool
+has_text text object = is_eq (order_at text object)
+
+-- whether an object is at this path. Different locations have different texts, so the texts tell
+abbrev pub is_at : List (List ℕ) → Object → Bool
+is_at path object = has_text (location_text path) object
+
+-- the object at a path
+abbrev pub object_at : List Object → List (List ℕ) → Option Object
+object_at objects path = find (is_at path) objects
+
+-- the objects with one more, in front of the first whose text is above its own
+abbrev pub with_object : Object → List Object → List Object
+with_object object [] = object ∷ []
+with_object object (first ∷ objects) =
+    if is_lt (order_at (location_text object.path) first) then object ∷ first ∷ objects else first ∷ with_object object objects
+
+-- the objects but the one at this path
+abbrev pub without_object : List (List ℕ) → List Object → List Object
+without_object path objects = filter (λ object. not (is_at path object)) objects
+
+-- the paths of the objects that a path covers, in their order
+abbrev pub paths_under : List Object → List (List ℕ) → List (List (List ℕ))
+paths_under objects path = map (λ object. object.path) (filter (λ object. is_cover path object.path) objects)
+
+-- an object under the text of its path
+abbrev pub keyed : Object → List ℕ × Object
+keyed object = (location_text object.path, object)
+
+-- how objects are kept: each under its text, the texts strictly rising, and each path a location
+pub record IsKept (entries : List (List ℕ × Object)) : Type 0 where
+  pub under : entries ≡ map keyed (values_of entries)
+  pub rising : IsStrictlySortedBy byte_order (keys_of entries)
+  pub located : AllByRecursion (λ object. IsLocation object.path) (values_of entries)
+
+-- whether a text is between another one with `/` and with `0`, the next byte, behind it
+abbrev pub is_between : List ℕ → List ℕ → Bool
+is_between text other = range_contains byte_order (Included (text ++ 0x2F ∷ [])) (Excluded (text ++ 0x30 ∷ [])) other
+
+-- the path of the object that was found
+abbrev pub path_of : Option Object → List (List (List ℕ))
+path_of None = []
+path_of (Some object) = object.path ∷ []

@@ -1,0 +1,17 @@
+use crate::SharedBytes;
+use pol_locations::Location;
+
+/// What is asked of the objects. Only a put and a delete write.
+#[derive(Debug, Drop)]
+pub enum ObjectAction {
+    /// The bytes of the object at the path.
+    Get { path: Location },
+    /// How many they are.
+    Head { path: Location },
+    /// A new object.
+    Put { path: Location, bytes: SharedBytes },
+    /// To take the object at the path away.
+    Delete { path: Location },
+    /// The paths of all objects that the path covers.
+    List { path: Location },
+}

@@ -1,0 +1,19 @@
+//! The object machine in memory: objects that are written once, what each action on them answers, and what it leaves.
+#![tactic(auto)]
+
+mod action;
+pub mod laws;
+mod object;
+mod object_map;
+mod object_state;
+mod reply;
+mod rule;
+mod shared_bytes;
+
+pub use action::ObjectAction;
+pub use object::Object;
+pub use object_map::ObjectMap;
+pub use object_state::ObjectState;
+pub use reply::ObjectReply;
+pub use rule::ObjectRule;
+pub use shared_bytes::SharedBytes;

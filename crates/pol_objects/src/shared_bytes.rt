@@ -1,0 +1,68 @@
+ghost use Rattle.std.specs.Prelude.{◌≡◌, ◌↔◌, IfOk, IsTrue, List, ℕ, [], length};
+ghost use Rattle.std.specs.Arc.{arc_value};
+
+use pol_types::{Bytes, OutOfMemory};
+use std::alloc::{AllocError, Global};
+use std::fmt;
+use std::marker::Model;
+use std::sync::Arc;
+
+/// Bytes that have several owners, in any threads: a copy is one owner more, and copies no byte. Contracts see the
+/// list of the bytes.
+#[derive(Drop)]
+pub struct SharedBytes {
+    bytes: Arc<Bytes, Global>,
+}
+
+impl Model for SharedBytes {
+    ghost Value = { List ℕ };
+
+    ghost view = { λ shared. arc_value shared.bytes };
+}
+
+impl SharedBytes {
+    /// The first owner of the bytes.
+    pub fn new(alloc: Global, bytes: Bytes) -> Result<Self, OutOfMemory>
+        ensures { IfOk result (λ shared. shared ≡ bytes) }
+    {
+        Ok(SharedBytes {
+            bytes: Arc::new(alloc, bytes)?,
+        })
+    }
+
+    pub fn as_slice(&self) -> &[u8]
+        ensures { result.now ≡ self.now }
+    {
+        let bytes = &*self.bytes;
+        bytes.as_slice()
+    }
+
+    pub fn len(&self) -> usize
+        ensures { result ≡ length self.now }
+    {
+        self.as_slice().len()
+    }
+
+    pub fn is_empty(&self) -> bool
+        ensures { IsTrue result ↔ (self.now ≡ []) }
+    {
+        self.as_slice().is_empty()
+    }
+}
+
+impl Clone for SharedBytes {
+    ghost is_clone = { λ source clone. clone ≡ source };
+
+    fn clone(&self) -> Result<Self, AllocError> {
+        Ok(SharedBytes {
+            bytes: Arc::try_clone(&self.bytes)?,
+        })
+    }
+}
+
+/// Prints that they are bytes, and not the bytes, which may be many.
+impl fmt::Debug for SharedBytes {
+    fn fmt<W: fmt::Write>(&self, f: &mut fmt::Formatter<W>) -> fmt::Result {
+        f.write_str("SharedBytes")
+    }
+}
