@@ -217,13 +217,19 @@ def fields_beside(key, field):
     return lambda value, path: read(value, path)["fields"]
 
 
-def request_of(content):
-    """What a body asks for."""
-    value = body_of(content)
+def begun(value):
+    """What a body that asks for a table or a view begins with."""
     return {
         "name": required(value, "name", meeting(is_name)),
         "location": optional(value, "location", text, None),
         "schema": required(value, "schema", Schema),
+    }
+
+
+def request_of(content):
+    """What a body asks for."""
+    value = body_of(content)
+    return begun(value) | {
         "spec": optional(value, "partition-spec", fields_beside("spec-id", partition_field), []),
         "order": optional(value, "write-order", fields_beside("order-id", sort_field), []),
         "staged": optional(value, "stage-create", truth, False),

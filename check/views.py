@@ -1,12 +1,12 @@
 """Views: the bodies that ask for them and commit to them with their first bad field, the metadata that they make, and
 its JSON, written a second time (Apache Iceberg view specification, version 1). What is told of a body is text."""
 
-from reading import Refused, body_of, compact, is_name, levels, meeting, optional, required, text, text_map
+from reading import Refused, body_of, compact, levels, required, text, text_map
 from tables import (
     MOMENT,
     UUID,
-    Schema,
     any_id,
+    begun,
     listed,
     long,
     members,
@@ -94,10 +94,7 @@ commit = members(("requirements?", listed(requirement)), ("updates", listed(upda
 def request_of(content):
     """What a body asks for."""
     value = body_of(content)
-    return {
-        "name": required(value, "name", meeting(is_name)),
-        "location": optional(value, "location", text, None),
-        "schema": required(value, "schema", Schema),
+    return begun(value) | {
         "version": required(value, "view-version", asked_version),
         "properties": required(value, "properties", text_map),
     }
