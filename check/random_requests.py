@@ -17,6 +17,7 @@ NAMES = {
     "role": ["readers", "writers", "service_admin"],
     "catalog_role": ["reads", "reads", "writes", "catalog_admin"],
     "table": ["t", "t", "t", "u", "v"],
+    "view": ["v", "v", "v", "w", "t"],
 }
 ODD_NAMES = ["a b", "é", "x" * 129, "a.b", "", "..", "A-_9"]
 ODD_TABLES = ["..", ".", "a/b", "é x", "t\n", "x" * 129, ""]
@@ -42,6 +43,7 @@ SCOPES = ["ALL", "readers", "readers", "writers", "service_admin", "", "no one"]
 # How often a request of a method is asked, one of these actions, and one that isn't built.
 WEIGHTS = {"GET": 2, "HEAD": 2, "POST": 4, "PUT": 5, "DELETE": 0.7}
 OFTEN = {"create_table": 8, "load_table": 8, "commit_table": 24, "commit_transaction": 12}
+OFTEN |= {"create_view": 8, "load_view": 8, "replace_view": 24}
 NOT_BUILT = 0.15
 
 
@@ -90,12 +92,13 @@ class RandomRequests:
     def segment(self, parameter):
         if parameter == "*path":
             return "b/x"
-        known = dict(zip(("prefix", "namespace", "table"), self.known)) if not self.seldom(0.02) else {}
+        on = "view" if parameter == "view" else "table"
+        known = dict(zip(("prefix", "namespace", on), self.known)) if not self.seldom(0.02) else {}
         if parameter == "namespace":
             return self.encoded("\x1f".join(known.get(parameter) or self.levels()))
         if parameter in known:
             return self.encoded(known[parameter])
-        odd = ODD_TABLES if parameter == "table" else ODD_NAMES
+        odd = ODD_TABLES if parameter in ("table", "view") else ODD_NAMES
         return self.encoded(self.pick(NAMES.get(parameter, ["t"]), odd))
 
     def encoded(self, text):
@@ -192,12 +195,26 @@ class RandomRequests:
             return self.clients.commit_to(self.known)
         return {"requirements": [], "updates": [{"action": "set-properties", "updates": self.texts()}]}
 
+    def new_view(self):
+        """What a view is asked for with, at a location that is in its catalogue, mostly."""
+        body = self.clients.views.body() | {"name": self.pick(NAMES["view"], ODD_TABLES), "location": None}
+        if self.seldom(0.6):
+            body["location"] = self.pick(TABLE_LOCATIONS, ODD_LOCATIONS + LONG_LOCATIONS, 0.1)
+        return body | {"properties": self.texts()}
+
+    def view_commit(self):
+        """A commit to the view that a client asks for, or a short one."""
+        if self.known:
+            return self.clients.commit_to_view(self.known)
+        return {"updates": [{"action": "set-properties", "updates": self.texts()}]}
+
     def transaction(self):
         return self.clients.transaction(self.known[0]) if self.known else {"table-changes": []}
 
     def renaming(self):
-        """The name of a table that a client knows, mostly, and another one."""
-        names = [{"namespace": self.levels(), "name": self.pick(NAMES["table"], ODD_TABLES)} for _ in range(2)]
+        """The name of a table or a view that a client knows, mostly, and another one."""
+        usual = NAMES["table"] + NAMES["view"]
+        names = [{"namespace": self.levels(), "name": self.pick(usual, ODD_TABLES)} for _ in range(2)]
         if self.known and not self.seldom():
             names[0] = shown(self.known)
         return {"source": names[0], "destination": names[1]}
@@ -208,7 +225,7 @@ class RandomRequests:
         if kind != "catalog":
             grant["namespace"] = self.levels()
         if kind in ("table", "view"):
-            grant[f"{kind}Name"] = self.pick(NAMES["table"], ODD_TABLES, 0.1)
+            grant[f"{kind}Name"] = self.pick(NAMES[kind], ODD_TABLES, 0.1)
         return grant
 
     def altered(self, body):

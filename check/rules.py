@@ -2,14 +2,15 @@
 
 `Rules.answer` answers one request after another. Of what the program draws at random, and of what its clock says, it
 takes the program's word, which is told by the first answer that shows it. No session expires here, and of the bounds on
-quantities only those on allowed locations, on what a table has, and on tables in a transaction are known, but for a
-metadata's weight."""
+quantities only those on allowed locations, on what a table or a view has, and on tables in a transaction are known, but
+for a metadata's weight."""
 
 import hashlib
 import json
 import re
 from dataclasses import dataclass, field
 
+import views
 from privileges import GRANTABLE, IMPLIED, PRIVILEGES
 from reading import (
     Refused,
@@ -49,7 +50,7 @@ plain = meeting(is_plain)
 BASE = b"default-base-location"
 FIRST_GRANTS = ("CATALOG_MANAGE_ACCESS", "CATALOG_MANAGE_CONTENT")
 SCOPE = b"PRINCIPAL_ROLE:"
-# What a table has at most of each of its parts, by the keys of these and their names in refusals.
+# What a table, or a view, has at most of each of its parts, by the keys of these and their names in refusals.
 PARTS = [(key, key.replace("-", " "), 1000) for key in ("schemas", "partition-specs", "sort-orders", "refs")]
 PARTS += [("snapshots", "snapshots", 10_000), ("properties", "properties", 1000)]
 UUID = "[0-9a-f]{8}-[0-9a-f]{4}-4[0-9a-f]{3}-[89ab][0-9a-f]{3}-[0-9a-f]{12}"
@@ -82,6 +83,11 @@ class Namespace:
     id: int
     properties: dict
     tables: dict = field(default_factory=dict)
+    views: dict = field(default_factory=dict)
+
+    def parts(self, kind):
+        """The tables or the views in it."""
+        return {"table": self.tables, "view": self.views}[kind]
 
 
 @dataclass
@@ -99,6 +105,17 @@ class Table:
 
     def is_moved(self, former):
         return self.metadata["location"] != former.metadata["location"]
+
+
+@dataclass
+class View:
+    id: int
+    metadata: dict
+    version: int = 0
+
+    def loaded(self):
+        place = metadata_file(self.metadata, self.version, "view-uuid")
+        return {"metadata": self.metadata, "metadata-location": place}
 
 
 class Moment:
@@ -254,20 +271,21 @@ class Rules:
 
     def in_catalog(self, request, name, privilege, path=(), part=None):
         """The catalogue of a name, on which, or on the deepest part of a path in it, the caller has a privilege. The
-        path may lead on to a table."""
+        path may lead on to a table or a view."""
         roles = self.active_roles(request)
         catalog = self.catalog(name)
-        table = catalog.namespaces[path].tables.get(part) if path in catalog.namespaces else None
+        kind = "view" if privilege.startswith("VIEW_") else "table"
+        found = catalog.namespaces[path].parts(kind).get(part) if path in catalog.namespaces else None
         while path and path not in catalog.namespaces:
             path = path[:-1]
         above = [path[:depth] for depth in range(1, len(path) + 1)]
         chain = [("catalog", catalog.id)] + [("namespace", catalog.namespaces[part].id) for part in above]
-        chain += [("table", table.id)] if table else []
+        chain += [(kind, found.id)] if found else []
         joined = {catalog_role for role, catalog_role in self.joins if role in roles}
         held = {grant[1] for grant in self.grants if grant[0] in joined and grant[2] in chain}
         if not any(privilege in IMPLIED[word] for word in held):
             where = b"namespace %b/%b" % (name, dotted(path)) if path else b"catalogue %b" % name
-            where = b"table %b/%b" % (name, dotted([*path, part])) if table else where
+            where = b"%b %b/%b" % (kind.encode(), name, dotted([*path, part])) if found else where
             refuse("Forbidden", b"%b on %b" % (privilege.encode(), where))
         return catalog
 
@@ -376,7 +394,8 @@ class Rules:
     def drop_namespace(self, request, segment, second):
         name, path = plain_segment(segment), namespace_segment(second)
         row, namespace = self.in_namespace(request, name, path, "NAMESPACE_DROP")
-        if namespace.tables or any(other[: len(path)] == path and other != path for other in row.namespaces):
+        is_used = namespace.tables or namespace.views
+        if is_used or any(other[: len(path)] == path and other != path for other in row.namespaces):
             refuse("NotEmpty", dotted(path))
         del row.namespaces[path]
         self.grants = [grant for grant in self.grants if grant[2] != ("namespace", namespace.id)]
@@ -400,22 +419,23 @@ class Rules:
 
     # Tables
 
-    def list_tables(self, request, segment, second):
+    def list_parts(self, request, segment, second, kind):
         name, path = plain_segment(segment), namespace_segment(second)
-        _, namespace = self.in_namespace(request, name, path, "TABLE_LIST")
-        return 200, compact({"identifiers": [{"name": part, "namespace": path} for part in sorted(namespace.tables)]})
+        _, namespace = self.in_namespace(request, name, path, f"{kind.upper()}_LIST")
+        names = sorted(namespace.parts(kind))
+        return 200, compact({"identifiers": [{"name": part, "namespace": path} for part in names]})
+
+    def list_tables(self, request, segment, second):
+        return self.list_parts(request, segment, second, "table")
 
     def create_table(self, request, segment, second):
         name, path = plain_segment(segment), namespace_segment(second)
         asked = request_of(request.content)
         row, namespace = self.in_namespace(request, name, path, "TABLE_CREATE")
-        if asked["name"] in namespace.tables:
-            refuse("NameTaken", asked["name"])
+        refuse_taken(namespace, asked["name"])
         version = asked["properties"].pop(b"format-version", b"2")
         metadata = made(asked, request)
-        given = asked["location"]
-        location = location_below([*row.base, *path, asked["name"]]) if given is None else location_of(given)
-        refuse_outside(row, location)
+        location = location_asked(row, path, asked)
         refuse_overlap(location, self.tables())
         if asked["staged"]:
             refuse("Unsupported", b"stage-create")
@@ -431,18 +451,18 @@ class Rules:
         namespaces = [namespace for row in self.catalogs.values() for namespace in row.namespaces.values()]
         return [table for namespace in namespaces for table in namespace.tables.values()]
 
-    def at_table(self, request, name, path, part, privilege):
-        """The namespace of a path and the table of a name in it, which must be there."""
+    def at_part(self, request, name, path, part, privilege):
+        """The namespace of a path and what is of a name in it, a table or a view, which must be there."""
         row = self.in_catalog(request, name, privilege, path, part)
         refuse_missing(row, path)
-        return row.namespaces[path], table_there(row, path, part)
+        return row.namespaces[path], part_there(row, path, part, "view" if privilege.startswith("VIEW_") else "table")
 
     def load_table(self, request, segment, second, third):
         place = plain_segment(segment), namespace_segment(second), name_segment(third)
         shown = query_value(request.query, b"snapshots")
         if shown not in (None, b"all", b"refs"):
             unreadable("snapshots")
-        _, table = self.at_table(request, *place, "TABLE_READ_PROPERTIES")
+        _, table = self.at_part(request, *place, "TABLE_READ_PROPERTIES")
         loaded = table.loaded()
         if shown == b"refs":
             loaded["metadata"] = with_named_snapshots(loaded["metadata"])
@@ -450,7 +470,7 @@ class Rules:
 
     def head_table(self, request, segment, second, third):
         place = plain_segment(segment), namespace_segment(second), name_segment(third)
-        self.at_table(request, *place, "TABLE_READ_PROPERTIES")
+        self.at_part(request, *place, "TABLE_READ_PROPERTIES")
         return 204, None
 
     def report_metrics(self, request, segment, second, third):
@@ -460,7 +480,7 @@ class Rules:
         place = plain_segment(segment), namespace_segment(second), name_segment(third)
         if query_value(request.query, b"purgeRequested") not in (None, b"true", b"false"):
             unreadable("purgeRequested")
-        namespace, table = self.at_table(request, *place, "TABLE_DROP")
+        namespace, table = self.at_part(request, *place, "TABLE_DROP")
         del namespace.tables[place[2]]
         self.grants = [grant for grant in self.grants if grant[2] != ("table", table.id)]
         return 204, None
@@ -487,7 +507,7 @@ class Rules:
             self.in_catalog(request, name, "TABLE_WRITE_PROPERTIES", path, part)
         for path, _ in places:
             refuse_missing(row, path)
-        former = [table_there(row, path, part) for path, part in places]
+        former = [part_there(row, path, part, "table") for path, part in places]
         refuse_twice(places)
         after = committed(former, changes, Moment())
         moved = [table for table, before in zip(after, former) if table.is_moved(before)]
@@ -505,21 +525,72 @@ class Rules:
         for (path, part), table in zip(places, after):
             row.namespaces[path].tables[part] = table
 
-    def rename_table(self, request, segment):
+    def rename_part(self, request, segment, kind):
         name = plain_segment(segment)
         body = request.body()
         source, destination = (required(body, key, identifier) for key in ("source", "destination"))
         path, part = destination["namespace"], destination["name"]
-        row = self.in_catalog(request, name, "TABLE_DROP", source["namespace"], source["name"])
-        self.in_catalog(request, name, "TABLE_CREATE", path)
+        row = self.in_catalog(request, name, f"{kind.upper()}_DROP", source["namespace"], source["name"])
+        self.in_catalog(request, name, f"{kind.upper()}_CREATE", path)
         refuse_missing(row, source["namespace"])
         refuse_missing(row, path)
-        table = table_there(row, source["namespace"], source["name"])
-        if part in row.namespaces[path].tables:
-            refuse("NameTaken", part)
-        del row.namespaces[source["namespace"]].tables[source["name"]]
-        row.namespaces[path].tables[part] = table
+        found = part_there(row, source["namespace"], source["name"], kind)
+        refuse_taken(row.namespaces[path], part)
+        del row.namespaces[source["namespace"]].parts(kind)[source["name"]]
+        row.namespaces[path].parts(kind)[part] = found
         return 204, None
+
+    def rename_table(self, request, segment):
+        return self.rename_part(request, segment, "table")
+
+    # Views
+
+    def list_views(self, request, segment, second):
+        return self.list_parts(request, segment, second, "view")
+
+    def create_view(self, request, segment, second):
+        name, path = plain_segment(segment), namespace_segment(second)
+        asked = views.request_of(request.content)
+        row, namespace = self.in_namespace(request, name, path, "VIEW_CREATE")
+        refuse_taken(namespace, asked["name"])
+        location = location_asked(row, path, asked)
+        refuse_many(asked["properties"])
+        uuid = drawn(request, f'"view-uuid":"({UUID})"')
+        metadata = views.created(asked, uuid, Moment()) | {"location": location_text(location)}
+        namespace.views[asked["name"]] = View(self.new_id(), metadata)
+        return 200, request.shown(namespace.views[asked["name"]].loaded())
+
+    def load_view(self, request, segment, second, third):
+        place = plain_segment(segment), namespace_segment(second), name_segment(third)
+        _, view = self.at_part(request, *place, "VIEW_READ_PROPERTIES")
+        return 200, request.shown(view.loaded())
+
+    def head_view(self, request, segment, second, third):
+        self.load_view(request, segment, second, third)
+        return 204, None
+
+    def replace_view(self, request, segment, second, third):
+        name, path, part = plain_segment(segment), namespace_segment(second), name_segment(third)
+        asked = views.read_commit(request.content)
+        namespace, view = self.at_part(request, name, path, part, "VIEW_WRITE_PROPERTIES")
+        refuse_unmet(view, asked["requirements"], 0)
+        metadata = replaced(view, asked["updates"], Moment())
+        if metadata["location"] != view.metadata["location"]:
+            refuse_outside(self.catalogs[name], location_of(metadata["location"]))
+        refuse_left_out([asked])
+        refuse_large(metadata)
+        namespace.views[part] = View(view.id, metadata, view.version + bool(asked["updates"]))
+        return 200, request.shown(namespace.views[part].loaded())
+
+    def drop_view(self, request, segment, second, third):
+        place = plain_segment(segment), namespace_segment(second), name_segment(third)
+        namespace, view = self.at_part(request, *place, "VIEW_DROP")
+        del namespace.views[place[2]]
+        self.grants = [grant for grant in self.grants if grant[2] != ("view", view.id)]
+        return 204, None
+
+    def rename_view(self, request, segment):
+        return self.rename_part(request, segment, "view")
 
     # Principals and principal roles
 
@@ -698,14 +769,15 @@ class Rules:
         row = self.managed(request, name)
         role = catalog_role(row, role_name)
         paths = {namespace.id: path for path, namespace in row.namespaces.items()}
-        tables = {
-            table.id: {"namespace": path, "tableName": part}
+        parts = {
+            found.id: {"namespace": path, f"{kind}Name": part}
             for path, namespace in row.namespaces.items()
-            for part, table in namespace.tables.items()
+            for kind in ("table", "view")
+            for part, found in namespace.parts(kind).items()
         }
         listed = []
         for _, privilege, (kind, id) in sorted(filter(lambda grant: grant[0] == role, self.grants), key=place_of_grant):
-            within = {"namespace": paths[id]} if kind == "namespace" else tables.get(id, {})
+            within = {"namespace": paths[id]} if kind == "namespace" else parts.get(id, {})
             listed.append({**within, "privilege": privilege, "type": kind})
         return 200, compact({"grants": listed})
 
@@ -716,10 +788,7 @@ class Rules:
         refuse_missing(row, path or ())
         on = ("namespace", row.namespaces[path].id) if path else ("catalog", row.id)
         if part is not None:
-            table = row.namespaces[path].tables.get(part) if kind == "table" else None
-            if table is None:
-                refuse({"table": "NoTable", "view": "NoView"}[kind], dotted([*path, part]))
-            on = ("table", table.id)
+            on = (kind, part_there(row, path, part, kind).id)
         return row, (catalog_role(row, role_name), privilege, on)
 
     def add_grant(self, request, segment, second):
@@ -780,10 +849,7 @@ def committed(former, changes, moment):
     """Tables after their changes at a moment: all requirements are judged before all updates, and these before the
     locations."""
     for place, (table, change) in enumerate(zip(former, changes)):
-        try:
-            judge(table.metadata, change["requirements"])
-        except Unmet as unmet:
-            raise Refused("RequirementFailed", f"Requirement {unmet.place} of table {place} failed") from None
+        refuse_unmet(table, change["requirements"], place)
     after = []
     for place, (table, change) in enumerate(zip(former, changes)):
         updates = change["updates"]
@@ -796,6 +862,22 @@ def committed(former, changes, moment):
         if table.is_moved(before):
             table.location = location_of(table.metadata["location"], place)
     return after
+
+
+def refuse_unmet(found, requirements, place):
+    """Refuses a commit to what stands at a place of its request, where one of its requirements doesn't hold."""
+    try:
+        judge(found.metadata, requirements)
+    except Unmet as unmet:
+        raise Refused("RequirementFailed", f"Requirement {unmet.place} of table {place} failed") from None
+
+
+def replaced(view, updates, moment):
+    """The metadata of a view after updates at a moment."""
+    try:
+        return views.updated(view.metadata, updates, moment)
+    except NotApplied as refused:
+        refuse_update(0, refused.place, refused.why)
 
 
 def add(facts, fact):
@@ -816,11 +898,17 @@ def refuse_missing(row, path):
             refuse("NoNamespace", dotted(path[:depth]))
 
 
-def table_there(row, path, part):
-    """The table of a name in a namespace of a catalogue that is there."""
-    if part not in row.namespaces[path].tables:
-        refuse("NoTable", dotted([*path, part]))
-    return row.namespaces[path].tables[part]
+def part_there(row, path, part, kind):
+    """The table or the view of a name in a namespace of a catalogue that is there."""
+    if part not in row.namespaces[path].parts(kind):
+        refuse({"table": "NoTable", "view": "NoView"}[kind], dotted([*path, part]))
+    return row.namespaces[path].parts(kind)[part]
+
+
+def refuse_taken(namespace, part):
+    """Tables and views of a namespace have names of their own."""
+    if part in namespace.tables or part in namespace.views:
+        refuse("NameTaken", part)
 
 
 def refuse_twice(places):
@@ -828,6 +916,14 @@ def refuse_twice(places):
     for second, place in enumerate(places):
         if place in places[:second]:
             refuse("TableTwice", f"{places.index(place)} and {second}".encode())
+
+
+def location_asked(row, path, asked):
+    """Where a new table or view is to lie, in its catalogue."""
+    given = asked["location"]
+    location = location_below([*row.base, *path, asked["name"]]) if given is None else location_of(given)
+    refuse_outside(row, location)
+    return location
 
 
 def refuse_outside(row, location):
@@ -850,7 +946,7 @@ def refuse_left_out(changes):
 
 def refuse_large(metadata):
     for key, word, bound in PARTS:
-        if len(metadata[key]) > bound:
+        if len(metadata.get(key, ())) > bound:
             refuse("Limit", f"{word} {bound}".encode())
 
 
@@ -860,8 +956,8 @@ def refuse_many(properties):
 
 
 def place_of_grant(grant):
-    """Grants are listed by privilege, then by what they are on: the catalogue first, then namespaces and then tables, each
-    by their ids."""
+    """Grants are listed by privilege, then by what they are on: the catalogue first, then namespaces and then tables or
+    views, each by their ids."""
     _, privilege, on = grant
     return PRIVILEGES.index(privilege), on
 

@@ -376,9 +376,9 @@ def settled(location):
         return location
 
 
-def metadata_file(found, version):
-    """Where the file of a metadata stands."""
-    return found["location"] + f"/metadata/{version:05}-{found['table-uuid']}.metadata.json".encode()
+def metadata_file(found, version, key="table-uuid"):
+    """Where the file of a metadata stands, whose uuid is under a key."""
+    return found["location"] + f"/metadata/{version:05}-{found[key]}.metadata.json".encode()
 
 
 def log_left(entries, key, members):

@@ -3,3 +3,4 @@ pub mod ManagementJson
 pub mod Refusals
 pub mod TableJson
 pub mod Texts
+pub mod ViewJson

@@ -8,7 +8,7 @@ use Rattle.pol_http.specs.declared.answer.Body.TheVariants.{Nothing, Json, Token
 use Rattle.pol_http.specs.declared.head.HeadRefused.{HeadRefused}
 use Rattle.pol_http.specs.declared.head.HeadRefused.TheVariants.{BadHead, LengthNeeded, BodyTooLong}
 use Rattle.pol_commands.specs.declared.reply.Answer.{Answer as Done}
-use Rattle.pol_commands.specs.declared.reply.Answer.TheVariants.{SessionOpened, ConfigTold, CatalogsListed, CatalogCreated, CatalogLoaded, CatalogDropped, NamespacesListed, NamespaceCreated, NamespaceLoaded, NamespaceThere, NamespaceDropped, PropertiesUpdated, TablesListed, TableLoaded, TableThere, TableDropped, MetricsReported, TableCommitted, TransactionCommitted, TableRenamed, PrincipalsListed, PrincipalCreated, PrincipalLoaded, PrincipalDropped, SecretRotated, RolesListed, RoleCreated, RoleLoaded, RoleDropped, MemberAdded, MemberEnded, JoinAdded, JoinEnded, GrantsListed, GrantAdded, GrantRevoked}
+use Rattle.pol_commands.specs.declared.reply.Answer.TheVariants.{SessionOpened, ConfigTold, CatalogsListed, CatalogCreated, CatalogLoaded, CatalogDropped, NamespacesListed, NamespaceCreated, NamespaceLoaded, NamespaceThere, NamespaceDropped, PropertiesUpdated, TablesListed, TableLoaded, TableThere, TableDropped, MetricsReported, TableCommitted, TransactionCommitted, TableRenamed, ViewsListed, ViewLoaded, ViewThere, ViewDropped, ViewRenamed, PrincipalsListed, PrincipalCreated, PrincipalLoaded, PrincipalDropped, SecretRotated, RolesListed, RoleCreated, RoleLoaded, RoleDropped, MemberAdded, MemberEnded, JoinAdded, JoinEnded, GrantsListed, GrantAdded, GrantRevoked}
 use Rattle.pol_commands.specs.declared.reply.Refusal.{Refusal}
 use Rattle.pol_commands.specs.declared.reply.Reply.{Reply}
 use Rattle.pol_commands.specs.declared.reply.Reply.TheVariants.{Answered, Refused}
@@ -18,6 +18,7 @@ use Rattle.pol_answers.specs.Json.{catalog_json, catalogs_json, config_json, nam
 use Rattle.pol_answers.specs.ManagementJson.{credentials_json, grants_json, principal_json, principals_json, role_json, roles_json}
 use Rattle.pol_answers.specs.Refusals.{kind_of, message_of, status_of}
 use Rattle.pol_answers.specs.TableJson.{committed_json, identifiers_json, loaded_json}
+use Rattle.pol_answers.specs.ViewJson.{shown_json}
 use Rattle.pol_tokens.specs.declared.session.TheConstants.{SESSION_LIFE}
 use Rattle.pol_tokens.specs.Text.{text_of_token}
 
@@ -90,6 +91,11 @@ done_answer MetricsReported = answer_with 204 Nothing
 done_answer (TableCommitted place meta) = json_answer 200 (committed_json place meta)
 done_answer TransactionCommitted = answer_with 204 Nothing
 done_answer TableRenamed = answer_with 204 Nothing
+done_answer (ViewsListed identifiers) = json_answer 200 (identifiers_json identifiers)
+done_answer (ViewLoaded place meta) = json_answer 200 (shown_json place meta)
+done_answer ViewThere = answer_with 204 Nothing
+done_answer ViewDropped = answer_with 204 Nothing
+done_answer ViewRenamed = answer_with 204 Nothing
 done_answer (PrincipalsListed rows) = json_answer 200 (principals_json rows)
 done_answer (PrincipalCreated name client_id word) = json_answer 201 (credentials_json client_id word name)
 done_answer (PrincipalLoaded row) = json_answer 200 (principal_json row)

@@ -7,5 +7,6 @@ mod management_json;
 mod refusals;
 mod table_json;
 mod texts;
+mod view_json;
 
 pub use texts::{answer_of, draw_fault_answer, head_refused_answer, refusal_answer};

@@ -73,7 +73,11 @@ pub(crate) fn committed_json(
     Ok(committed_object(alloc, place.as_str(), metadata)?)
 }
 
-fn committed_object(alloc: Global, place: &str, metadata: Value) -> Result<Value, AllocError>
+pub(crate) fn committed_object(
+    alloc: Global,
+    place: &str,
+    metadata: Value,
+) -> Result<Value, AllocError>
     ensures { IfOk result (λ json. view json ≡ spec.committed_object place.now (view metadata)) }
 {
     json!(in alloc; {"metadata": metadata, "metadata-location": place})

@@ -15,6 +15,7 @@ use crate::refusals::{
     status_of,
 };
 use crate::table_json::{committed_json, identifiers_json, loaded_json};
+use crate::view_json::shown_json;
 use pol_commands::{Answer as Done, Refusal, Reply};
 use pol_http::{Answer, Body, HeadRefused};
 use pol_names::Plain;
@@ -66,7 +67,7 @@ fn done_answer(alloc: Global, done: &Done) -> Result<Answer, OutOfMemory>
             removed,
             updated,
         } => json_answer(alloc, 200, updated_json(alloc, missing, removed, updated)?),
-        Done::TablesListed(identifiers) => {
+        Done::TablesListed(identifiers) | Done::ViewsListed(identifiers) => {
             json_answer(alloc, 200, identifiers_json(alloc, identifiers)?)
         }
         Done::TableLoaded {
@@ -84,6 +85,14 @@ fn done_answer(alloc: Global, done: &Done) -> Result<Answer, OutOfMemory>
             alloc,
             200,
             committed_json(alloc, metadata_location, metadata.get())?,
+        ),
+        Done::ViewLoaded {
+            metadata_location,
+            metadata,
+        } => json_answer(
+            alloc,
+            200,
+            shown_json(alloc, metadata_location, metadata.get())?,
         ),
         Done::PrincipalsListed(rows) => json_answer(alloc, 200, principals_json(alloc, rows)?),
         Done::PrincipalCreated {
@@ -113,6 +122,9 @@ fn done_answer(alloc: Global, done: &Done) -> Result<Answer, OutOfMemory>
         | Done::MetricsReported
         | Done::TransactionCommitted
         | Done::TableRenamed
+        | Done::ViewThere
+        | Done::ViewDropped
+        | Done::ViewRenamed
         | Done::PrincipalDropped
         | Done::RoleDropped
         | Done::MemberEnded

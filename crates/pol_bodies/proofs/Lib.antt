@@ -1,3 +1,4 @@
 pub mod CommitBodyLemmas
 pub mod TableBodyLemmas
 pub mod UnreadLemmas
+pub mod ViewBodyLemmas

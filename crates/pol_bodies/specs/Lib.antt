@@ -4,3 +4,4 @@ pub mod CommitBodies
 pub mod ManagementBodies
 pub mod Renaming
 pub mod TableBody
+pub mod ViewBodies

@@ -1,4 +1,4 @@
-//! The body that renames a table.
+//! The body that renames a table or a view.
 ghost use Rattle.pol_bodies.specs.Renaming as spec;
 
 use crate::held::Held;
@@ -9,14 +9,14 @@ use pol_readers::{Form, ReadError, field, object};
 use serde_json::Value;
 use std::alloc::Global;
 
-/// The body that renames a table (Iceberg REST OpenAPI, RenameTableRequest).
+/// The body that renames a table or a view (Iceberg REST OpenAPI, RenameTableRequest).
 #[derive(Debug, Drop)]
 pub struct RenameBody {
     pub source: Identifier,
     pub destination: Identifier,
 }
 
-/// The full name of a table (TableIdentifier).
+/// The full name of a table or a view (TableIdentifier).
 #[tactic(auto, unfolding(crate::specs::Renaming::full_name))]
 impl Form for Held<Identifier> {
     ghost shape = { spec.full_name };

@@ -17,7 +17,7 @@ use Rattle.pol_content.specs.contracts.change.RowKind.{the_type}
 use Rattle.pol_content.specs.contracts.rows.CatalogRow as catalog
 use Rattle.pol_content.specs.contracts.rows.NamespaceRow as namespace
 use Rattle.pol_content.specs.declared.change.Change.{Change}
-use Rattle.pol_content.specs.declared.change.Change.TheVariants.{Time, NextId, NextSerial, PutCatalog, DropCatalog, PutNamespace, DropNamespace, PutTable, DropTable}
+use Rattle.pol_content.specs.declared.change.Change.TheVariants.{Time, NextId, NextSerial, PutCatalog, DropCatalog, PutNamespace, DropNamespace, PutTable, DropTable, PutView, DropView}
 use Rattle.pol_content.specs.declared.change.RowKind.{RowKind}
 use Rattle.pol_content.specs.declared.change.RowKind.TheVariants as kind
 use Rattle.pol_content.specs.declared.rows.CatalogRow.{CatalogRow}
@@ -26,18 +26,21 @@ use Rattle.pol_meta.specs.Weight.{capped}
 use Rattle.pol_table_rows.specs.Tables.{table_id}
 use Rattle.pol_table_rows.specs.contracts.row.TableRow as table
 use Rattle.pol_table_rows.specs.declared.row.TableRow.{TableRow}
+use Rattle.pol_view_rows.specs.Views.{view_id}
+use Rattle.pol_view_rows.specs.contracts.row.ViewRow as view
+use Rattle.pol_view_rows.specs.declared.row.ViewRow.{ViewRow}
 use Rattle.pol_commands.specs.declared.reply.Quantity.{Quantity}
 use Rattle.pol_commands.specs.declared.reply.Quantity.TheVariants as quantity
 use Rattle.pol_commands.specs.declared.reply.Refusal.{Refusal}
 use Rattle.pol_commands.specs.declared.reply.Refusal.TheVariants.{Limit}
 use Rattle.pol_state.specs.Applied.{applied}
-use Rattle.pol_state.specs.Bounds.{above, allowed_count, any_above, catalog_properties, first_refusal, namespace_properties, order_count, over_limit, ref_count, refuse_if, schema_count, snapshot_count, spec_count, table_properties, table_version, table_weight}
+use Rattle.pol_state.specs.Bounds.{above, allowed_count, any_above, catalog_properties, first_refusal, namespace_properties, order_count, over_limit, ref_count, refuse_if, schema_count, snapshot_count, spec_count, table_properties, table_version, table_weight, view_properties, view_schemas, view_version, view_weight}
 use Rattle.pol_state.specs.Changes.{changes_between, headed, id_change, in_turn, row_changes, serial_change}
 use Rattle.pol_state.specs.Rows.{Rows}
 use Rattle.pol_state.specs.Sound.{IsOrderly, IsSound}
 use Rattle.pol_state.proofs.BoundsLemmas.{above-within, each-within}
-use Rattle.pol_bounds.specs.Counted.{allowed_put, catalog_properties_put, catalogs_put, counts_after, id_set, limits_of, limits_put, namespace_properties_put, namespaces_put, number_of, orders_put, part_limits, property_limits, refs_put, schemas_put, serial_set, snapshots_put, specs_put, table_properties_put, tables_put, version_put, weight_put}
-use Rattle.pol_bounds.proofs.CountedLemmas.{count-catalogs, count-principals, count-principal_roles, count-catalog_roles, count-members, count-joins, count-grants, count-namespaces, count-tables, filter-alone, of_kind, Fails, filter-quiet}
+use Rattle.pol_bounds.specs.Counted.{allowed_put, catalog_properties_put, catalogs_put, counts_after, id_set, limits_of, limits_put, namespace_properties_put, namespaces_put, number_of, orders_put, part_limits, property_limits, refs_put, schemas_put, serial_set, snapshots_put, specs_put, table_properties_put, tables_put, version_put, view_properties_put, view_schemas_put, view_version_put, view_weight_put, views_put, weight_put}
+use Rattle.pol_bounds.proofs.CountedLemmas.{count-catalogs, count-principals, count-principal_roles, count-catalog_roles, count-members, count-joins, count-grants, count-namespaces, count-tables, count-views, filter-alone, of_kind, Fails, filter-quiet}
 use Rattle.pol_rules.proofs.RulesLemmas.{first-joined, refused-not}
 
 -- whether any passes a test is told by those that do
@@ -68,6 +71,7 @@ module _ (bound : ℕ) (number : CatalogRow → ℕ) where
   catalogs-fail kind.CatalogRole apart = (λ row. catalogs_zero, λ gone. catalogs_zero)
   catalogs-fail kind.Namespace apart = (λ row. catalogs_zero, λ gone. catalogs_zero)
   catalogs-fail kind.Table apart = (λ row. catalogs_zero, λ gone. catalogs_zero)
+  catalogs-fail kind.View apart = (λ row. catalogs_zero, λ gone. catalogs_zero)
   catalogs-fail kind.Member apart = (λ row. catalogs_zero, λ gone. catalogs_zero)
   catalogs-fail kind.Join apart = (λ row. catalogs_zero, λ gone. catalogs_zero)
   catalogs-fail kind.Grant apart = (λ row. catalogs_zero, λ gone. catalogs_zero)
@@ -107,6 +111,7 @@ module _ (bound : ℕ) (number : NamespaceRow → ℕ) where
   namespaces-fail kind.CatalogRole apart = (λ row. namespaces_zero, λ gone. namespaces_zero)
   namespaces-fail kind.Namespace apart = absurd (true≢false apart)
   namespaces-fail kind.Table apart = (λ row. namespaces_zero, λ gone. namespaces_zero)
+  namespaces-fail kind.View apart = (λ row. namespaces_zero, λ gone. namespaces_zero)
   namespaces-fail kind.Member apart = (λ row. namespaces_zero, λ gone. namespaces_zero)
   namespaces-fail kind.Join apart = (λ row. namespaces_zero, λ gone. namespaces_zero)
   namespaces-fail kind.Grant apart = (λ row. namespaces_zero, λ gone. namespaces_zero)
@@ -146,6 +151,7 @@ module _ (bound : ℕ) (number : TableRow → ℕ) where
   tables-fail kind.CatalogRole apart = (λ row. tables_zero, λ gone. tables_zero)
   tables-fail kind.Namespace apart = (λ row. tables_zero, λ gone. tables_zero)
   tables-fail kind.Table apart = absurd (true≢false apart)
+  tables-fail kind.View apart = (λ row. tables_zero, λ gone. tables_zero)
   tables-fail kind.Member apart = (λ row. tables_zero, λ gone. tables_zero)
   tables-fail kind.Join apart = (λ row. tables_zero, λ gone. tables_zero)
   tables-fail kind.Grant apart = (λ row. tables_zero, λ gone. tables_zero)
@@ -169,6 +175,46 @@ module _ (bound : ℕ) (number : TableRow → ℕ) where
       any-alone tables_above (changes_between s t) (of_kind kind.Table (row_changes s t)) (tables-alone s t)
       ∙ any-changed table_id table.the_row.coded PutTable DropTable (λ row. nat_lt bound (number row)) tables_above s.content.tables t.content.tables none tables-put tables-drop
 
+-- a test of the views that are put
+module _ (bound : ℕ) (number : ViewRow → ℕ) where
+  abbrev views_above : Change → Bool
+  views_above change = nat_lt bound (number_of number (views_put change))
+
+  views_zero : nat_lt bound 0 ≡ false
+  views_zero = le-ltb bound 0 (omega arith)
+
+  views-fail : (of : RowKind) → sameb the_type of kind.View ≡ false → Fails views_above of
+  unfolding views_put
+  views-fail kind.Principal apart = (λ row. views_zero, λ gone. views_zero)
+  views-fail kind.PrincipalRole apart = (λ row. views_zero, λ gone. views_zero)
+  views-fail kind.Catalog apart = (λ row. views_zero, λ gone. views_zero)
+  views-fail kind.CatalogRole apart = (λ row. views_zero, λ gone. views_zero)
+  views-fail kind.Namespace apart = (λ row. views_zero, λ gone. views_zero)
+  views-fail kind.Table apart = (λ row. views_zero, λ gone. views_zero)
+  views-fail kind.View apart = absurd (true≢false apart)
+  views-fail kind.Member apart = (λ row. views_zero, λ gone. views_zero)
+  views-fail kind.Join apart = (λ row. views_zero, λ gone. views_zero)
+  views-fail kind.Grant apart = (λ row. views_zero, λ gone. views_zero)
+  views-fail kind.Session apart = λ row. views_zero
+
+  views-alone : (s t : Rows) → filter views_above (changes_between s t) ≡ filter views_above (of_kind kind.View (row_changes s t))
+  unfolding views_put
+  views-alone s t =
+      filter-alone s t views_above kind.View views-fail (λ time. views_zero) (λ id. views_zero) (λ serial. views_zero)
+
+  views-put : (row : ViewRow) → views_above (PutView row) ≡ nat_lt bound (number row)
+  unfolding views_put rows_with
+  views-put row = refl
+
+  views-drop : (id : ℕ) → views_above (DropView id) ≡ false
+  unfolding views_put rows_without
+  views-drop id = views_zero
+
+  pub any-views : (s t : Rows) → list_any (λ row. nat_lt bound (number row)) s.content.views ≡ false → list_any views_above (changes_between s t) ≡ list_any (λ row. nat_lt bound (number row)) t.content.views
+  any-views s t none =
+      any-alone views_above (changes_between s t) (of_kind kind.View (row_changes s t)) (views-alone s t)
+      ∙ any-changed view_id view.the_row.coded PutView DropView (λ row. nat_lt bound (number row)) views_above s.content.views t.content.views none views-put views-drop
+
 -- next_ids that are set
 module _ (bound : ℕ) where
   abbrev next_id_above : Change → Bool
@@ -185,6 +231,7 @@ module _ (bound : ℕ) where
   next_id-fail kind.CatalogRole = (λ row. next_id_zero, λ gone. next_id_zero)
   next_id-fail kind.Namespace = (λ row. next_id_zero, λ gone. next_id_zero)
   next_id-fail kind.Table = (λ row. next_id_zero, λ gone. next_id_zero)
+  next_id-fail kind.View = (λ row. next_id_zero, λ gone. next_id_zero)
   next_id-fail kind.Member = (λ row. next_id_zero, λ gone. next_id_zero)
   next_id-fail kind.Join = (λ row. next_id_zero, λ gone. next_id_zero)
   next_id-fail kind.Grant = (λ row. next_id_zero, λ gone. next_id_zero)
@@ -244,6 +291,7 @@ module _ (bound : ℕ) where
   next_serial-fail kind.CatalogRole = (λ row. next_serial_zero, λ gone. next_serial_zero)
   next_serial-fail kind.Namespace = (λ row. next_serial_zero, λ gone. next_serial_zero)
   next_serial-fail kind.Table = (λ row. next_serial_zero, λ gone. next_serial_zero)
+  next_serial-fail kind.View = (λ row. next_serial_zero, λ gone. next_serial_zero)
   next_serial-fail kind.Member = (λ row. next_serial_zero, λ gone. next_serial_zero)
   next_serial-fail kind.Join = (λ row. next_serial_zero, λ gone. next_serial_zero)
   next_serial-fail kind.Grant = (λ row. next_serial_zero, λ gone. next_serial_zero)
@@ -298,6 +346,7 @@ pub record IsFew (s : Rows) : Type 0 where
   pub grants : length s.access.grants ≤ 100000
   pub namespaces : length s.content.namespaces ≤ 100000
   pub tables : length s.content.tables ≤ 100000
+  pub views : length s.content.views ≤ 100000
 
 pub few_rows : (s : Rows) → IsSound s → IsFew s
 few_rows s sound =
@@ -316,6 +365,7 @@ few_rows s sound =
       grants = above-within quantity.Grants 100000 (length s.access.grants) passes.1.1.1.1.1.1.0;
       namespaces = above-within quantity.Namespaces 100000 (length s.content.namespaces) passes.1.1.1.1.1.1.1.0;
       tables = above-within quantity.Tables 100000 (length s.content.tables) passes.1.1.1.1.1.1.1.1.0;
+      views = above-within quantity.Views 100000 (length s.content.views) passes.1.1.1.1.1.1.1.1.1.0;
     }
 
 -- the first of some rules stands for them, whatever is behind, and whatever is before
@@ -336,6 +386,7 @@ parts_put changes =
     ∷ any_above quantity.PartitionSpecs 1000 specs_put changes
     ∷ any_above quantity.SortOrders 1000 orders_put changes
     ∷ any_above quantity.Refs 1000 refs_put changes
+    ∷ any_above quantity.Schemas 1000 view_schemas_put changes
     ∷ any_above quantity.Snapshots 10000 snapshots_put changes
     ∷ []
 
@@ -344,14 +395,17 @@ properties_put changes =
     any_above quantity.Properties 1000 catalog_properties_put changes
     ∷ any_above quantity.Properties 1000 namespace_properties_put changes
     ∷ any_above quantity.Properties 1000 table_properties_put changes
+    ∷ any_above quantity.Properties 1000 view_properties_put changes
     ∷ []
 
 abbrev others_put : List Change → List (Option Refusal)
 others_put changes =
     any_above quantity.Weight 16777216 weight_put changes
+    ∷ any_above quantity.Weight 16777216 view_weight_put changes
     ∷ any_above quantity.NextId (2 ^ 62) id_set changes
     ∷ any_above quantity.NextSerial (2 ^ 62) serial_set changes
     ∷ any_above quantity.Version (2 ^ 62) version_put changes
+    ∷ any_above quantity.Version (2 ^ 62) view_version_put changes
     ∷ []
 
 abbrev each_put : List Change → List (Option Refusal)
@@ -372,7 +426,7 @@ module _ (s t : Rows) (sound : IsSound s) (new : IsOrderly t) (charge : ℕ) (le
   kept : changes_between s t ≡ [] → t ≡ applied [] t.time charge s
   kept none = sym leads ∙ ap (λ changes. applied changes t.time charge s) none
 
-  -- a bound of catalogues, of namespaces and of tables, none of which was passed before
+  -- a bound of catalogues, of namespaces, of tables and of views, none of which was passed before
   catalogs-between : (bounded : Quantity) (bound : ℕ) (number : CatalogRow → ℕ) → any_above bounded bound number s.content.catalogs ≡ None → any_above bounded bound number t.content.catalogs ≡ any_above bounded bound (λ change. number_of number (catalogs_put change)) (changes_between s t)
   catalogs-between bounded bound number passes =
       ap (λ is. refuse_if is (Limit bounded bound)) (sym (any-catalogs bound number s t (refused-not (list_any (λ row. nat_lt bound (number row)) s.content.catalogs) (Limit bounded bound) passes)))
@@ -385,12 +439,16 @@ module _ (s t : Rows) (sound : IsSound s) (new : IsOrderly t) (charge : ℕ) (le
   tables-between bounded bound number passes =
       ap (λ is. refuse_if is (Limit bounded bound)) (sym (any-tables bound number s t (refused-not (list_any (λ row. nat_lt bound (number row)) s.content.tables) (Limit bounded bound) passes)))
 
+  views-between : (bounded : Quantity) (bound : ℕ) (number : ViewRow → ℕ) → any_above bounded bound number s.content.views ≡ None → any_above bounded bound number t.content.views ≡ any_above bounded bound (λ change. number_of number (views_put change)) (changes_between s t)
+  views-between bounded bound number passes =
+      ap (λ is. refuse_if is (Limit bounded bound)) (sym (any-views bound number s t (refused-not (list_any (λ row. nat_lt bound (number row)) s.content.views) (Limit bounded bound) passes)))
+
   limits-between : over_limit t ≡ first_refusal (limits_of (counts_after s (changes_between s t)) ++ each_put (changes_between s t))
   unfolding over_limit
   limits-between =
       let passes = each-within s sound in
-      let ids = refused-not (nat_lt (2 ^ 62) s.next_id) (Limit quantity.NextId (2 ^ 62)) passes.1.1.1.1.1.1.1.1.1.1.1.1.1.1.1.1.1.1.1.0 in
-      let serials = refused-not (nat_lt (2 ^ 62) s.next_serial) (Limit quantity.NextSerial (2 ^ 62)) passes.1.1.1.1.1.1.1.1.1.1.1.1.1.1.1.1.1.1.1.1.0 in
+      let ids = refused-not (nat_lt (2 ^ 62) s.next_id) (Limit quantity.NextId (2 ^ 62)) passes.1.1.1.1.1.1.1.1.1.1.1.1.1.1.1.1.1.1.1.1.1.1.1.0 in
+      let serials = refused-not (nat_lt (2 ^ 62) s.next_serial) (Limit quantity.NextSerial (2 ^ 62)) passes.1.1.1.1.1.1.1.1.1.1.1.1.1.1.1.1.1.1.1.1.1.1.1.1.0 in
       λ i. first_refusal (
       above quantity.Catalogs 1000 (sym (counted (count-catalogs s t)) i)
       ∷ above quantity.Principals 10000 (sym (counted (count-principals s t)) i)
@@ -401,19 +459,24 @@ module _ (s t : Rows) (sound : IsSound s) (new : IsOrderly t) (charge : ℕ) (le
       ∷ above quantity.Grants 100000 (sym (counted (count-grants s t)) i)
       ∷ above quantity.Namespaces 100000 (sym (counted (count-namespaces s t)) i)
       ∷ above quantity.Tables 100000 (sym (counted (count-tables s t)) i)
-      ∷ catalogs-between quantity.AllowedLocations 100 allowed_count passes.1.1.1.1.1.1.1.1.1.0 i
-      ∷ tables-between quantity.Schemas 1000 schema_count passes.1.1.1.1.1.1.1.1.1.1.0 i
-      ∷ tables-between quantity.PartitionSpecs 1000 spec_count passes.1.1.1.1.1.1.1.1.1.1.1.0 i
-      ∷ tables-between quantity.SortOrders 1000 order_count passes.1.1.1.1.1.1.1.1.1.1.1.1.0 i
-      ∷ tables-between quantity.Refs 1000 ref_count passes.1.1.1.1.1.1.1.1.1.1.1.1.1.0 i
-      ∷ tables-between quantity.Snapshots 10000 snapshot_count passes.1.1.1.1.1.1.1.1.1.1.1.1.1.1.0 i
-      ∷ catalogs-between quantity.Properties 1000 catalog_properties passes.1.1.1.1.1.1.1.1.1.1.1.1.1.1.1.0 i
-      ∷ namespaces-between quantity.Properties 1000 namespace_properties passes.1.1.1.1.1.1.1.1.1.1.1.1.1.1.1.1.0 i
-      ∷ tables-between quantity.Properties 1000 table_properties passes.1.1.1.1.1.1.1.1.1.1.1.1.1.1.1.1.1.0 i
-      ∷ tables-between quantity.Weight 16777216 table_weight passes.1.1.1.1.1.1.1.1.1.1.1.1.1.1.1.1.1.1.0 i
+      ∷ above quantity.Views 100000 (sym (counted (count-views s t)) i)
+      ∷ catalogs-between quantity.AllowedLocations 100 allowed_count passes.1.1.1.1.1.1.1.1.1.1.0 i
+      ∷ tables-between quantity.Schemas 1000 schema_count passes.1.1.1.1.1.1.1.1.1.1.1.0 i
+      ∷ tables-between quantity.PartitionSpecs 1000 spec_count passes.1.1.1.1.1.1.1.1.1.1.1.1.0 i
+      ∷ tables-between quantity.SortOrders 1000 order_count passes.1.1.1.1.1.1.1.1.1.1.1.1.1.0 i
+      ∷ tables-between quantity.Refs 1000 ref_count passes.1.1.1.1.1.1.1.1.1.1.1.1.1.1.0 i
+      ∷ views-between quantity.Schemas 1000 view_schemas passes.1.1.1.1.1.1.1.1.1.1.1.1.1.1.1.0 i
+      ∷ tables-between quantity.Snapshots 10000 snapshot_count passes.1.1.1.1.1.1.1.1.1.1.1.1.1.1.1.1.0 i
+      ∷ catalogs-between quantity.Properties 1000 catalog_properties passes.1.1.1.1.1.1.1.1.1.1.1.1.1.1.1.1.1.0 i
+      ∷ namespaces-between quantity.Properties 1000 namespace_properties passes.1.1.1.1.1.1.1.1.1.1.1.1.1.1.1.1.1.1.0 i
+      ∷ tables-between quantity.Properties 1000 table_properties passes.1.1.1.1.1.1.1.1.1.1.1.1.1.1.1.1.1.1.1.0 i
+      ∷ views-between quantity.Properties 1000 view_properties passes.1.1.1.1.1.1.1.1.1.1.1.1.1.1.1.1.1.1.1.1.0 i
+      ∷ tables-between quantity.Weight 16777216 table_weight passes.1.1.1.1.1.1.1.1.1.1.1.1.1.1.1.1.1.1.1.1.1.0 i
+      ∷ views-between quantity.Weight 16777216 view_weight passes.1.1.1.1.1.1.1.1.1.1.1.1.1.1.1.1.1.1.1.1.1.1.0 i
       ∷ refuse_if (sym (any-next_id (2 ^ 62) s t ids serials (λ none. ap (λ (rows : Rows). rows.next_id) (kept none))) i) (Limit quantity.NextId (2 ^ 62))
       ∷ refuse_if (sym (any-next_serial (2 ^ 62) s t ids serials (λ none. ap (λ (rows : Rows). rows.next_serial) (kept none))) i) (Limit quantity.NextSerial (2 ^ 62))
-      ∷ tables-between quantity.Version (2 ^ 62) table_version passes.1.1.1.1.1.1.1.1.1.1.1.1.1.1.1.1.1.1.1.1.1.0 i
+      ∷ tables-between quantity.Version (2 ^ 62) table_version passes.1.1.1.1.1.1.1.1.1.1.1.1.1.1.1.1.1.1.1.1.1.1.1.1.1.0 i
+      ∷ views-between quantity.Version (2 ^ 62) view_version passes.1.1.1.1.1.1.1.1.1.1.1.1.1.1.1.1.1.1.1.1.1.1.1.1.1.1.0 i
       ∷ [])
 
 -- they are judged on the changes, how many rows there are first

@@ -26,7 +26,7 @@ use Rattle.pol_content.specs.contracts.change.RowKind.{the_type}
 use Rattle.pol_content.specs.contracts.rows.CatalogRow as catalog
 use Rattle.pol_content.specs.contracts.rows.NamespaceRow as namespace
 use Rattle.pol_content.specs.declared.change.Change.{Change}
-use Rattle.pol_content.specs.declared.change.Change.TheVariants.{Time, NextId, NextSerial, PutPrincipal, DropPrincipal, PutPrincipalRole, DropPrincipalRole, PutCatalog, DropCatalog, PutCatalogRole, DropCatalogRole, PutNamespace, DropNamespace, PutTable, DropTable, PutMember, DropMember, PutJoin, DropJoin, PutGrant, DropGrant, PutSession}
+use Rattle.pol_content.specs.declared.change.Change.TheVariants.{Time, NextId, NextSerial, PutPrincipal, DropPrincipal, PutPrincipalRole, DropPrincipalRole, PutCatalog, DropCatalog, PutCatalogRole, DropCatalogRole, PutNamespace, DropNamespace, PutTable, DropTable, PutView, DropView, PutMember, DropMember, PutJoin, DropJoin, PutGrant, DropGrant, PutSession}
 use Rattle.pol_content.specs.declared.change.RowKind.{RowKind}
 use Rattle.pol_content.specs.declared.change.RowKind.TheVariants as kind
 use Rattle.pol_access.specs.declared.rows.CatalogRoleRow.{CatalogRoleRow}
@@ -40,6 +40,9 @@ use Rattle.pol_content.specs.declared.rows.NamespaceRow.{NamespaceRow}
 use Rattle.pol_table_rows.specs.Tables.{table_id}
 use Rattle.pol_table_rows.specs.contracts.row.TableRow as table
 use Rattle.pol_table_rows.specs.declared.row.TableRow.{TableRow}
+use Rattle.pol_view_rows.specs.Views.{view_id}
+use Rattle.pol_view_rows.specs.contracts.row.ViewRow as view
+use Rattle.pol_view_rows.specs.declared.row.ViewRow.{ViewRow}
 use Rattle.pol_tokens.specs.declared.session.SessionRow.{SessionRow}
 use Rattle.pol_state.specs.Changes.{changes_between, headed, id_change, in_turn, row_changes, serial_change, RowChanges}
 use Rattle.pol_state.specs.Rows.{Rows}
@@ -54,6 +57,7 @@ of_kind kind.Catalog made = made.catalogs
 of_kind kind.CatalogRole made = made.catalog_roles
 of_kind kind.Namespace made = made.namespaces
 of_kind kind.Table made = made.tables
+of_kind kind.View made = made.views
 of_kind kind.Member made = made.members
 of_kind kind.Join made = made.joins
 of_kind kind.Grant made = made.grants
@@ -61,7 +65,7 @@ of_kind kind.Session made = made.sessions
 
 -- the kinds in the order of their changes
 abbrev kinds : List RowKind
-kinds = kind.Principal ∷ kind.PrincipalRole ∷ kind.Catalog ∷ kind.CatalogRole ∷ kind.Namespace ∷ kind.Table ∷ kind.Member ∷ kind.Join ∷ kind.Grant ∷ kind.Session ∷ []
+kinds = kind.Principal ∷ kind.PrincipalRole ∷ kind.Catalog ∷ kind.CatalogRole ∷ kind.Namespace ∷ kind.Table ∷ kind.View ∷ kind.Member ∷ kind.Join ∷ kind.Grant ∷ kind.Session ∷ []
 
 abbrev joined : List RowKind → RowChanges → List Change
 joined [] made = []
@@ -79,6 +83,7 @@ Fails test kind.Catalog = ((row : CatalogRow) → test (PutCatalog row) ≡ fals
 Fails test kind.CatalogRole = ((row : CatalogRoleRow) → test (PutCatalogRole row) ≡ false) × ((id : ℕ) → test (DropCatalogRole id) ≡ false)
 Fails test kind.Namespace = ((row : NamespaceRow) → test (PutNamespace row) ≡ false) × ((id : ℕ) → test (DropNamespace id) ≡ false)
 Fails test kind.Table = ((row : TableRow) → test (PutTable row) ≡ false) × ((id : ℕ) → test (DropTable id) ≡ false)
+Fails test kind.View = ((row : ViewRow) → test (PutView row) ≡ false) × ((id : ℕ) → test (DropView id) ≡ false)
 Fails test kind.Member = ((row : MemberRow) → test (PutMember row) ≡ false) × ((row : MemberRow) → test (DropMember row) ≡ false)
 Fails test kind.Join = ((row : JoinRow) → test (PutJoin row) ≡ false) × ((row : JoinRow) → test (DropJoin row) ≡ false)
 Fails test kind.Grant = ((row : GrantRow) → test (PutGrant row) ≡ false) × ((row : GrantRow) → test (DropGrant row) ≡ false)
@@ -92,6 +97,7 @@ module _ (s t : Rows) (test : Change → Bool) where
   quiet kind.CatalogRole fails = filter-none test _ (table_changes-each catalog_role_id catalog_role.the_row.coded PutCatalogRole DropCatalogRole (λ change. test change ≡ false) s.access.catalog_roles t.access.catalog_roles fails.0 fails.1)
   quiet kind.Namespace fails = filter-none test _ (table_changes-each namespace_id namespace.the_row.coded PutNamespace DropNamespace (λ change. test change ≡ false) s.content.namespaces t.content.namespaces fails.0 fails.1)
   quiet kind.Table fails = filter-none test _ (table_changes-each table_id table.the_row.coded PutTable DropTable (λ change. test change ≡ false) s.content.tables t.content.tables fails.0 fails.1)
+  quiet kind.View fails = filter-none test _ (table_changes-each view_id view.the_row.coded PutView DropView (λ change. test change ≡ false) s.content.views t.content.views fails.0 fails.1)
   quiet kind.Member fails = filter-none test _ (fact_changes-each member_cmp member.the_row.coded PutMember DropMember (λ change. test change ≡ false) s.access.members t.access.members fails.0 fails.1)
   quiet kind.Join fails = filter-none test _ (fact_changes-each join_cmp join.the_row.coded PutJoin DropJoin (λ change. test change ≡ false) s.access.joins t.access.joins fails.0 fails.1)
   quiet kind.Grant fails = filter-none test _ (fact_changes-each grant_cmp grant.the_row.coded PutGrant DropGrant (λ change. test change ≡ false) s.access.grants t.access.grants fails.0 fails.1)
@@ -120,6 +126,7 @@ module _ (s t : Rows) (test : Change → Bool) where
   passed-wanted kind.CatalogRole = append-nil (filter test (of_kind kind.CatalogRole (row_changes s t)))
   passed-wanted kind.Namespace = append-nil (filter test (of_kind kind.Namespace (row_changes s t)))
   passed-wanted kind.Table = append-nil (filter test (of_kind kind.Table (row_changes s t)))
+  passed-wanted kind.View = append-nil (filter test (of_kind kind.View (row_changes s t)))
   passed-wanted kind.Member = append-nil (filter test (of_kind kind.Member (row_changes s t)))
   passed-wanted kind.Join = append-nil (filter test (of_kind kind.Join (row_changes s t)))
   passed-wanted kind.Grant = append-nil (filter test (of_kind kind.Grant (row_changes s t)))
@@ -179,6 +186,7 @@ puts-fails wanted kind.Catalog apart = (λ row. apart, λ gone. refl)
 puts-fails wanted kind.CatalogRole apart = (λ row. apart, λ gone. refl)
 puts-fails wanted kind.Namespace apart = (λ row. apart, λ gone. refl)
 puts-fails wanted kind.Table apart = (λ row. apart, λ gone. refl)
+puts-fails wanted kind.View apart = (λ row. apart, λ gone. refl)
 puts-fails wanted kind.Member apart = (λ row. apart, λ gone. refl)
 puts-fails wanted kind.Join apart = (λ row. apart, λ gone. refl)
 puts-fails wanted kind.Grant apart = (λ row. apart, λ gone. refl)
@@ -191,6 +199,7 @@ takes-fails s wanted kind.Catalog apart = (λ row. known-apart wanted kind.Catal
 takes-fails s wanted kind.CatalogRole apart = (λ row. known-apart wanted kind.CatalogRole apart (knows catalog_role_id row.id s.access.catalog_roles), λ gone. apart)
 takes-fails s wanted kind.Namespace apart = (λ row. known-apart wanted kind.Namespace apart (knows namespace_id row.id s.content.namespaces), λ gone. apart)
 takes-fails s wanted kind.Table apart = (λ row. known-apart wanted kind.Table apart (knows table_id row.id s.content.tables), λ gone. apart)
+takes-fails s wanted kind.View apart = (λ row. known-apart wanted kind.View apart (knows view_id row.id s.content.views), λ gone. apart)
 takes-fails s wanted kind.Member apart = (λ row. refl, λ gone. apart)
 takes-fails s wanted kind.Join apart = (λ row. refl, λ gone. apart)
 takes-fails s wanted kind.Grant apart = (λ row. refl, λ gone. apart)
@@ -281,6 +290,13 @@ module _ (s t : Rows) (old_access : IsSoundAccess s.next_id s.access) (new_acces
       (length-changed table_id table.the_row.coded PutTable DropTable (added (puts kind.Table) (takes kind.Table s)) (dropped (puts kind.Table) (takes kind.Table s)) s.content.tables t.content.tables
       (IdsDiffer-rising table_id s.content.tables old_content.tables.numbered.rise) (IdsDiffer-rising table_id t.content.tables new_content.tables.numbered.rise)
       (λ row. ap not (known-own kind.Table refl (knows table_id row.id s.content.tables))) (λ id. refl) (λ row. and_false (is_kind kind.Table (where_known kind.Table (knows table_id row.id s.content.tables)))) (λ id. refl))
+
+  pub count-views : count_after kind.View s (changes_between s t) (length s.content.views) ≡ length t.content.views
+  count-views =
+      count-by_own s t kind.View (length s.content.views) (length t.content.views)
+      (length-changed view_id view.the_row.coded PutView DropView (added (puts kind.View) (takes kind.View s)) (dropped (puts kind.View) (takes kind.View s)) s.content.views t.content.views
+      (IdsDiffer-rising view_id s.content.views old_content.views.numbered.rise) (IdsDiffer-rising view_id t.content.views new_content.views.numbered.rise)
+      (λ row. ap not (known-own kind.View refl (knows view_id row.id s.content.views))) (λ id. refl) (λ row. and_false (is_kind kind.View (where_known kind.View (knows view_id row.id s.content.views)))) (λ id. refl))
 
   pub count-members : count_after kind.Member s (changes_between s t) (length s.access.members) ≡ length t.access.members
   count-members =

@@ -4,7 +4,7 @@ use Rattle.pol_access.specs.Access.{catalog_role_id, principal_id, principal_rol
 use Rattle.pol_content.specs.Change.{is_kind, puts}
 use Rattle.pol_content.specs.Content.{catalog_id, namespace_id}
 use Rattle.pol_content.specs.declared.change.Change.{Change}
-use Rattle.pol_content.specs.declared.change.Change.TheVariants.{Time, NextId, NextSerial, PutPrincipal, DropPrincipal, PutPrincipalRole, DropPrincipalRole, PutCatalog, DropCatalog, PutCatalogRole, DropCatalogRole, PutNamespace, DropNamespace, PutTable, DropTable, PutMember, DropMember, PutJoin, DropJoin, PutGrant, DropGrant, PutSession}
+use Rattle.pol_content.specs.declared.change.Change.TheVariants.{Time, NextId, NextSerial, PutPrincipal, DropPrincipal, PutPrincipalRole, DropPrincipalRole, PutCatalog, DropCatalog, PutCatalogRole, DropCatalogRole, PutNamespace, DropNamespace, PutTable, DropTable, PutView, DropView, PutMember, DropMember, PutJoin, DropJoin, PutGrant, DropGrant, PutSession}
 use Rattle.pol_content.specs.declared.change.RowKind.{RowKind}
 use Rattle.pol_content.specs.declared.change.RowKind.TheVariants as kind
 use Rattle.pol_content.specs.declared.rows.CatalogRow.{CatalogRow}
@@ -16,11 +16,13 @@ use Rattle.pol_bounds.specs.declared.bounds.Own.{Own}
 use Rattle.pol_bounds.specs.declared.bounds.Own.TheVariants as own
 use Rattle.pol_bounds.specs.declared.bounds.Numbers.{Numbers}
 use Rattle.pol_state.specs.Applied.{changed}
-use Rattle.pol_state.specs.Bounds.{above, allowed_count, any_above, catalog_properties, first_refusal, namespace_properties, order_count, ref_count, schema_count, snapshot_count, spec_count, table_properties, table_version, table_weight}
+use Rattle.pol_state.specs.Bounds.{above, allowed_count, any_above, catalog_properties, first_refusal, namespace_properties, order_count, ref_count, schema_count, snapshot_count, spec_count, table_properties, table_version, table_weight, view_properties, view_schemas, view_version, view_weight}
 use Rattle.pol_state.specs.Rows.{Rows}
 use Rattle.pol_table_rows.specs.Tables.{table_id}
 use Rattle.pol_table_rows.specs.declared.row.TableRow.{TableRow}
 use Rattle.pol_tables.specs.Table.{knows}
+use Rattle.pol_view_rows.specs.Views.{view_id}
+use Rattle.pol_view_rows.specs.declared.row.ViewRow.{ViewRow}
 
 -- this kind, where the state has a row of the id
 abbrev pub where_known : RowKind → Bool → Option RowKind
@@ -43,6 +45,8 @@ kind_taken s (PutNamespace row) = where_known kind.Namespace (knows namespace_id
 kind_taken s (DropNamespace id) = Some kind.Namespace
 kind_taken s (PutTable row) = where_known kind.Table (knows table_id row.id s.content.tables)
 kind_taken s (DropTable id) = Some kind.Table
+kind_taken s (PutView row) = where_known kind.View (knows view_id row.id s.content.views)
+kind_taken s (DropView id) = Some kind.View
 kind_taken s (PutMember row) = None
 kind_taken s (DropMember row) = Some kind.Member
 kind_taken s (PutJoin row) = None
@@ -62,7 +66,7 @@ count_after kind s changes before = before + count_by (puts kind) changes - coun
 abbrev pub no_rows : Rows
 no_rows = record {
   access = record { principals = []; principal_roles = []; catalog_roles = []; members = []; joins = []; grants = [] };
-  content = record { catalogs = []; namespaces = []; tables = [] };
+  content = record { catalogs = []; namespaces = []; tables = []; views = [] };
   tokens = record { sessions = [] };
   time = 0;
   next_id = 0;
@@ -70,7 +74,7 @@ no_rows = record {
   charged = 0;
 }
 
--- the catalogues, the namespaces, and the tables that a change puts: those that it makes of no rows
+-- the catalogues, the namespaces, the tables and the views that a change puts: those that it makes of no rows
 unfoldable pub catalogs_put : Change → List CatalogRow
 catalogs_put change = (changed no_rows change).content.catalogs
 
@@ -79,6 +83,9 @@ namespaces_put change = (changed no_rows change).content.namespaces
 
 unfoldable pub tables_put : Change → List TableRow
 tables_put change = (changed no_rows change).content.tables
+
+unfoldable pub views_put : Change → List ViewRow
+views_put change = (changed no_rows change).content.views
 
 -- a number of the row, where there is one
 abbrev pub number_of : {R : Type 0} → (R → ℕ) → List R → ℕ
@@ -128,6 +135,19 @@ version_put change = number_of table_version (tables_put change)
 abbrev pub weight_put : Change → ℕ
 weight_put change = number_of table_weight (tables_put change)
 
+-- how many schemas and properties a view has that is put, its version and the weight of its metadata
+abbrev pub view_schemas_put : Change → ℕ
+view_schemas_put change = number_of view_schemas (views_put change)
+
+abbrev pub view_properties_put : Change → ℕ
+view_properties_put change = number_of view_properties (views_put change)
+
+abbrev pub view_version_put : Change → ℕ
+view_version_put change = number_of view_version (views_put change)
+
+abbrev pub view_weight_put : Change → ℕ
+view_weight_put change = number_of view_weight (views_put change)
+
 -- the numbers of a change by itself, but for weights
 abbrev pub numbers_of : Change → Numbers
 numbers_of change = record {
@@ -141,6 +161,9 @@ numbers_of change = record {
   snapshots = snapshots_put change;
   table_properties = table_properties_put change;
   version = version_put change;
+  view_schemas = view_schemas_put change;
+  view_properties = view_properties_put change;
+  view_version = view_version_put change;
   next_id = id_set change;
   next_serial = serial_set change;
 }
@@ -158,6 +181,29 @@ table_numbers row = record {
   snapshots = snapshot_count row;
   table_properties = table_properties row;
   version = table_version row;
+  view_schemas = 0;
+  view_properties = 0;
+  view_version = 0;
+  next_id = 0;
+  next_serial = 0;
+}
+
+-- the numbers of a view that is put
+abbrev pub view_numbers : ViewRow → Numbers
+view_numbers row = record {
+  allowed = 0;
+  catalog_properties = 0;
+  namespace_properties = 0;
+  schemas = 0;
+  specs = 0;
+  orders = 0;
+  refs = 0;
+  snapshots = 0;
+  table_properties = 0;
+  version = 0;
+  view_schemas = view_schemas row;
+  view_properties = view_properties row;
+  view_version = view_version row;
   next_id = 0;
   next_serial = 0;
 }
@@ -174,6 +220,9 @@ own_of own.Refs change = refs_put change
 own_of own.Snapshots change = snapshots_put change
 own_of own.TableProperties change = table_properties_put change
 own_of own.Version change = version_put change
+own_of own.ViewSchemas change = view_schemas_put change
+own_of own.ViewProperties change = view_properties_put change
+own_of own.ViewVersion change = view_version_put change
 own_of own.NextId change = id_set change
 own_of own.NextSerial change = serial_set change
 
@@ -189,6 +238,7 @@ counts s = record {
   grants = length s.access.grants;
   namespaces = length s.content.namespaces;
   tables = length s.content.tables;
+  views = length s.content.views;
 }
 
 -- and once the changes are made
@@ -203,6 +253,7 @@ counts_after s changes = record {
   grants = count_after kind.Grant s changes (length s.access.grants);
   namespaces = count_after kind.Namespace s changes (length s.content.namespaces);
   tables = count_after kind.Table s changes (length s.content.tables);
+  views = count_after kind.View s changes (length s.content.views);
 }
 
 -- the bounds of the rows to which changes lead: of how many there are
@@ -217,15 +268,18 @@ limits_of counts =
     ∷ above quantity.Grants 100000 counts.grants
     ∷ above quantity.Namespaces 100000 counts.namespaces
     ∷ above quantity.Tables 100000 counts.tables
+    ∷ above quantity.Views 100000 counts.views
     ∷ []
 
--- and of the numbers that the changes put, of which those of a table's parts stand for one, and those of properties
+-- and of the numbers that the changes put, of which those of a table's and a view's parts stand for one, and those of
+-- properties
 unfoldable pub part_limits : List Change → Option Refusal
 part_limits changes = first_refusal (
     any_above quantity.Schemas 1000 schemas_put changes
     ∷ any_above quantity.PartitionSpecs 1000 specs_put changes
     ∷ any_above quantity.SortOrders 1000 orders_put changes
     ∷ any_above quantity.Refs 1000 refs_put changes
+    ∷ any_above quantity.Schemas 1000 view_schemas_put changes
     ∷ any_above quantity.Snapshots 10000 snapshots_put changes
     ∷ [])
 
@@ -234,6 +288,7 @@ property_limits changes = first_refusal (
     any_above quantity.Properties 1000 catalog_properties_put changes
     ∷ any_above quantity.Properties 1000 namespace_properties_put changes
     ∷ any_above quantity.Properties 1000 table_properties_put changes
+    ∷ any_above quantity.Properties 1000 view_properties_put changes
     ∷ [])
 
 abbrev pub limits_put : List Change → List (Option Refusal)
@@ -242,7 +297,9 @@ limits_put changes =
     ∷ part_limits changes
     ∷ property_limits changes
     ∷ any_above quantity.Weight 16777216 weight_put changes
+    ∷ any_above quantity.Weight 16777216 view_weight_put changes
     ∷ any_above quantity.NextId (2 ^ 62) id_set changes
     ∷ any_above quantity.NextSerial (2 ^ 62) serial_set changes
     ∷ any_above quantity.Version (2 ^ 62) version_put changes
+    ∷ any_above quantity.Version (2 ^ 62) view_version_put changes
     ∷ []

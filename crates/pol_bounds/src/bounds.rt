@@ -3,7 +3,7 @@ ghost use Rattle.std.specs.Prelude.{◌≡◌, ℕ, ◌≤◌, nat_lt};
 ghost use Rattle.std.specs.List.{list_any};
 ghost use Rattle.std.specs.Bool.{⊤};
 ghost use Rattle.pol_content.specs.Change.{puts};
-ghost use Rattle.pol_bounds.specs.Counted.{count_after, counts_after, kind_taken, limits_of, limits_put, numbers_of, own_of, part_limits, property_limits, table_numbers, takes, weight_put, where_known};
+ghost use Rattle.pol_bounds.specs.Counted.{count_after, counts_after, kind_taken, limits_of, limits_put, numbers_of, own_of, part_limits, property_limits, table_numbers, takes, view_numbers, view_weight_put, weight_put, where_known};
 ghost use Rattle.pol_rules.specs.Judged.{Sees};
 ghost use Rattle.pol_commands.specs.declared.reply.Refusal.TheVariants.{Limit};
 ghost use Rattle.pol_state.specs.Applied.{applied};
@@ -13,7 +13,7 @@ ghost use Rattle.pol_state.specs.Rows.{Rows};
 ghost use Rattle.pol_state.specs.Sound.{IsOrderly, IsSound};
 
 use pol_commands::{Quantity, Refusal};
-use pol_content::{Change, RowKind, TableRow};
+use pol_content::{Change, RowKind, TableRow, ViewRow};
 use pol_rules::rules::within;
 use pol_state::State;
 use pol_types::Listed;
@@ -45,22 +45,26 @@ const NAMESPACES: u64 = 100_000;
 /// How many tables there are at most.
 const TABLES: u64 = 100_000;
 
+/// How many views there are at most.
+const VIEWS: u64 = 100_000;
+
 /// How many locations a catalogue allows at most beside its base.
 const ALLOWED_LOCATIONS: u64 = 100;
 
-/// How many schemas, partition specs, sort orders and references a table has at most, of each.
+/// How many schemas, partition specs, sort orders and references a table has at most, of each, and how many schemas a
+/// view.
 const PARTS: u64 = 1_000;
 
 /// How many snapshots a table has at most.
 const SNAPSHOTS: u64 = 10_000;
 
-/// How many properties a catalogue has at most, a namespace, and a table.
+/// How many properties a catalogue has at most, a namespace, a table, and a view.
 const PROPERTIES: u64 = 1_000;
 
-/// What the metadata of a table weighs at most.
+/// What the metadata of a table or a view weighs at most.
 const WEIGHT: u64 = 16_777_216;
 
-/// What the next id, the next serial and the version of a table come to at most.
+/// What the next id, the next serial and the version of a table or a view come to at most.
 const COUNTER_BOUND: u64 = 1 << 62;
 
 /// How many rows of each kind there are.
@@ -75,10 +79,11 @@ struct Counts {
     grants: u64,
     namespaces: u64,
     tables: u64,
+    views: u64,
 }
 
-/// The numbers of a change by itself: of locations that a catalogue allows, of properties, of a table's parts and its
-/// version, and of the counters.
+/// The numbers of a change by itself: of locations that a catalogue allows, of properties, of a table's or a view's
+/// parts and its version, and of the counters.
 #[derive(Clone, Copy)]
 struct Numbers {
     allowed: u64,
@@ -91,6 +96,9 @@ struct Numbers {
     snapshots: u64,
     table_properties: u64,
     version: u64,
+    view_schemas: u64,
+    view_properties: u64,
+    view_version: u64,
     next_id: u64,
     next_serial: u64,
 }
@@ -107,6 +115,9 @@ const NOTHING: Numbers = Numbers {
     snapshots: 0,
     table_properties: 0,
     version: 0,
+    view_schemas: 0,
+    view_properties: 0,
+    view_version: 0,
     next_id: 0,
     next_serial: 0,
 };
@@ -126,6 +137,9 @@ enum Own {
     NextId,
     NextSerial,
     Version,
+    ViewSchemas,
+    ViewProperties,
+    ViewVersion,
 }
 
 /// No quantity is above its bound in the orderly rows to which the changes lead.
@@ -180,7 +194,8 @@ fn counts_within(counts: Counts) -> Result<(), Refusal>
     within(Quantity::Joins, JOINS, counts.joins)?;
     within(Quantity::Grants, GRANTS, counts.grants)?;
     within(Quantity::Namespaces, NAMESPACES, counts.namespaces)?;
-    within(Quantity::Tables, TABLES, counts.tables)
+    within(Quantity::Tables, TABLES, counts.tables)?;
+    within(Quantity::Views, VIEWS, counts.views)
 }
 
 /// No change gives a row, or a counter, a number above the bound of its quantity.
@@ -196,6 +211,7 @@ fn numbers_within(changes: &Listed<Change>) -> Result<(), Refusal>
     parts_within(changes)?;
     properties_within(changes)?;
     unless(has_heavy(changes), Quantity::Weight, WEIGHT)?;
+    unless(has_heavy_view(changes), Quantity::Weight, WEIGHT)?;
     own_within(changes, Own::NextId, Quantity::NextId, COUNTER_BOUND)?;
     own_within(
         changes,
@@ -203,10 +219,11 @@ fn numbers_within(changes: &Listed<Change>) -> Result<(), Refusal>
         Quantity::NextSerial,
         COUNTER_BOUND,
     )?;
-    own_within(changes, Own::Version, Quantity::Version, COUNTER_BOUND)
+    own_within(changes, Own::Version, Quantity::Version, COUNTER_BOUND)?;
+    own_within(changes, Own::ViewVersion, Quantity::Version, COUNTER_BOUND)
 }
 
-/// No change gives a table more parts of a kind than it may have.
+/// No change gives a table or a view more parts of a kind than it may have.
 #[tactic(auto, unfolding(crate::specs::Counted::part_limits))]
 fn parts_within(changes: &Listed<Change>) -> Result<(), Refusal>
     ensures { Sees (part_limits changes.now) (λ _. ⊤) result }
@@ -220,6 +237,7 @@ fn parts_within(changes: &Listed<Change>) -> Result<(), Refusal>
     )?;
     own_within(changes, Own::SortOrders, Quantity::SortOrders, PARTS)?;
     own_within(changes, Own::Refs, Quantity::Refs, PARTS)?;
+    own_within(changes, Own::ViewSchemas, Quantity::Schemas, PARTS)?;
     own_within(changes, Own::Snapshots, Quantity::Snapshots, SNAPSHOTS)
 }
 
@@ -231,7 +249,8 @@ fn properties_within(changes: &Listed<Change>) -> Result<(), Refusal>
     let properties = Quantity::Properties;
     own_within(changes, Own::CatalogProperties, properties, PROPERTIES)?;
     own_within(changes, Own::NamespaceProperties, properties, PROPERTIES)?;
-    own_within(changes, Own::TableProperties, properties, PROPERTIES)
+    own_within(changes, Own::TableProperties, properties, PROPERTIES)?;
+    own_within(changes, Own::ViewProperties, properties, PROPERTIES)
 }
 
 /// How many rows of each kind there are once the changes are made.
@@ -273,6 +292,7 @@ fn counts_after(state: &State, changes: &Listed<Change>) -> Counts
             content.namespaces().len(),
         ),
         tables: count_after(state, changes, RowKind::Table, content.tables().len()),
+        views: count_after(state, changes, RowKind::View, content.views().len()),
     }
 }
 
@@ -341,12 +361,14 @@ fn kind_taken(state: &State, change: &Change) -> Option<RowKind>
             RowKind::Table,
             content.table_of(table.row().id).is_some(),
         ),
+        Change::PutView(row) => where_known(RowKind::View, content.view_of(row.id).is_some()),
         Change::DropPrincipal(_) => Some(RowKind::Principal),
         Change::DropPrincipalRole(_) => Some(RowKind::PrincipalRole),
         Change::DropCatalog(_) => Some(RowKind::Catalog),
         Change::DropCatalogRole(_) => Some(RowKind::CatalogRole),
         Change::DropNamespace(_) => Some(RowKind::Namespace),
         Change::DropTable(_) => Some(RowKind::Table),
+        Change::DropView(_) => Some(RowKind::View),
         Change::DropMember(_) => Some(RowKind::Member),
         Change::DropJoin(_) => Some(RowKind::Join),
         Change::DropGrant(_) => Some(RowKind::Grant),
@@ -402,6 +424,9 @@ fn own_of(change: &Change, own: Own) -> u64
         Own::Snapshots => numbers.snapshots,
         Own::TableProperties => numbers.table_properties,
         Own::Version => numbers.version,
+        Own::ViewSchemas => numbers.view_schemas,
+        Own::ViewProperties => numbers.view_properties,
+        Own::ViewVersion => numbers.view_version,
         Own::NextId => numbers.next_id,
         Own::NextSerial => numbers.next_serial,
     }
@@ -418,7 +443,7 @@ fn unless(above: bool, quantity: Quantity, bound: u64) -> Result<(), Refusal>
 }
 
 /// The numbers of a change by itself: what a row has that it puts, and the counters that it sets.
-#[tactic(auto, unfolding(crate::specs::Counted::catalogs_put, crate::specs::Counted::namespaces_put, crate::specs::Counted::tables_put, crate::specs::Counted::id_set, crate::specs::Counted::serial_set, pol_tables::specs::Table::rows_with, pol_tables::specs::Table::rows_without))]
+#[tactic(auto, unfolding(crate::specs::Counted::catalogs_put, crate::specs::Counted::namespaces_put, crate::specs::Counted::tables_put, crate::specs::Counted::views_put, crate::specs::Counted::id_set, crate::specs::Counted::serial_set, pol_tables::specs::Table::rows_with, pol_tables::specs::Table::rows_without))]
 fn numbers_of(change: &Change) -> Numbers
     ensures { result ≡ numbers_of change.now }
 {
@@ -441,6 +466,7 @@ fn numbers_of(change: &Change) -> Numbers
             ..NOTHING
         },
         Change::PutTable(table) => table_numbers(table.row()),
+        Change::PutView(row) => view_numbers(row),
         Change::Time(_)
         | Change::PutPrincipal(_)
         | Change::DropPrincipal(_)
@@ -451,6 +477,7 @@ fn numbers_of(change: &Change) -> Numbers
         | Change::DropCatalogRole(_)
         | Change::DropNamespace(_)
         | Change::DropTable(_)
+        | Change::DropView(_)
         | Change::PutMember(_)
         | Change::DropMember(_)
         | Change::PutJoin(_)
@@ -478,6 +505,19 @@ fn table_numbers(row: &TableRow) -> Numbers
     }
 }
 
+/// The numbers of a view that is put.
+fn view_numbers(row: &ViewRow) -> Numbers
+    ensures { result ≡ view_numbers row.now }
+{
+    let metadata = row.metadata.get();
+    Numbers {
+        view_schemas: metadata.schemas.len() as u64,
+        view_properties: metadata.properties.len() as u64,
+        view_version: row.version,
+        ..NOTHING
+    }
+}
+
 /// Whether a change puts a table whose metadata is above its bound.
 fn has_heavy(changes: &Listed<Change>) -> bool
     ensures { result ≡ list_any (λ change. nat_lt 16777216 (weight_put change)) changes.now }
@@ -492,6 +532,24 @@ fn is_heavy(change: &Change) -> bool
 {
     if let Change::PutTable(table) = change {
         return table.row().metadata.get().weight() > WEIGHT;
+    }
+    false
+}
+
+/// Whether a change puts a view whose metadata is above its bound.
+fn has_heavy_view(changes: &Listed<Change>) -> bool
+    ensures { result ≡ list_any (λ change. nat_lt 16777216 (view_weight_put change)) changes.now }
+{
+    changes.iter().any(|change| is_heavy_view(change))
+}
+
+/// Whether the change puts such a view.
+#[tactic(auto, using(crate::proofs::BoundsLemmas::heavy_capped), unfolding(crate::specs::Counted::views_put, pol_tables::specs::Table::rows_with, pol_tables::specs::Table::rows_without))]
+fn is_heavy_view(change: &Change) -> bool
+    ensures { result ≡ nat_lt 16777216 (view_weight_put change.now) }
+{
+    if let Change::PutView(row) = change {
+        return row.metadata.get().weight() > WEIGHT;
     }
     false
 }

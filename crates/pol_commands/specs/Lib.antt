@@ -2,3 +2,4 @@ pub mod Grants
 pub mod Kind
 pub mod Reply
 pub mod Securables
+pub mod Views

@@ -3,7 +3,7 @@ use Rattle.std.specs.Prelude.{ℕ, Bool, true, false, List, codes}
 use Rattle.pol_commands.specs.declared.reply.OptionName.{OptionName}
 use Rattle.pol_commands.specs.declared.reply.OptionName.TheVariants as option
 use Rattle.pol_commands.specs.declared.reply.Quantity.{Quantity}
-use Rattle.pol_commands.specs.declared.reply.Quantity.TheVariants.{Catalogs, Principals, PrincipalRoles, CatalogRoles, Members, Joins, Grants, Namespaces, Tables, AllowedLocations, Schemas, PartitionSpecs, SortOrders, Refs, Snapshots, Properties, Weight, TransactionTables, NextId, NextSerial, Version}
+use Rattle.pol_commands.specs.declared.reply.Quantity.TheVariants.{Catalogs, Principals, PrincipalRoles, CatalogRoles, Members, Joins, Grants, Namespaces, Tables, Views, AllowedLocations, Schemas, PartitionSpecs, SortOrders, Refs, Snapshots, Properties, Weight, TransactionTables, NextId, NextSerial, Version}
 use Rattle.pol_commands.specs.declared.reply.Refusal.{Refusal}
 use Rattle.pol_commands.specs.declared.reply.Refusal.TheVariants.{RunFull, InvalidClient, InvalidScope, Unauthenticated, NoCatalogue, Forbidden, NoNamespace, NoTable, NoView, NoSuchRole, NameTaken, NotEmpty, KeyTwice, TableTwice, RequirementFailed, UpdateRefused, BadLocation, LocationOutside, LocationOverlap, Unsupported, Limit, Reserved}
 use Rattle.pol_commands.specs.declared.reply.Reply.{Reply}
@@ -38,6 +38,7 @@ quantity_text Joins = codes "joins"
 quantity_text Grants = codes "grants"
 quantity_text Namespaces = codes "namespaces"
 quantity_text Tables = codes "tables"
+quantity_text Views = codes "views"
 quantity_text AllowedLocations = codes "allowed locations"
 quantity_text Schemas = codes "schemas"
 quantity_text PartitionSpecs = codes "partition specs"

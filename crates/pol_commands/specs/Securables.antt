@@ -11,3 +11,5 @@ securable_text (name.Catalog catalog) = codes "catalogue " ++ catalog
 securable_text (name.Namespace catalog levels) = codes "namespace " ++ catalog ++ 0x2F ∷ dotted levels
 securable_text (name.Table catalog identifier) =
     codes "table " ++ catalog ++ 0x2F ∷ dotted identifier.namespace ++ 0x2E ∷ identifier.name
+securable_text (name.View catalog identifier) =
+    codes "view " ++ catalog ++ 0x2F ∷ dotted identifier.namespace ++ 0x2E ∷ identifier.name

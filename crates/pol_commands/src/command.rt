@@ -1,4 +1,4 @@
-use crate::{Commit, CreateTable, Grant};
+use crate::{Commit, CreateTable, CreateView, Grant, ViewCommit};
 use pol_names::{Identifier, Namespace, Plain};
 use pol_properties::Properties;
 use pol_types::{Bytes, Listed, Text};
@@ -32,7 +32,7 @@ pub struct Words4 {
 }
 
 /// What is to be done. Catalogues, principals and roles are named by their names, a namespace by its levels within its
-/// catalogue, and a table by these and its name.
+/// catalogue, and a table or a view by these and its name.
 #[derive(Debug, Drop)]
 pub enum Action {
     /// Opens a session for the principal of a client id, by its secret. A scope is `PRINCIPAL_ROLE:ALL`, or
@@ -87,8 +87,8 @@ pub enum Action {
         catalog: Plain,
         namespace: Namespace,
     },
-    /// Drops a namespace that holds neither a namespace nor a table, with the grants on it (Iceberg REST OpenAPI,
-    /// dropNamespace).
+    /// Drops a namespace that holds neither a namespace nor a table nor a view, with the grants on it (Iceberg REST
+    /// OpenAPI, dropNamespace).
     DropNamespace {
         catalog: Plain,
         namespace: Namespace,
@@ -147,6 +147,44 @@ pub enum Action {
     /// Gives a table another name, in its namespace or another one of the catalogue (Iceberg REST OpenAPI,
     /// renameTable).
     RenameTable {
+        catalog: Plain,
+        source: Identifier,
+        destination: Identifier,
+    },
+    /// Lists the views of a namespace (Iceberg REST OpenAPI, listViews).
+    ListViews {
+        catalog: Plain,
+        namespace: Namespace,
+    },
+    /// Creates a view in a namespace (Iceberg REST OpenAPI, createView). Where its location isn't given, it is the
+    /// catalogue's base with the levels and the view's name below. Its uuid is made of the first two words.
+    CreateView {
+        catalog: Plain,
+        namespace: Namespace,
+        request: CreateView,
+    },
+    /// Shows a view with its metadata (Iceberg REST OpenAPI, loadView).
+    LoadView {
+        catalog: Plain,
+        identifier: Identifier,
+    },
+    /// Tells whether a view is there (Iceberg REST OpenAPI, viewExists).
+    HeadView {
+        catalog: Plain,
+        identifier: Identifier,
+    },
+    /// Commits to a view (Iceberg REST OpenAPI, replaceView).
+    ReplaceView {
+        catalog: Plain,
+        commit: ViewCommit,
+    },
+    /// Drops a view with the grants on it (Iceberg REST OpenAPI, dropView).
+    DropView {
+        catalog: Plain,
+        identifier: Identifier,
+    },
+    /// Gives a view another name, in its namespace or another one of the catalogue (Iceberg REST OpenAPI, renameView).
+    RenameView {
         catalog: Plain,
         source: Identifier,
         destination: Identifier,

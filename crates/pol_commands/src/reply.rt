@@ -10,6 +10,7 @@ use pol_names::{Identifier, Namespace, Plain};
 use pol_properties::Properties;
 use pol_types::{Listed, Text};
 use pol_updates::LeftOut;
+use pol_views::ViewMetadata;
 use std::fmt;
 
 /// What a command is answered.
@@ -95,6 +96,20 @@ pub enum Answer {
     TransactionCommitted,
     /// A table has another name.
     TableRenamed,
+    /// The views that were asked for, in byte order of their names.
+    ViewsListed(Listed<Identifier>),
+    /// This view was created, asked for or committed to: where its metadata is now, and the metadata, shared with its
+    /// row.
+    ViewLoaded {
+        metadata_location: Text,
+        metadata: Handle<ViewMetadata>,
+    },
+    /// A view is there.
+    ViewThere,
+    /// A view was dropped.
+    ViewDropped,
+    /// A view has another name.
+    ViewRenamed,
     /// All principals, in byte order of their names.
     PrincipalsListed(Listed<PrincipalRow>),
     /// This principal was created, with this secret.
@@ -196,20 +211,22 @@ pub enum Refusal {
         first: u64,
         second: u64,
     },
-    /// A requirement of a table doesn't hold. The places are those of the table and of the requirement in the request,
-    /// from 0.
+    /// A requirement of a table or a view doesn't hold. The places are those of the table and of the requirement in the
+    /// request, from 0; a view has the place 0.
     RequirementFailed {
         table: u64,
         requirement: u64,
     },
-    /// What a table is to be made of, or an update of it, is refused. The places are those of the table and of the
-    /// update in the request, from 0; a table that is created has the place 0 for both.
+    /// What a table is to be made of, or an update of it or of a view, is refused. The places are those of the table
+    /// and of the update in the request, from 0; a table that is created has the place 0 for both, and a view has the
+    /// place 0.
     UpdateRefused {
         table: u64,
         update: u64,
         why: Why,
     },
-    /// A text that is to be a location is none. The table is the place of the table in the request, from 0.
+    /// A text that is to be a location is none. The table is the place of the table in the request, from 0; a view and
+    /// a catalogue have the place 0.
     BadLocation {
         table: u64,
         why: LocationRefused,
@@ -290,6 +307,7 @@ pub enum Quantity {
     Grants,
     Namespaces,
     Tables,
+    Views,
     AllowedLocations,
     Schemas,
     PartitionSpecs,
@@ -318,6 +336,7 @@ impl fmt::Display for Quantity {
             Quantity::Grants => "grants",
             Quantity::Namespaces => "namespaces",
             Quantity::Tables => "tables",
+            Quantity::Views => "views",
             Quantity::AllowedLocations => "allowed locations",
             Quantity::Schemas => "schemas",
             Quantity::PartitionSpecs => "partition specs",

@@ -19,6 +19,10 @@ pub enum SecurableName {
         catalog: Plain,
         identifier: Identifier,
     },
+    View {
+        catalog: Plain,
+        identifier: Identifier,
+    },
 }
 
 impl fmt::Display for SecurableName {
@@ -35,6 +39,10 @@ impl fmt::Display for SecurableName {
                 catalog,
                 identifier,
             } => write!(f, "table {catalog}/{identifier}"),
+            SecurableName::View {
+                catalog,
+                identifier,
+            } => write!(f, "view {catalog}/{identifier}"),
         }
     }
 }

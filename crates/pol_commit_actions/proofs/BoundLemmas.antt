@@ -22,7 +22,7 @@ use Rattle.pol_commit_actions.specs.declared.target.Target.{Target}
 
 pub version-bound : (s : Rows) → IsSound s → (row : TableRow) → row_of table_id row.id s.content.tables ≡ Some row → row.version ≤ 2 ^ 62
 version-bound s sound row own =
-    let none = refused-not (list_any (λ (one : TableRow). nat_lt (2 ^ 62) one.version) s.content.tables) (Limit quantity.Version (2 ^ 62)) (each-within s sound).1.1.1.1.1.1.1.1.1.1.1.1.1.1.1.1.1.1.1.1.1.0 in
+    let none = refused-not (list_any (λ (one : TableRow). nat_lt (2 ^ 62) one.version) s.content.tables) (Limit quantity.Version (2 ^ 62)) (each-within s sound).1.1.1.1.1.1.1.1.1.1.1.1.1.1.1.1.1.1.1.1.1.1.1.1.1.0 in
     ltb-false (2 ^ 62) row.version (found-holds (λ (one : TableRow). nat_lt (2 ^ 62) one.version ≡ false) (has_id table_id row.id) s.content.tables row (each-fails (λ (one : TableRow). nat_lt (2 ^ 62) one.version) s.content.tables none) own)
 
 pub moves-within : (s : Rows) → IsSound s → (row : TableRow) → row_of table_id row.id s.content.tables ≡ Some row → row.moves ≤ 2 ^ 62 + 1

@@ -1,7 +1,7 @@
 -- The rows once commits are done are orderly.
 use Rattle.std.proofs.Common.{◌≡◌, ℕ, ◌+◌, Bool, true, false, List, [], ◌∷◌, map, Option, None, Some, Result, Ok, Err, option_and_then, refl, sym, ap, subst, ◌∙◌, inl, inr, arith}
 use Rattle.std.specs.Prelude.{◌⊎◌}
-use Rattle.std.specs.List.{AllByRecursion}
+use Rattle.std.specs.List.{list_any, AllByRecursion}
 use Rattle.std.specs.Option.{option_map}
 use Rattle.pol_commands.specs.declared.command.Command.{Command}
 use Rattle.pol_commands.specs.declared.commit.Commit.{Commit}
@@ -27,7 +27,7 @@ use Rattle.pol_rules.proofs.RulesLemmas.{none-either}
 use Rattle.pol_rules.proofs.SoundLemmas.{tables-orderly, IsWithin}
 use Rattle.pol_table_actions.proofs.ActionLemmas.{table-own}
 use Rattle.pol_table_rows.specs.Sound.{IsSoundTable}
-use Rattle.pol_table_rows.specs.Tables.{table_id}
+use Rattle.pol_table_rows.specs.Tables.{is_table_named, table_id}
 use Rattle.pol_table_rows.specs.declared.row.TableRow.{TableRow}
 use Rattle.pol_tables.specs.Table.{has_id, knows, row_of, IdsDiffer}
 use Rattle.pol_tables.proofs.ListLemmas.{each-join, each-map, each-weaken}
@@ -36,7 +36,7 @@ use Rattle.pol_tables.proofs.RisingLemmas.{IdsDiffer-rising}
 use Rattle.pol_commit_actions.specs.Commits.{commits_found, commits_in, committing, rows_committed, tables_committed}
 use Rattle.pol_commit_actions.specs.Outcome.{CommitTo, CommittedTable, all_committed, commit_outcome, committed, committed_by, is_moved, left_as, made_from, made_in, refused_by, rows_after, tables_left, told_at}
 use Rattle.pol_commit_actions.specs.Rules.{bad_location_from, commits_at, misplaced, moved_onto, overlap_among}
-use Rattle.pol_commit_actions.proofs.LeftLemmas.{IsAlike, IsPlaced, Spot, apart-rows, each-passed, left-holds, names-differ}
+use Rattle.pol_commit_actions.proofs.LeftLemmas.{IsAlike, IsPlaced, Spot, apart-rows, each-passed, left-holds, names-differ, none-named}
 use Rattle.pol_commit_actions.proofs.OutcomeLemmas.{both-made, outcome-made, told-made}
 use Rattle.pol_commit_actions.proofs.SingleLemmas.{IsKept, committed-kept}
 use Rattle.pol_commit_actions.proofs.SortedLemmas.{left-id}
@@ -113,7 +113,7 @@ module _ (s : Rows) (command : Command) (sound : IsSound s) where
         let each = each-map IsSoundTable alter rows (each-join (λ row. row_of table_id row.id rows ≡ Some row) IsSoundTable (λ row. IsSoundTable (alter row)) rows (λ row own itself. left-holds s after tables IsSoundTable row placed own itself (λ one at is. at.kept.sound)) tables-own sound.orderly.content.tables.each) in
         let spots = each-weaken (λ row. row_of table_id row.id rows ≡ Some row) (Spot alter after) rows (λ row own. left-holds s after tables (λ (one : TableRow). (one.location ≡ row.location) ⊎ (overlap_among after one ≡ None)) row placed own (inl refl) (λ one at is. spot after row one at is (is_moved one) refl)) tables-own in
         tables-orderly s command s.access (record s.content { tables = after }) s.next_id sound within (omega arith) sound.orderly.access
-        (content.altered_tables s.next_id s.content alter ids (names-differ alter rows alike sound.orderly.content.tables.names_differ) namespaces (apart-rows alter ids after rows (λ P all. all) spots tables-differ sound.orderly.content.tables.apart) each sound.orderly.content)
+        (content.altered_tables s.next_id s.content alter ids (names-differ alter rows alike sound.orderly.content.tables.names_differ) namespaces (apart-rows alter ids after rows (λ P all. all) spots tables-differ sound.orderly.content.tables.apart) each (each-weaken (λ view. list_any (is_table_named view.namespace view.name) rows ≡ false) (λ view. list_any (is_table_named view.namespace view.name) after ≡ false) s.content.views (λ view none. none-named alter view.namespace view.name rows alike ∙ none) sound.orderly.content.views.names_apart) sound.orderly.content)
         (ties.altered_tables s.access s.content sound.orderly.ties alter ids (λ id row found.
         ap (λ namespace. catalog_of_namespace namespace s.content) (found-holds (IsAlike alter) (has_id table_id id) rows row alike found).namespace))
       where

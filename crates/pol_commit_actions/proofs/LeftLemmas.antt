@@ -2,7 +2,7 @@
 use Rattle.std.proofs.Common.{◌≡◌, ℕ, Bool, true, false, not, cond, ◌||◌, ◌&&◌, nat_eq, List, [], ◌∷◌, map, filter, Option, None, Some, unwrap_or, refl, sym, ap, subst, ◌∙◌, inl, inr, true≢false}
 use Rattle.std.specs.Prelude.{◌⊎◌}
 use Rattle.std.specs.Cmp.{nat_eq_equiv}
-use Rattle.std.specs.List.{AllByRecursion, IsDistinct}
+use Rattle.std.specs.List.{list_any, AllByRecursion, IsDistinct}
 use Rattle.std.specs.Option.{option_map}
 use Rattle.std.proofs.Math.Bool.{or_comm}
 use Rattle.std.proofs.lemmas.Bool.{cases_Bool, eqb-true}
@@ -94,6 +94,12 @@ names-differ alter (row ∷ rows) alike differ =
     (λ other like apart. (λ i. is_table_named (alike.0.namespace i) (alike.0.name i) (record (alter other) { namespace = like.namespace i; name = like.name i })) ∙ apart)
     alike.1 (IsDistinct-head same_table row rows differ)))
     (names-differ alter rows alike.1 (IsDistinct-tail same_table row rows differ))
+
+-- and where no table has a name, none has it then
+pub none-named : (alter : TableRow → TableRow) (namespace : ℕ) (name : List ℕ) (rows : List TableRow) → AllByRecursion (IsAlike alter) rows → list_any (is_table_named namespace name) (map alter rows) ≡ list_any (is_table_named namespace name) rows
+none-named alter namespace name [] alike = refl
+none-named alter namespace name (row ∷ rows) alike =
+    λ i. is_table_named namespace name (record (alter row) { namespace = alike.0.namespace i; name = alike.0.name i }) || none-named alter namespace name rows alike.1 i
 
 -- locations
 overlap-symmetric : (a b : List (List ℕ)) → is_overlap a b ≡ is_overlap b a

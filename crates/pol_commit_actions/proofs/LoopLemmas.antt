@@ -15,6 +15,7 @@ use Rattle.pol_state.specs.Bounds.{first_refusal, table_over_limit}
 use Rattle.pol_state.specs.Rows.{Rows}
 use Rattle.pol_rules.specs.Rules.{no_namespace}
 use Rattle.pol_rules.specs.TableRules.{location_outside, no_table}
+pub use Rattle.pol_rules.proofs.JudgingLemmas.{Judging, first-step, over, past, stops}
 use Rattle.pol_rules.proofs.RulesLemmas.{first-joined}
 use Rattle.pol_table_rows.specs.declared.row.TableRow.{TableRow}
 use Rattle.pol_commit_actions.specs.Outcome.{CommitTo, CommittedTable, is_moved, moved, rows_after, tables_left, unmet_from, unmet_in}
@@ -23,32 +24,6 @@ use Rattle.pol_commit_actions.specs.Rules.{any_over_limit, any_unserved, commit_
 use Rattle.pol_commit_actions.specs.Seen.{commit_to, commits_to, committed_table, committed_tables}
 use Rattle.pol_commit_actions.specs.declared.target.Committed.{Committed}
 use Rattle.pol_commit_actions.specs.declared.target.Target.{Target}
-
--- the rule on those that are left is the rule on the first of them, else that on the others
-pub record Judging {X : Type 0} (all : ℕ → List X → Option Refusal) (rule : ℕ → X → Option Refusal) : Type 0 where
-  pub step : (i : ℕ) (x : X) (xs : List X) → all i (x ∷ xs) ≡ option_or (rule i x) (all (i + 1) xs)
-  pub none : (i : ℕ) → all i [] ≡ None
-
-module _ {X : Type 0} (all : ℕ → List X → Option Refusal) (rule : ℕ → X → Option Refusal) (judging : Judging all rule) where
-  at_first : (xs : List X) (i : ℕ) (x : X) (told : Option Refusal) → i < length xs → x ≡ get_or xs i x → rule i x ≡ told → all i (drop i xs) ≡ option_or told (all (i + 1) (drop (i + 1) xs))
-  at_first xs i x told inside is tells =
-      at_drop_more (all i) xs i x inside
-      ∙ judging.step i (get_or xs i x) (drop (i + 1) xs)
-      ∙ ap (λ one. option_or one (all (i + 1) (drop (i + 1) xs))) (ap (rule i) (sym is) ∙ tells)
-
-  pub past : (xs : List X) (i : ℕ) (x : X) → i < length xs → x ≡ get_or xs i x → rule i x ≡ None → all (i + 1) (drop (i + 1) xs) ≡ all i (drop i xs)
-  past xs i x inside is passes = sym (at_first xs i x None inside is passes)
-
-  pub stops : (xs : List X) (i : ℕ) (x : X) → i < length xs → x ≡ get_or xs i x → (why : Refusal) → rule i x ≡ Some why → all i (drop i xs) ≡ Some why
-  stops xs i x inside is why fails = at_first xs i x (Some why) inside is fails
-
-  pub over : (xs : List X) (i : ℕ) → length xs ≤ i → all i (drop i xs) ≡ None
-  over xs i few = at_drop_all (all i) xs i few ∙ judging.none i
-
--- the first of several rules
-pub first-step : (rule : Option Refusal) (rules : List (Option Refusal)) → first_refusal (rule ∷ rules) ≡ option_or rule (first_refusal rules)
-first-step None rules = refl
-first-step (Some why) rules = refl
 
 -- commits on the tables of a state
 module _ (s : Rows) (catalog : CatalogRow) where

@@ -14,7 +14,9 @@ use Rattle.pol_tables.specs.Table.{row_of, IdsDiffer, has_id}
 use Rattle.pol_tables.proofs.TableLemmas.{key-row_of, some_is}
 use Rattle.pol_table_rows.specs.Tables.{table_id}
 use Rattle.pol_table_rows.specs.declared.row.TableRow.{TableRow}
-use Rattle.pol_content.specs.Chain.{first_or, namespace_at, namespace_chain, parents_out, table_uppers, Encloses, EnclosesNamespace, EnclosesRow, uppers_of_found}
+use Rattle.pol_view_rows.specs.Views.{view_id}
+use Rattle.pol_view_rows.specs.declared.row.ViewRow.{ViewRow}
+use Rattle.pol_content.specs.Chain.{first_or, namespace_at, namespace_chain, parents_out, table_uppers, view_uppers, Encloses, EnclosesNamespace, EnclosesRow, uppers_of_found}
 use Rattle.pol_content.specs.Content.{is_namespace_named, lies_below, namespace_id, namespace_named, same_levels, ContentRows, NamespaceNamesDiffer}
 use Rattle.pol_content.specs.Laws.{ChainsHaveWhatContains, DeepestPartsAreFirst}
 use Rattle.pol_content.specs.declared.rows.NamespaceRow.{NamespaceRow}
@@ -193,7 +195,6 @@ module _ (content : ContentRows) (ids : IdsDiffer namespace_id content.namespace
 pub chains_have : ChainsHaveWhatContains
 chains_have content Realm one ids names filled = (λ has. inl (sym (only Realm one has)), λ either. elim either [ inl is ↦ first-has Realm one [] is | inr none ↦ absurd none ])
 chains_have content (Catalog id) one ids names filled = (λ has. inl (sym (only (Catalog id) one has)), λ either. elim either [ inl is ↦ first-has (Catalog id) one [] is | inr none ↦ absurd none ])
-chains_have content (View id) one ids names filled = (λ has. inl (sym (only (View id) one has)), λ either. elim either [ inl is ↦ first-has (View id) one [] is | inr none ↦ absurd none ])
 chains_have content (Namespace id) one ids names filled =
     (namespace-out content ids names filled id one, namespace-in content ids names filled id one)
 chains_have content (Table id) one ids names filled = (
@@ -211,3 +212,18 @@ chains_have content (Table id) one ids names filled = (
     table-encloses : (found : Option TableRow) → row_of table_id id content.tables ≡ found → Contains (table_uppers found content) one → Encloses content one (Table id)
     table-encloses None is has = absurd (omega (arith, has.1))
     table-encloses (Some row) is has = (row, is, namespace-out content ids names filled row.namespace one has)
+chains_have content (View id) one ids names filled = (
+  λ has. elim (first-or-later (View id) one (view_uppers (row_of view_id id content.views) content) has) [
+    | inl is ↦ inl is
+    | inr later ↦ inr (view-encloses (row_of view_id id content.views) refl later)
+  ],
+  λ either. elim either [
+    | inl is ↦ first-has (View id) one (view_uppers (row_of view_id id content.views) content) is
+    | inr has ↦
+        Contains-append_right (View id ∷ []) (view_uppers (row_of view_id id content.views) content) one (subst (λ found. Contains (view_uppers found content) one) (sym has.1) (namespace-in content ids names filled has.0.namespace one has.2))
+  ],
+)
+  where
+    view-encloses : (found : Option ViewRow) → row_of view_id id content.views ≡ found → Contains (view_uppers found content) one → Encloses content one (View id)
+    view-encloses None is has = absurd (omega (arith, has.1))
+    view-encloses (Some row) is has = (row, is, namespace-out content ids names filled row.namespace one has)

@@ -1,7 +1,7 @@
 -- Rows whose names differ: a look-up by name finds the one row of the name.
 use Rattle.std.proofs.Common.{◌≡◌, ℕ, ◌+◌, Bool, true, false, not, cond, List, map, Option, Some, None, is_none, is_some, nat_eq, refl, sym, ap, ◌∙◌, true≢false, suc}
 use Rattle.std.specs.Borrow.{Bor}
-use Rattle.std.specs.Option.{option_copied}
+use Rattle.std.specs.Option.{option_copied, option_map}
 use Rattle.std.specs.Cmp.{IsEquivalence, nat_eq_equiv}
 use Rattle.std.specs.Cmp.Lexicographic.{lists_equiv, nat_list_eq_equiv}
 use Rattle.std.specs.List.{find, range_with_len}
@@ -55,3 +55,8 @@ namespaces_alike catalog levels left right one other =
     let ones = and_parts (nat_eq catalog left.catalog) (same_levels levels left.levels) one in
     let others = and_parts (nat_eq catalog right.catalog) (same_levels levels right.levels) other in
     and_from (nat_eq left.catalog right.catalog) (same_levels left.levels right.levels) (sym (nat_eq_equiv.congr catalog left.catalog right.catalog ones.0) ∙ others.0) (sym (levels_equiv.congr levels left.levels right.levels ones.1) ∙ others.1)
+
+-- something is made of what was found exactly where something was
+pub mapped_some : {X Y : Type 0} (f : X → Y) (found : Option X) → is_some (option_map f found) ≡ is_some found
+mapped_some f None = refl
+mapped_some f (Some x) = refl

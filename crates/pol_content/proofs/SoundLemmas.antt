@@ -1,8 +1,10 @@
--- Sound catalogues, namespaces and tables stay sound once a row is pushed, altered or taken away.
+-- Sound catalogues, namespaces, tables and views stay sound once a row is pushed, altered or taken away.
 use Rattle.std.proofs.Common.{◌≡◌, ℕ, ◌+◌, ◌-◌, ◌<◌, ◌≤◌, Bool, true, false, not, cond, ◌&&◌, ◌||◌, List, [], ◌∷◌, ◌++◌, map, filter, take, length, Option, Some, None, is_none, is_some, nat_eq, nat_lt, refl, sym, ap, subst, ◌∙◌, inl, inr, true≢false, arith, length-take-le, suc, zero}
 use Rattle.std.specs.Cmp.{IsEquivalence, and_equiv, nat_eq_equiv, on_equiv}
 use Rattle.std.specs.Cmp.Lexicographic.{lists_equiv, nat_list_eq_equiv, same_text}
 use Rattle.std.specs.List.{find, list_any, range_with_len, AllByRecursion, IsDistinct}
+use Rattle.std.specs.Option.{option_map, option_or}
+use Rattle.std.proofs.lemmas.List.Folds.{list_any-append}
 use Rattle.std.proofs.lemmas.Bool.{and_from, and_parts, cases_Bool, eq-eqb, eqb-true, lt-ltb, ltb-true, ne_eqb, or_parts}
 use Rattle.std.proofs.Math.Bool.{or_comm}
 use Rattle.std.proofs.lemmas.List.{take_all}
@@ -20,8 +22,10 @@ use Rattle.pol_tables.proofs.TableLemmas.{differ_past, is_some-row_of, lacks_pas
 use Rattle.pol_table_rows.specs.Sound.{IsSoundTable, LocationsApart}
 use Rattle.pol_table_rows.specs.Tables.{TableNamesDiffer, holds_table, is_table_named, member_of, overlapping, table_id, table_named}
 use Rattle.pol_table_rows.specs.declared.row.TableRow.{TableRow}
-use Rattle.pol_content.specs.Content.{catalog_id, first_missing, is_catalog_named, is_missing, is_namespace_named, ContentRows, lies_below, namespace_id, none_below, same_levels, catalog_is_empty, catalog_named, is_empty, namespace_named}
-use Rattle.pol_content.specs.Sound.{AreSoundTables, HasParent, IsParentThere, IsSoundContent}
+use Rattle.pol_view_rows.specs.Views.{holds_view, is_view_named, view_id, view_named}
+use Rattle.pol_view_rows.specs.declared.row.ViewRow.{ViewRow}
+use Rattle.pol_content.specs.Content.{catalog_id, first_missing, is_catalog_named, is_missing, is_namespace_named, ContentRows, lies_below, namespace_id, none_below, same_levels, catalog_is_empty, catalog_named, is_empty, namespace_named, part_named}
+use Rattle.pol_content.specs.Sound.{is_taken, AreSoundTables, AreSoundViews, HasParent, IsParentThere, IsSoundContent}
 use Rattle.pol_content.specs.declared.rows.CatalogRow.{CatalogRow}
 use Rattle.pol_content.specs.declared.rows.NamespaceRow.{NamespaceRow}
 use Rattle.pol_access.proofs.KeptLemmas.{any-push, any-kept, any-fewer, knows-push, not-true, map-each, goes-last, distinct-kept}
@@ -44,7 +48,7 @@ module _ {X : Type 0} (test : X → Bool) where
   ]
 
 module _ {X : Type 0} (equal : X → X → Bool) where
-  distinct-map : (alter : X → X) → ((left right : X) → equal (alter left) (alter right) ≡ equal left right) → (xs : List X) → IsDistinct equal xs → IsDistinct equal (map alter xs)
+  pub distinct-map : (alter : X → X) → ((left right : X) → equal (alter left) (alter right) ≡ equal left right) → (xs : List X) → IsDistinct equal xs → IsDistinct equal (map alter xs)
   distinct-map alter alike [] differ = differ
   distinct-map alter alike (x ∷ xs) differ =
       IsDistinct-cons equal (alter x) (map alter xs) (each-map (λ other. equal (alter x) other ≡ false) alter xs (each-weaken (λ other. equal x other ≡ false) (λ other. equal (alter x) (alter other) ≡ false) xs (λ other apart. alike x other ∙ apart) (IsDistinct-head equal x xs differ))) (distinct-map alter alike xs (IsDistinct-tail equal x xs differ))
@@ -90,25 +94,68 @@ other-stays : {R : Type 0} (key : R → ℕ) (id gone : ℕ) → nat_eq id gone 
 other-stays key id gone apart row has =
     ap not (nat_eq_equiv.symm gone (key row) ∙ ap (λ n. nat_eq n gone) (sym (eqb-true id (key row) has)) ∙ apart)
 
+-- one more that fails a test leaves none that passes it
+pub none-push : {X : Type 0} (test : X → Bool) (xs : List X) (x : X) → list_any test xs ≡ false → test x ≡ false → list_any test (xs ++ x ∷ []) ≡ false
+none-push test xs x none fails = list_any-append test xs (x ∷ []) ∙ (λ i. none i || (fails i || false))
+
+-- a table has the name of a view exactly where the view has that of the table
+pub name-swap : (row : TableRow) (view : ViewRow) → is_table_named view.namespace view.name row ≡ is_view_named row.namespace row.name view
+name-swap row view = λ i. nat_eq_equiv.symm view.namespace row.namespace i && nat_list_eq_equiv.symm view.name row.name i
+
+-- where no table and no view of a namespace has a name, neither is found by it
+pub part-free : (namespace : ℕ) (name : List ℕ) (content : ContentRows) → part_named namespace name content ≡ None → (table_named namespace name content.tables ≡ None) × (view_named namespace name content.views ≡ None)
+part-free namespace name content free = by (table_named namespace name content.tables) (view_named namespace name content.views) free
+  where
+    by : (table : Option TableRow) (view : Option ViewRow) → option_or (option_map table_id table) (option_map view_id view) ≡ None → (table ≡ None) × (view ≡ None)
+    by None None none = (refl, refl)
+    by (Some row) view none = let contrary : Some row.id ≡ None = none in cc
+    by None (Some row) none = let contrary : Some row.id ≡ None = none in cc
+
 -- tables stay sound where more ids are given out, none of theirs is taken, and each one's namespace is there
-module _ (low high : ℕ) (content : ContentRows) (catalogs : List CatalogRow) (namespaces : List NamespaceRow) where
-  abbrev is_taken : ℕ → Bool
-  is_taken id = knows catalog_id id content.catalogs || knows namespace_id id content.namespaces
+module _ (low high : ℕ) (content : ContentRows) (catalogs : List CatalogRow) (namespaces : List NamespaceRow) (views : List ViewRow) where
+  abbrev is_held : ℕ → Bool
+  is_held id = knows catalog_id id content.catalogs || knows namespace_id id content.namespaces
 
-  abbrev is_taken_after : ℕ → Bool
-  is_taken_after id = knows catalog_id id catalogs || knows namespace_id id namespaces
+  abbrev is_held_after : ℕ → Bool
+  is_held_after id = knows catalog_id id catalogs || knows namespace_id id namespaces
 
-  tables_kept : low ≤ high → ((id : ℕ) → id < low → is_taken id ≡ false → is_taken_after id ≡ false)
+  pub tables_kept : low ≤ high → ((id : ℕ) → id < low → is_held id ≡ false → is_held_after id ≡ false)
       → AllByRecursion (λ row. knows namespace_id row.namespace content.namespaces ≡ true → knows namespace_id row.namespace namespaces ≡ true) content.tables
-      → AreSoundTables low content → AreSoundTables high (record content { catalogs = catalogs; namespaces = namespaces })
+      → AreSoundTables low content → AreSoundTables high (record { catalogs = catalogs; namespaces = namespaces; tables = content.tables; views = views })
   tables_kept within apart there sound = record {
     numbered = AreNumbered-more table_id low high within content.tables sound.numbered;
-    ids_differ = each-join (λ row. table_id row < low) (λ row. is_taken row.id ≡ false) (λ row. is_taken_after row.id ≡ false) content.tables (λ row under none. apart row.id under none) (below-next table_id low content.tables sound.numbered) sound.ids_differ;
+    ids_differ = each-join (λ row. table_id row < low) (λ row. is_held row.id ≡ false) (λ row. is_held_after row.id ≡ false) content.tables (λ row under none. apart row.id under none) (below-next table_id low content.tables sound.numbered) sound.ids_differ;
     names_differ = sound.names_differ;
     namespaces = each-join (λ row. knows namespace_id row.namespace content.namespaces ≡ true → knows namespace_id row.namespace namespaces ≡ true) (λ row. knows namespace_id row.namespace content.namespaces ≡ true) (λ row. knows namespace_id row.namespace namespaces ≡ true) content.tables (λ row stays known. stays known) there sound.namespaces;
     apart = sound.apart;
     each = sound.each;
   }
+
+-- and so do views, where besides no table has the name of one
+module _ (low high : ℕ) (content : ContentRows) (catalogs : List CatalogRow) (namespaces : List NamespaceRow) (tables : List TableRow) where
+  abbrev others : ContentRows
+  others = record { catalogs = catalogs; namespaces = namespaces; tables = tables; views = content.views }
+
+  pub views_kept : low ≤ high → ((id : ℕ) → id < low → is_taken id content ≡ false → is_taken id others ≡ false)
+      → AllByRecursion (λ row. knows namespace_id row.namespace content.namespaces ≡ true → knows namespace_id row.namespace namespaces ≡ true) content.views
+      → AllByRecursion (λ row. list_any (is_table_named row.namespace row.name) tables ≡ false) content.views
+      → AreSoundViews low content → AreSoundViews high others
+  views_kept within apart there names sound = record {
+    numbered = AreNumbered-more view_id low high within content.views sound.numbered;
+    ids_differ = each-join (λ row. view_id row < low) (λ row. is_taken row.id content ≡ false) (λ row. is_taken row.id others ≡ false) content.views (λ row under none. apart row.id under none) (below-next view_id low content.views sound.numbered) sound.ids_differ;
+    names_differ = sound.names_differ;
+    names_apart = names;
+    namespaces = each-join (λ row. knows namespace_id row.namespace content.namespaces ≡ true → knows namespace_id row.namespace namespaces ≡ true) (λ row. knows namespace_id row.namespace content.namespaces ≡ true) (λ row. knows namespace_id row.namespace namespaces ≡ true) content.views (λ row stays known. stays known) there sound.namespaces;
+    each = sound.each;
+  }
+
+-- an id that no catalogue and no namespace has from now on, and no table as before
+untaken-more : (low : ℕ) (content : ContentRows) (catalogs : List CatalogRow) (namespaces : List NamespaceRow)
+    → ((id : ℕ) → id < low → (knows catalog_id id content.catalogs || knows namespace_id id content.namespaces) ≡ false → (knows catalog_id id catalogs || knows namespace_id id namespaces) ≡ false)
+    → (id : ℕ) → id < low → is_taken id content ≡ false → is_taken id (record content { catalogs = catalogs; namespaces = namespaces }) ≡ false
+untaken-more low content catalogs namespaces so id under none =
+    let parts = or_parts (knows catalog_id id content.catalogs || knows namespace_id id content.namespaces) (knows table_id id content.tables) none in
+    λ i. so id under parts.0 i || parts.1 i
 
 -- rows stay sound where more ids are given out
 pub more_ids : (low high : ℕ) (content : ContentRows) → low ≤ high → IsSoundContent low content → IsSoundContent high content
@@ -128,6 +175,14 @@ more_ids low high content within sound = record {
     apart = sound.tables.apart;
     each = sound.tables.each;
   };
+  views = record {
+    numbered = AreNumbered-more view_id low high within content.views sound.views.numbered;
+    ids_differ = sound.views.ids_differ;
+    names_differ = sound.views.names_differ;
+    names_apart = sound.views.names_apart;
+    namespaces = sound.views.namespaces;
+    each = sound.views.each;
+  };
 }
 
 one_more : (n : ℕ) → n ≤ n + 1
@@ -145,7 +200,8 @@ pushed_catalog next_id content row sound first is new = record {
   namespace_names_differ = sound.namespace_names_differ;
   namespace_catalogs = each-weaken (λ kept. knows catalog_id kept.catalog content.catalogs ≡ true) (λ kept. knows catalog_id kept.catalog (content.catalogs ++ row ∷ []) ≡ true) content.namespaces (λ kept there. any-push (has_id catalog_id kept.catalog) content.catalogs row there) sound.namespace_catalogs;
   namespace_parents = sound.namespace_parents;
-  tables = tables_kept next_id (next_id + 1) content (content.catalogs ++ row ∷ []) content.namespaces (one_more next_id) untaken (each-all (λ kept. knows namespace_id kept.namespace content.namespaces ≡ true → knows namespace_id kept.namespace content.namespaces ≡ true) content.tables (λ kept known. known)) sound.tables;
+  tables = tables_kept next_id (next_id + 1) content (content.catalogs ++ row ∷ []) content.namespaces content.views (one_more next_id) untaken (each-all (λ kept. knows namespace_id kept.namespace content.namespaces ≡ true → knows namespace_id kept.namespace content.namespaces ≡ true) content.tables (λ kept known. known)) sound.tables;
+  views = views_kept next_id (next_id + 1) content (content.catalogs ++ row ∷ []) content.namespaces content.tables (one_more next_id) (untaken-more next_id content (content.catalogs ++ row ∷ []) content.namespaces untaken) (each-all (λ kept. knows namespace_id kept.namespace content.namespaces ≡ true → knows namespace_id kept.namespace content.namespaces ≡ true) content.views (λ kept known. known)) sound.views.names_apart sound.views;
 }
   where
     apart : (kept : NamespaceRow) → namespace_id kept < next_id → has_id catalog_id kept.id row ≡ false
@@ -174,7 +230,8 @@ pushed_namespace next_id content row sound first is there parent new = record {
   namespace_names_differ = IsDistinct-push same_namespace-equiv content.namespaces row sound.namespace_names_differ (none-found (is_namespace_named row.catalog row.levels) content.namespaces new);
   namespace_catalogs = each-push (λ kept. knows catalog_id kept.catalog content.catalogs ≡ true) content.namespaces row sound.namespace_catalogs there;
   namespace_parents = each-push (HasParent (content.namespaces ++ row ∷ [])) content.namespaces row (each-weaken (HasParent content.namespaces) (HasParent (content.namespaces ++ row ∷ [])) content.namespaces (λ kept. parent-push row content.namespaces kept.catalog (parent_of kept.levels)) sound.namespace_parents) (parent-push row content.namespaces row.catalog (parent_of row.levels) parent);
-  tables = tables_kept next_id (next_id + 1) content content.catalogs (content.namespaces ++ row ∷ []) (one_more next_id) untaken (each-all (λ kept. knows namespace_id kept.namespace content.namespaces ≡ true → knows namespace_id kept.namespace (content.namespaces ++ row ∷ []) ≡ true) content.tables (λ kept known. any-push (has_id namespace_id kept.namespace) content.namespaces row known)) sound.tables;
+  tables = tables_kept next_id (next_id + 1) content content.catalogs (content.namespaces ++ row ∷ []) content.views (one_more next_id) untaken (each-all (λ kept. knows namespace_id kept.namespace content.namespaces ≡ true → knows namespace_id kept.namespace (content.namespaces ++ row ∷ []) ≡ true) content.tables (λ kept known. any-push (has_id namespace_id kept.namespace) content.namespaces row known)) sound.tables;
+  views = views_kept next_id (next_id + 1) content content.catalogs (content.namespaces ++ row ∷ []) content.tables (one_more next_id) (untaken-more next_id content content.catalogs (content.namespaces ++ row ∷ []) untaken) (each-all (λ kept. knows namespace_id kept.namespace content.namespaces ≡ true → knows namespace_id kept.namespace (content.namespaces ++ row ∷ []) ≡ true) content.views (λ kept known. any-push (has_id namespace_id kept.namespace) content.namespaces row known)) sound.views.names_apart sound.views;
 }
   where
     untaken : (id : ℕ) → id < next_id → (knows catalog_id id content.catalogs || knows namespace_id id content.namespaces) ≡ false → (knows catalog_id id content.catalogs || knows namespace_id id (content.namespaces ++ row ∷ [])) ≡ false
@@ -185,7 +242,7 @@ pushed_namespace next_id content row sound first is there parent new = record {
 
 -- a table with the next id and a new name may be pushed into a namespace that is there, where no table overlaps it
 pub pushed_table : (next_id : ℕ) (content : ContentRows) (row : TableRow) → IsSoundContent next_id content → 1 ≤ next_id → row.id ≡ next_id
-    → knows namespace_id row.namespace content.namespaces ≡ true → table_named row.namespace row.name content.tables ≡ None
+    → knows namespace_id row.namespace content.namespaces ≡ true → part_named row.namespace row.name content ≡ None
     → overlapping row.location [] content.tables ≡ None → IsSoundTable row
     → IsSoundContent (next_id + 1) (record content { tables = content.tables ++ row ∷ [] })
 pushed_table next_id content row sound first is there new free itself = record {
@@ -199,13 +256,24 @@ pushed_table next_id content row sound first is there new free itself = record {
   tables = record {
     numbered = AreNumbered-push table_id next_id row content.tables first is sound.tables.numbered;
     ids_differ = each-push (λ kept. (knows catalog_id kept.id content.catalogs || knows namespace_id kept.id content.namespaces) ≡ false) content.tables row sound.tables.ids_differ untaken;
-    names_differ = IsDistinct-push same_table-equiv content.tables row sound.tables.names_differ (none-found (is_table_named row.namespace row.name) content.tables new);
+    names_differ = IsDistinct-push same_table-equiv content.tables row sound.tables.names_differ (none-found (is_table_named row.namespace row.name) content.tables (part-free row.namespace row.name content new).0);
     namespaces = each-push (λ kept. knows namespace_id kept.namespace content.namespaces ≡ true) content.tables row sound.tables.namespaces there;
     apart = distinct-push overlap_rows (λ left right. overlap-symmetric left.location right.location) content.tables row sound.tables.apart (none-overlaps content.tables (none-found (λ kept. is_clash row.location [] (member_of kept)) content.tables free));
     each = each-push IsSoundTable content.tables row sound.tables.each itself;
   };
+  views = views_kept next_id (next_id + 1) content content.catalogs content.namespaces (content.tables ++ row ∷ []) (one_more next_id) views-untaken (each-all (λ kept. knows namespace_id kept.namespace content.namespaces ≡ true → knows namespace_id kept.namespace content.namespaces ≡ true) content.views (λ kept known. known)) views-apart sound.views;
 }
   where
+    views-untaken : (id : ℕ) → id < next_id → is_taken id content ≡ false → is_taken id (record content { tables = content.tables ++ row ∷ [] }) ≡ false
+    views-untaken id under none =
+        let parts = or_parts (knows catalog_id id content.catalogs || knows namespace_id id content.namespaces) (knows table_id id content.tables) none in
+        let fresh : has_id table_id id row ≡ false = ne_eqb id row.id (λ same. omega (arith, under, is, same)) in
+        λ i. parts.0 i || (knows-push table_id id row content.tables ∙ (λ j. parts.1 j || fresh j)) i
+
+    views-apart : AllByRecursion (λ kept. list_any (is_table_named kept.namespace kept.name) (content.tables ++ row ∷ []) ≡ false) content.views
+    views-apart =
+        each-join (λ kept. list_any (is_table_named kept.namespace kept.name) content.tables ≡ false) (λ kept. is_view_named row.namespace row.name kept ≡ false) (λ kept. list_any (is_table_named kept.namespace kept.name) (content.tables ++ row ∷ []) ≡ false) content.views (λ kept none other. none-push (is_table_named kept.namespace kept.name) content.tables row none (name-swap row kept ∙ other)) sound.views.names_apart (each-fails (is_view_named row.namespace row.name) content.views (none-found (is_view_named row.namespace row.name) content.views (part-free row.namespace row.name content new).1))
+
     untaken : (knows catalog_id row.id content.catalogs || knows namespace_id row.id content.namespaces) ≡ false
     untaken =
         let catalogs : knows catalog_id row.id content.catalogs ≡ false = ap (λ id. knows catalog_id id content.catalogs) is ∙ knows-below catalog_id next_id content.catalogs (below-next catalog_id next_id content.catalogs sound.catalogs) in
@@ -236,11 +304,15 @@ altered_namespaces next_id content alter ids catalogs levels sound = record {
   namespace_names_differ = distinct-map same_namespace alter (λ left right i. nat_eq (catalogs left i) (catalogs right i) && same_levels (levels left i) (levels right i)) content.namespaces sound.namespace_names_differ;
   namespace_catalogs = each-map (λ kept. knows catalog_id kept.catalog content.catalogs ≡ true) alter content.namespaces (each-weaken (λ kept. knows catalog_id kept.catalog content.catalogs ≡ true) (λ kept. knows catalog_id (alter kept).catalog content.catalogs ≡ true) content.namespaces (λ kept there. ap (λ id. knows catalog_id id content.catalogs) (catalogs kept) ∙ there) sound.namespace_catalogs);
   namespace_parents = each-map (HasParent (map alter content.namespaces)) alter content.namespaces (each-weaken (HasParent content.namespaces) (λ kept. HasParent (map alter content.namespaces) (alter kept)) content.namespaces parent sound.namespace_parents);
-  tables = tables_kept next_id next_id content content.catalogs (map alter content.namespaces) (omega arith) (λ id under none. (λ i. knows catalog_id id content.catalogs || known-alike id i) ∙ none) (each-all (λ kept. knows namespace_id kept.namespace content.namespaces ≡ true → knows namespace_id kept.namespace (map alter content.namespaces) ≡ true) content.tables (λ kept known. known-alike kept.namespace ∙ known)) sound.tables;
+  tables = tables_kept next_id next_id content content.catalogs (map alter content.namespaces) content.views (omega arith) untaken (each-all (λ kept. knows namespace_id kept.namespace content.namespaces ≡ true → knows namespace_id kept.namespace (map alter content.namespaces) ≡ true) content.tables (λ kept known. known-alike kept.namespace ∙ known)) sound.tables;
+  views = views_kept next_id next_id content content.catalogs (map alter content.namespaces) content.tables (omega arith) (untaken-more next_id content content.catalogs (map alter content.namespaces) untaken) (each-all (λ kept. knows namespace_id kept.namespace content.namespaces ≡ true → knows namespace_id kept.namespace (map alter content.namespaces) ≡ true) content.views (λ kept known. known-alike kept.namespace ∙ known)) sound.views.names_apart sound.views;
 }
   where
     known-alike : (id : ℕ) → knows namespace_id id (map alter content.namespaces) ≡ knows namespace_id id content.namespaces
     known-alike id = any-alike (has_id namespace_id id) alter (λ row i. nat_eq id (ids row i)) content.namespaces
+
+    untaken : (id : ℕ) → id < next_id → (knows catalog_id id content.catalogs || knows namespace_id id content.namespaces) ≡ false → (knows catalog_id id content.catalogs || knows namespace_id id (map alter content.namespaces)) ≡ false
+    untaken id under none = (λ i. knows catalog_id id content.catalogs || known-alike id i) ∙ none
 
     parent : (kept : NamespaceRow) → HasParent content.namespaces kept → HasParent (map alter content.namespaces) (alter kept)
     parent kept there =
@@ -282,17 +354,19 @@ replaced_namespace next_id content old row sound found catalogs levels =
     let known : knows namespace_id row.id rows ≡ true = sym (is_some-row_of namespace_id row.id rows) ∙ ap is_some found in
     let owns = each-own namespace_id rows (IdsDiffer-rising namespace_id rows sound.namespaces.rise) in
     let alike = map-each (λ kept. cond (has_id namespace_id row.id kept) row kept) (alter_one row) rows (each-weaken (λ kept. row_of namespace_id kept.id rows ≡ Some kept) (λ kept. cond (has_id namespace_id row.id kept) row kept ≡ alter_one row kept) rows (λ kept own. is_altered row old rows found catalogs levels kept own (has_id namespace_id row.id kept) refl) owns) in
-    subst (λ after. IsSoundContent next_id (record { catalogs = content.catalogs; namespaces = after; tables = content.tables })) (sym (rows_with-known namespace_id row rows known ∙ alike)) (altered_namespaces next_id content (alter_one row) (λ kept. refl) (λ kept. refl) (λ kept. refl) sound)
+    subst (λ after. IsSoundContent next_id (record content { namespaces = after })) (sym (rows_with-known namespace_id row rows known ∙ alike)) (altered_namespaces next_id content (alter_one row) (λ kept. refl) (λ kept. refl) (λ kept. refl) sound)
 
 -- a row with the next id goes last
 pub new_rows_last : (next_id : ℕ) (content : ContentRows) → IsSoundContent next_id content
     → ((row : CatalogRow) → row.id ≡ next_id → rows_with catalog_id row content.catalogs ≡ content.catalogs ++ row ∷ [])
     × ((row : NamespaceRow) → row.id ≡ next_id → rows_with namespace_id row content.namespaces ≡ content.namespaces ++ row ∷ [])
     × ((row : TableRow) → row.id ≡ next_id → rows_with table_id row content.tables ≡ content.tables ++ row ∷ [])
+    × ((row : ViewRow) → row.id ≡ next_id → rows_with view_id row content.views ≡ content.views ++ row ∷ [])
 new_rows_last next_id content sound = (
   goes-last catalog_id next_id content.catalogs sound.catalogs,
   goes-last namespace_id next_id content.namespaces sound.namespaces,
   goes-last table_id next_id content.tables sound.tables.numbered,
+  goes-last view_id next_id content.views sound.views.numbered,
 )
 
 -- where none is found along a row of numbers, the last fails the test
@@ -367,7 +441,8 @@ dropped_catalog next_id id content sound empty = record {
   namespace_names_differ = sound.namespace_names_differ;
   namespace_catalogs = each-join (λ kept. nat_eq kept.catalog id ≡ false) (λ kept. knows catalog_id kept.catalog content.catalogs ≡ true) (λ kept. knows catalog_id kept.catalog (filter (λ row. not (has_id catalog_id id row)) content.catalogs) ≡ true) content.namespaces (λ kept apart there. any-kept (has_id catalog_id kept.catalog) (λ row. not (has_id catalog_id id row)) content.catalogs (each-all (λ row. has_id catalog_id kept.catalog row ≡ true → not (has_id catalog_id id row) ≡ true) content.catalogs (other-stays catalog_id kept.catalog id apart)) there) (each-fails (λ row. nat_eq row.catalog id) content.namespaces (not-true (list_any (λ row. nat_eq row.catalog id) content.namespaces) empty)) sound.namespace_catalogs;
   namespace_parents = sound.namespace_parents;
-  tables = tables_kept next_id next_id content (filter (λ row. not (has_id catalog_id id row)) content.catalogs) content.namespaces (omega arith) untaken (each-all (λ kept. knows namespace_id kept.namespace content.namespaces ≡ true → knows namespace_id kept.namespace content.namespaces ≡ true) content.tables (λ kept known. known)) sound.tables;
+  tables = tables_kept next_id next_id content (filter (λ row. not (has_id catalog_id id row)) content.catalogs) content.namespaces content.views (omega arith) untaken (each-all (λ kept. knows namespace_id kept.namespace content.namespaces ≡ true → knows namespace_id kept.namespace content.namespaces ≡ true) content.tables (λ kept known. known)) sound.tables;
+  views = views_kept next_id next_id content (filter (λ row. not (has_id catalog_id id row)) content.catalogs) content.namespaces content.tables (omega arith) (untaken-more next_id content (filter (λ row. not (has_id catalog_id id row)) content.catalogs) content.namespaces untaken) (each-all (λ kept. knows namespace_id kept.namespace content.namespaces ≡ true → knows namespace_id kept.namespace content.namespaces ≡ true) content.views (λ kept known. known)) sound.views.names_apart sound.views;
 }
   where
     untaken : (one : ℕ) → one < next_id → (knows catalog_id one content.catalogs || knows namespace_id one content.namespaces) ≡ false → (knows catalog_id one (filter (λ row. not (has_id catalog_id id row)) content.catalogs) || knows namespace_id one content.namespaces) ≡ false
@@ -417,19 +492,23 @@ module _ (id : ℕ) (rows : List NamespaceRow) (differ : IdsDiffer namespace_id 
   none_lies_below (Some upper) empty =
       each-weaken (λ kept. lies_below upper kept ≡ false) (λ kept. (row : NamespaceRow) → Some upper ≡ Some row → lies_below row kept ≡ false) rows (λ kept apart row is. ap (λ other. lies_below other kept) (sym (some_is upper row is)) ∙ apart) (each-fails (lies_below upper) rows (not-true (list_any (lies_below upper) rows) empty))
 
--- an empty namespace has no table
-pub no-tables : (id : ℕ) (content : ContentRows) → is_empty id content ≡ true → holds_table id content.tables ≡ false
-no-tables id content empty =
-    not-true (holds_table id content.tables) (and_parts (none_below (row_of namespace_id id content.namespaces) content.namespaces) (not (holds_table id content.tables)) empty).1
+-- an empty namespace has none below it, no table and no view
+pub no-parts : (id : ℕ) (content : ContentRows) → is_empty id content ≡ true
+    → (none_below (row_of namespace_id id content.namespaces) content.namespaces ≡ true) × (holds_table id content.tables ≡ false) × (holds_view id content.views ≡ false)
+no-parts id content empty =
+    let below = none_below (row_of namespace_id id content.namespaces) content.namespaces in
+    let last = and_parts (below && not (holds_table id content.tables)) (not (holds_view id content.views)) empty in
+    let first = and_parts below (not (holds_table id content.tables)) last.0 in
+    (first.0, not-true (holds_table id content.tables) first.1, not-true (holds_view id content.views) last.1)
 
--- a namespace without deeper ones and without tables may be taken away
+-- a namespace without deeper ones, without tables and without views may be taken away
 pub dropped_namespace : (next_id id : ℕ) (content : ContentRows) → IsSoundContent next_id content → is_empty id content ≡ true
     → IsSoundContent next_id (record content { namespaces = rows_without namespace_id id content.namespaces })
 unfolding rows_without
 dropped_namespace next_id id content sound empty =
     let differ = IdsDiffer-rising namespace_id content.namespaces sound.namespaces.rise in
     let upper = row_of namespace_id id content.namespaces in
-    let parts = and_parts (none_below upper content.namespaces) (not (holds_table id content.tables)) empty in
+    let parts = no-parts id content empty in
     record {
       catalogs = sound.catalogs;
       namespaces = AreNumbered-filter namespace_id next_id (λ row. not (has_id namespace_id id row)) content.namespaces sound.namespaces;
@@ -438,7 +517,8 @@ dropped_namespace next_id id content sound empty =
       namespace_names_differ = distinct-kept same_namespace (λ row. not (has_id namespace_id id row)) content.namespaces sound.namespace_names_differ;
       namespace_catalogs = each-filter (λ kept. knows catalog_id kept.catalog content.catalogs ≡ true) (λ row. not (has_id namespace_id id row)) content.namespaces sound.namespace_catalogs;
       namespace_parents = each-filter (HasParent (filter (λ row. not (has_id namespace_id id row)) content.namespaces)) (λ row. not (has_id namespace_id id row)) content.namespaces (each-join (λ kept. (row : NamespaceRow) → row_of namespace_id id content.namespaces ≡ Some row → lies_below row kept ≡ false) (HasParent content.namespaces) (HasParent (filter (λ row. not (has_id namespace_id id row)) content.namespaces)) content.namespaces (λ kept none there. parents_stay id content.namespaces differ parts.0 kept none (parent_of kept.levels) refl there) (none_lies_below id content.namespaces differ upper parts.0) sound.namespace_parents);
-      tables = tables_kept next_id next_id content content.catalogs (filter (λ row. not (has_id namespace_id id row)) content.namespaces) (omega arith) untaken (each-weaken (λ kept. nat_eq kept.namespace id ≡ false) (λ kept. knows namespace_id kept.namespace content.namespaces ≡ true → knows namespace_id kept.namespace (filter (λ row. not (has_id namespace_id id row)) content.namespaces) ≡ true) content.tables stays (each-fails (λ row. nat_eq row.namespace id) content.tables (not-true (holds_table id content.tables) parts.1))) sound.tables;
+      tables = tables_kept next_id next_id content content.catalogs (filter (λ row. not (has_id namespace_id id row)) content.namespaces) content.views (omega arith) untaken (each-weaken (λ kept. nat_eq kept.namespace id ≡ false) (λ kept. knows namespace_id kept.namespace content.namespaces ≡ true → knows namespace_id kept.namespace (filter (λ row. not (has_id namespace_id id row)) content.namespaces) ≡ true) content.tables (λ kept apart known. stays kept.namespace apart known) (each-fails (λ row. nat_eq row.namespace id) content.tables parts.1)) sound.tables;
+      views = views_kept next_id next_id content content.catalogs (filter (λ row. not (has_id namespace_id id row)) content.namespaces) content.tables (omega arith) (untaken-more next_id content content.catalogs (filter (λ row. not (has_id namespace_id id row)) content.namespaces) untaken) (each-weaken (λ kept. nat_eq kept.namespace id ≡ false) (λ kept. knows namespace_id kept.namespace content.namespaces ≡ true → knows namespace_id kept.namespace (filter (λ row. not (has_id namespace_id id row)) content.namespaces) ≡ true) content.views (λ kept apart known. stays kept.namespace apart known) (each-fails (λ row. nat_eq row.namespace id) content.views parts.2)) sound.views.names_apart sound.views;
     }
   where
     untaken : (one : ℕ) → one < next_id → (knows catalog_id one content.catalogs || knows namespace_id one content.namespaces) ≡ false → (knows catalog_id one content.catalogs || knows namespace_id one (filter (λ row. not (has_id namespace_id id row)) content.namespaces)) ≡ false
@@ -446,9 +526,9 @@ dropped_namespace next_id id content sound empty =
         let parts = or_parts (knows catalog_id one content.catalogs) (knows namespace_id one content.namespaces) none in
         λ i. parts.0 i || any-fewer (has_id namespace_id one) (λ row. not (has_id namespace_id id row)) content.namespaces parts.1 i
 
-    stays : (kept : TableRow) → nat_eq kept.namespace id ≡ false → knows namespace_id kept.namespace content.namespaces ≡ true → knows namespace_id kept.namespace (filter (λ row. not (has_id namespace_id id row)) content.namespaces) ≡ true
-    stays kept apart known =
-        any-kept (has_id namespace_id kept.namespace) (λ row. not (has_id namespace_id id row)) content.namespaces (each-all (λ row. has_id namespace_id kept.namespace row ≡ true → not (has_id namespace_id id row) ≡ true) content.namespaces (other-stays namespace_id kept.namespace id apart)) known
+    stays : (namespace : ℕ) → nat_eq namespace id ≡ false → knows namespace_id namespace content.namespaces ≡ true → knows namespace_id namespace (filter (λ row. not (has_id namespace_id id row)) content.namespaces) ≡ true
+    stays namespace apart known =
+        any-kept (has_id namespace_id namespace) (λ row. not (has_id namespace_id id row)) content.namespaces (each-all (λ row. has_id namespace_id namespace row ≡ true → not (has_id namespace_id id row) ≡ true) content.namespaces (other-stays namespace_id namespace id apart)) known
 
 -- a table may be taken away
 pub dropped_table : (next_id id : ℕ) (content : ContentRows) → IsSoundContent next_id content
@@ -472,18 +552,25 @@ dropped_table next_id id content sound =
         apart = distinct-kept overlap_rows keep content.tables sound.tables.apart;
         each = each-filter IsSoundTable keep content.tables sound.tables.each;
       };
+      views = views_kept next_id next_id content content.catalogs content.namespaces (filter keep content.tables) (omega arith) untaken (each-all (λ kept. knows namespace_id kept.namespace content.namespaces ≡ true → knows namespace_id kept.namespace content.namespaces ≡ true) content.views (λ kept known. known)) (each-weaken (λ kept. list_any (is_table_named kept.namespace kept.name) content.tables ≡ false) (λ kept. list_any (is_table_named kept.namespace kept.name) (filter keep content.tables) ≡ false) content.views (λ kept none. any-fewer (is_table_named kept.namespace kept.name) keep content.tables none) sound.views.names_apart) sound.views;
     }
+  where
+    untaken : (one : ℕ) → one < next_id → is_taken one content ≡ false → is_taken one (record content { tables = filter (λ row. not (has_id table_id id row)) content.tables }) ≡ false
+    untaken one under none =
+        let parts = or_parts (knows catalog_id one content.catalogs || knows namespace_id one content.namespaces) (knows table_id one content.tables) none in
+        λ i. parts.0 i || any-fewer (has_id table_id one) (λ row. not (has_id table_id id row)) content.tables parts.1 i
 
 -- no catalogue and no namespace has an id
 abbrev Untaken : ContentRows → ℕ → Type 0
 Untaken content id = (knows catalog_id id content.catalogs || knows namespace_id id content.namespaces) ≡ false
 
--- tables may be altered under their ids, where their names differ then, their namespaces are there, no two overlap and each
--- is sound by itself
+-- tables may be altered under their ids, where their names differ then, from those of views too, their namespaces are
+-- there, no two overlap and each is sound by itself
 pub altered_tables : (next_id : ℕ) (content : ContentRows) (alter : TableRow → TableRow) → ((row : TableRow) → (alter row).id ≡ row.id) → TableNamesDiffer (map alter content.tables)
     → AllByRecursion (λ row. knows namespace_id row.namespace content.namespaces ≡ true) (map alter content.tables) → LocationsApart (map alter content.tables) → AllByRecursion IsSoundTable (map alter content.tables)
+    → AllByRecursion (λ row. list_any (is_table_named row.namespace row.name) (map alter content.tables) ≡ false) content.views
     → IsSoundContent next_id content → IsSoundContent next_id (record content { tables = map alter content.tables })
-altered_tables next_id content alter ids names namespaces apart each sound = record {
+altered_tables next_id content alter ids names namespaces apart each views sound = record {
   catalogs = sound.catalogs;
   namespaces = sound.namespaces;
   ids_differ = sound.ids_differ;
@@ -499,11 +586,16 @@ altered_tables next_id content alter ids names namespaces apart each sound = rec
     apart = apart;
     each = each;
   };
+  views = views_kept next_id next_id content content.catalogs content.namespaces (map alter content.tables) (omega arith) untaken (each-all (λ kept. knows namespace_id kept.namespace content.namespaces ≡ true → knows namespace_id kept.namespace content.namespaces ≡ true) content.views (λ kept known. known)) views sound.views;
 }
+  where
+    untaken : (id : ℕ) → id < next_id → is_taken id content ≡ false → is_taken id (record content { tables = map alter content.tables }) ≡ false
+    untaken id under none =
+        (λ i. (knows catalog_id id content.catalogs || knows namespace_id id content.namespaces) || any-alike (has_id table_id id) alter (λ row i. nat_eq id (ids row i)) content.tables i) ∙ none
 
 -- where one row is put in the place of that of its id, and is like none of the others, no two are alike
 module _ {X : Type 0} (equal : X → X → Bool) (symmetric : (left right : X) → equal left right ≡ equal right left) (key : X → ℕ) where
-  distinct-replaced : (row : X) (rows : List X) → IdsDiffer key rows → list_any (equal row) rows ≡ false → IsDistinct equal rows → IsDistinct equal (map (replaced key row) rows)
+  pub distinct-replaced : (row : X) (rows : List X) → IdsDiffer key rows → list_any (equal row) rows ≡ false → IsDistinct equal rows → IsDistinct equal (map (replaced key row) rows)
   distinct-replaced row [] ids none differ = differ
   distinct-replaced row (first ∷ rest) ids none differ =
       let parts = or_parts (equal row first) (list_any (equal row) rest) none in
@@ -547,19 +639,33 @@ module _ (row : TableRow) where
 
 -- one table may get a name that is free, in a namespace that is there
 pub renamed_table : (next_id : ℕ) (content : ContentRows) (old row : TableRow) → IsSoundContent next_id content → row_of table_id row.id content.tables ≡ Some old
-    → row ≡ record old { namespace = row.namespace; name = row.name } → knows namespace_id row.namespace content.namespaces ≡ true → table_named row.namespace row.name content.tables ≡ None
+    → row ≡ record old { namespace = row.namespace; name = row.name } → knows namespace_id row.namespace content.namespaces ≡ true → part_named row.namespace row.name content ≡ None
     → IsSoundContent next_id (record content { tables = rows_with table_id row content.tables })
 renamed_table next_id content old row sound found so there free =
     let rows = content.tables in
     let differ = IdsDiffer-rising table_id rows sound.tables.numbered.rise in
     let known : knows table_id row.id rows ≡ true = sym (is_some-row_of table_id row.id rows) ∙ ap is_some found in
     let alike = map-each (λ kept. cond (has_id table_id row.id kept) row kept) (rename_one row) rows (each-weaken (λ kept. row_of table_id kept.id rows ≡ Some kept) (λ kept. cond (has_id table_id row.id kept) row kept ≡ rename_one row kept) rows (λ kept own. is_renamed row old rows found so kept own (has_id table_id row.id kept) refl) (each-own table_id rows differ)) in
-    let names = subst TableNamesDiffer alike (distinct-replaced same_table same_table-equiv.symm table_id row rows differ (none-found (is_table_named row.namespace row.name) rows free) sound.tables.names_differ) in
+    let names = subst TableNamesDiffer alike (distinct-replaced same_table same_table-equiv.symm table_id row rows differ (none-found (is_table_named row.namespace row.name) rows (part-free row.namespace row.name content free).0) sound.tables.names_differ) in
     let namespaces = each-map (λ one. knows namespace_id one.namespace content.namespaces ≡ true) (rename_one row) rows (each-weaken (λ kept. knows namespace_id kept.namespace content.namespaces ≡ true) (λ kept. knows namespace_id (rename_one row kept).namespace content.namespaces ≡ true) rows (λ kept before. by kept (has_id table_id row.id kept) before) sound.tables.namespaces) in
     let apart = distinct-map overlap_rows (rename_one row) (λ left right. refl) rows sound.tables.apart in
     let each = each-map IsSoundTable (rename_one row) rows (each-weaken IsSoundTable (λ kept. IsSoundTable (rename_one row kept)) rows (λ kept itself. record { metadata = itself.metadata; placed = itself.placed; moved = itself.moved }) sound.tables.each) in
-    subst (λ after. IsSoundContent next_id (record content { tables = after })) (sym (rows_with-known table_id row rows known ∙ alike)) (altered_tables next_id content (rename_one row) (λ kept. refl) names namespaces apart each sound)
+    subst (λ after. IsSoundContent next_id (record content { tables = after })) (sym (rows_with-known table_id row rows known ∙ alike)) (altered_tables next_id content (rename_one row) (λ kept. refl) names namespaces apart each views-apart sound)
   where
+    views-apart : AllByRecursion (λ kept. list_any (is_table_named kept.namespace kept.name) (map (rename_one row) content.tables) ≡ false) content.views
+    views-apart =
+        each-join (λ kept. list_any (is_table_named kept.namespace kept.name) content.tables ≡ false) (λ kept. is_view_named row.namespace row.name kept ≡ false) (λ kept. list_any (is_table_named kept.namespace kept.name) (map (rename_one row) content.tables) ≡ false) content.views (λ kept none other. none-renamed kept (name-swap row kept ∙ other) content.tables none) sound.views.names_apart (each-fails (is_view_named row.namespace row.name) content.views (none-found (is_view_named row.namespace row.name) content.views (part-free row.namespace row.name content free).1))
+      where
+        one-renamed : (kept : ViewRow) (table : TableRow) (has : Bool) → is_table_named kept.namespace kept.name row ≡ false → is_table_named kept.namespace kept.name table ≡ false → is_table_named kept.namespace kept.name (with_name row has table) ≡ false
+        one-renamed kept table true other none = other
+        one-renamed kept table false other none = none
+
+        none-renamed : (kept : ViewRow) → is_table_named kept.namespace kept.name row ≡ false → (tables : List TableRow) → list_any (is_table_named kept.namespace kept.name) tables ≡ false → list_any (is_table_named kept.namespace kept.name) (map (rename_one row) tables) ≡ false
+        none-renamed kept other [] none = refl
+        none-renamed kept other (table ∷ tables) none =
+            let parts = or_parts (is_table_named kept.namespace kept.name table) (list_any (is_table_named kept.namespace kept.name) tables) none in
+            λ i. one-renamed kept table (has_id table_id row.id table) other parts.0 i || none-renamed kept other tables parts.1 i
+
     by : (kept : TableRow) (has : Bool) → knows namespace_id kept.namespace content.namespaces ≡ true → knows namespace_id (cond has row.namespace kept.namespace) content.namespaces ≡ true
     by kept true before = there
     by kept false before = before

@@ -1,4 +1,5 @@
--- Rows that are tied stay so once a catalogue, a namespace, a table or a catalogue role is put or dropped.
+-- Rows that are tied stay so once a catalogue, a namespace, a table or a catalogue role is put or dropped. Views have
+-- lemmas of their own.
 use Rattle.std.proofs.Common.{◌≡◌, ◌≢◌, ℕ, ◌+◌, Bool, true, false, not, cond, ◌&&◌, ◌||◌, List, [], ◌∷◌, ◌++◌, map, Option, Some, None, is_some, option_and_then, option_map, nat_eq, refl, sym, ap, ◌∙◌, true≢false, arith, codes}
 use Rattle.std.specs.Cmp.{nat_eq_equiv}
 use Rattle.std.specs.Cmp.Lexicographic.{nat_list_eq_equiv}
@@ -24,28 +25,27 @@ use Rattle.pol_tables.specs.Facts.{facts_with, holds}
 use Rattle.pol_tables.specs.Same.{same}
 use Rattle.pol_tables.specs.Table.{has_id, knows, row_of, rows_with, rows_without, IdsDiffer}
 use Rattle.pol_tables.proofs.FactsLemmas.{facts_with-new}
-use Rattle.pol_tables.proofs.ListLemmas.{each-map, each-push, each-weaken}
+use Rattle.pol_tables.proofs.ListLemmas.{each-map, each-weaken}
 use Rattle.pol_tables.proofs.NamedLemmas.{each-rows_with, each-rows_without, find-none}
 use Rattle.pol_tables.proofs.SameLemmas.{same-differ, same-refl}
 use Rattle.pol_tables.proofs.TableLemmas.{is_some-row_of, key-row_of, rows_with-new}
 use Rattle.pol_table_rows.specs.Tables.{holds_table, table_id}
 use Rattle.pol_table_rows.specs.declared.row.TableRow.{TableRow}
+use Rattle.pol_view_rows.specs.Views.{holds_view, view_id}
+use Rattle.pol_view_rows.specs.declared.row.ViewRow.{ViewRow}
 use Rattle.pol_content.specs.Content.{catalog_id, namespace_id, ContentRows}
 use Rattle.pol_content.specs.Ties.{admin_grant, admin_join, admin_of, catalog_of, catalog_of_namespace, is_access_id, with_admin, HasAdmin, IdsApart, IsGrantWithin, IsAdminNew, AreTied, is_content_id, with_admin_last}
 use Rattle.pol_content.specs.declared.rows.CatalogRow.{CatalogRow}
 use Rattle.pol_content.specs.declared.rows.NamespaceRow.{NamespaceRow}
-use Rattle.pol_content.proofs.SoundLemmas.{each-fails}
+use Rattle.pol_content.proofs.SoundLemmas.{each-fails, none-push}
 use Rattle.pol_content.proofs.TiesLemmas.{admin-kept, admins-kept, apart-fewer, apart-put, each-within, find-new, find-pushed, find-without, found-own, holds-put, knows-put, knows-without, mapped-kept, other-id, role-name, row_of-other, row_of-put, unknown-from, unknown-parts, unknown-put, unknown-without, within-roles, IsUnknown}
 use Rattle.pol_access.specs.declared.rows.PrincipalRoleRow.{PrincipalRoleRow}
 use Rattle.pol_access.proofs.KeptLemmas.{any-fewer, found-holds, found-passes, find-kept, each-kept, holds-kept, holds-with, each-with, not-true}
 
--- where each item fails none passes, and one more that fails leaves it so
+-- where each item fails none passes
 any-none : {X : Type 0} (test : X → Bool) (xs : List X) → AllByRecursion (λ x. test x ≡ false) xs → list_any test xs ≡ false
 any-none test [] all = refl
 any-none test (x ∷ xs) all = ap (λ b. b || list_any test xs) all.0 ∙ any-none test xs all.1
-
-none-push : {X : Type 0} (test : X → Bool) (xs : List X) (x : X) → list_any test xs ≡ false → test x ≡ false → list_any test (xs ++ x ∷ []) ≡ false
-none-push test xs x none fails = any-none test (xs ++ x ∷ []) (each-push (λ one. test one ≡ false) xs x (each-fails test xs none) fails)
 
 -- a catalogue's `catalog_admin`
 abbrev is_admin : ℕ → CatalogRoleRow → Bool
@@ -85,23 +85,33 @@ module _ (content after : ContentRows) (catalog : ℕ)
     (catalogs : (row : CatalogRow) → row_of catalog_id catalog content.catalogs ≡ Some row → row_of catalog_id catalog after.catalogs ≡ Some row) where
   pub lies-kept : (of : Securable) → ((id : ℕ) (row : NamespaceRow) → of ≡ Namespace id → row_of namespace_id id content.namespaces ≡ Some row → row.catalog ≡ catalog → option_map (λ one. one.catalog) (row_of namespace_id id after.namespaces) ≡ Some catalog)
       → ((id : ℕ) (row : TableRow) → of ≡ Table id → row_of table_id id content.tables ≡ Some row → catalog_of_namespace row.namespace content ≡ Some catalog → catalog_of (Table id) after ≡ Some catalog)
+      → ((id : ℕ) (row : ViewRow) → of ≡ View id → row_of view_id id content.views ≡ Some row → catalog_of_namespace row.namespace content ≡ Some catalog → catalog_of (View id) after ≡ Some catalog)
       → catalog_of of content ≡ Some catalog → catalog_of of after ≡ Some catalog
-  lies-kept Realm namespaces tables lies = lies
-  lies-kept (Catalog id) namespaces tables lies =
+  lies-kept Realm namespaces tables views lies = lies
+  lies-kept (Catalog id) namespaces tables views lies =
       mapped-kept (λ one. one.id) catalog (row_of catalog_id id content.catalogs) (row_of catalog_id id after.catalogs) (λ row found is. kept row found is) lies
     where
       kept : (row : CatalogRow) → row_of catalog_id id content.catalogs ≡ Some row → row.id ≡ catalog → option_map (λ one. one.id) (row_of catalog_id id after.catalogs) ≡ Some catalog
       kept row found is =
           let same_id : id ≡ catalog = key-row_of catalog_id id row content.catalogs found ∙ is in
           ap (λ one. option_map (λ (kept : CatalogRow). kept.id) (row_of catalog_id one after.catalogs)) same_id ∙ ap (option_map (λ (kept : CatalogRow). kept.id)) (catalogs row (ap (λ one. row_of catalog_id one content.catalogs) (sym same_id) ∙ found)) ∙ ap Some is
-  lies-kept (Namespace id) namespaces tables lies =
+  lies-kept (Namespace id) namespaces tables views lies =
       mapped-kept (λ one. one.catalog) catalog (row_of namespace_id id content.namespaces) (row_of namespace_id id after.namespaces) (λ row found is. namespaces id row refl found is) lies
-  lies-kept (Table id) namespaces tables lies = by (row_of table_id id content.tables) refl lies
+  lies-kept (Table id) namespaces tables views lies = by (row_of table_id id content.tables) refl lies
     where
       by : (found : Option TableRow) → row_of table_id id content.tables ≡ found → option_and_then (λ (row : TableRow). catalog_of_namespace row.namespace content) found ≡ Some catalog → catalog_of (Table id) after ≡ Some catalog
       by None is none = let contrary : None ≡ Some catalog = none in cc
       by (Some row) is inside = tables id row refl is inside
-  lies-kept (View id) namespaces tables lies = lies
+  lies-kept (View id) namespaces tables views lies = by (row_of view_id id content.views) refl lies
+    where
+      by : (found : Option ViewRow) → row_of view_id id content.views ≡ found → option_and_then (λ (row : ViewRow). catalog_of_namespace row.namespace content) found ≡ Some catalog → catalog_of (View id) after ≡ Some catalog
+      by None is none = let contrary : None ≡ Some catalog = none in cc
+      by (Some row) is inside = views id row refl is inside
+
+-- a view that stays lies where it did
+pub view-stays : (content : ContentRows) (catalog id : ℕ) (row : ViewRow) → row_of view_id id content.views ≡ Some row → catalog_of_namespace row.namespace content ≡ Some catalog
+    → option_and_then (λ (one : ViewRow). catalog_of_namespace one.namespace content) (row_of view_id id content.views) ≡ Some catalog
+view-stays content catalog id row found inside = ap (option_and_then (λ (one : ViewRow). catalog_of_namespace one.namespace content)) found ∙ inside
 
 -- a table lies in the catalogue of its namespace once that is found as before
 table-lies : (content after : ContentRows) (catalog id : ℕ) (row : TableRow) → row_of table_id id after.tables ≡ Some row
@@ -110,6 +120,13 @@ table-lies : (content after : ContentRows) (catalog id : ℕ) (row : TableRow) �
 table-lies content after catalog id row found so lies =
     ap (option_and_then (λ (one : TableRow). catalog_of_namespace one.namespace after)) found ∙ mapped-kept (λ one. one.catalog) catalog (row_of namespace_id row.namespace content.namespaces) (row_of namespace_id row.namespace after.namespaces) so lies
 
+-- and so does a view
+view-lies : (content after : ContentRows) (catalog id : ℕ) (row : ViewRow) → row_of view_id id after.views ≡ Some row
+    → ((kept : NamespaceRow) → row_of namespace_id row.namespace content.namespaces ≡ Some kept → kept.catalog ≡ catalog → catalog_of_namespace row.namespace after ≡ Some catalog)
+    → catalog_of_namespace row.namespace content ≡ Some catalog → catalog_of (View id) after ≡ Some catalog
+view-lies content after catalog id row found so lies =
+    ap (option_and_then (λ (one : ViewRow). catalog_of_namespace one.namespace after)) found ∙ mapped-kept (λ one. one.catalog) catalog (row_of namespace_id row.namespace content.namespaces) (row_of namespace_id row.namespace after.namespaces) so lies
+
 -- a namespace may be put, a new one or one that stays in its catalogue, whose id is no principal's and no role's
 pub put_namespace : (access : AccessRows) (content : ContentRows) → AreTied access content → (row : NamespaceRow) → ((old : NamespaceRow) → row_of namespace_id row.id content.namespaces ≡ Some old → row.catalog ≡ old.catalog)
     → is_access_id row.id access ≡ false → AreTied access (record content { namespaces = rows_with namespace_id row content.namespaces })
@@ -117,12 +134,13 @@ put_namespace access content tied row same_catalog none =
     let after : ContentRows = record content { namespaces = rows_with namespace_id row content.namespaces } in
     record {
       role_catalogs = tied.role_catalogs;
-      grants_within = each-weaken (IsGrantWithin access content) (IsGrantWithin access after) access.grants (λ one within. record { role = within.role; there = within.there; within = lies-kept content after within.role.catalog (λ kept found. found) one.securable (λ id kept is found in_. lies id kept within.role.catalog found in_ (has_id namespace_id id row) refl) (λ id kept is found. table-lies content after within.role.catalog id kept found (λ one there in_. lies kept.namespace one within.role.catalog there in_ (has_id namespace_id kept.namespace row) refl)) within.within }) tied.grants_within;
+      grants_within = each-weaken (IsGrantWithin access content) (IsGrantWithin access after) access.grants (λ one within. record { role = within.role; there = within.there; within = lies-kept content after within.role.catalog (λ kept found. found) one.securable (λ id kept is found in_. lies id kept within.role.catalog found in_ (has_id namespace_id id row) refl) (λ id kept is found. table-lies content after within.role.catalog id kept found (λ one there in_. lies kept.namespace one within.role.catalog there in_ (has_id namespace_id kept.namespace row) refl)) (λ id kept is found. view-lies content after within.role.catalog id kept found (λ one there in_. lies kept.namespace one within.role.catalog there in_ (has_id namespace_id kept.namespace row) refl)) within.within }) tied.grants_within;
       catalog_admins = tied.catalog_admins;
       ids_apart = record {
         catalogs = tied.ids_apart.catalogs;
         namespaces = each-rows_with namespace_id (λ kept. is_access_id kept.id access ≡ false) (λ kept. is_access_id kept.id access ≡ false) row content.namespaces tied.ids_apart.namespaces (λ kept apart other. apart) none;
         tables = tied.ids_apart.tables;
+        views = tied.ids_apart.views;
       };
     }
   where
@@ -135,26 +153,27 @@ put_namespace access content tied row same_catalog none =
     lies id kept catalog found in_ false is =
         ap (option_map (λ (other : NamespaceRow). other.catalog)) (row_of-other namespace_id id row content.namespaces is ∙ found) ∙ ap Some in_
 
--- a namespace without tables may be dropped with the grants on it
-pub dropped_namespace : (access : AccessRows) (content : ContentRows) → AreTied access content → (id : ℕ) → holds_table id content.tables ≡ false → AreTied (grants_on_dropped (Namespace id) access) (record content { namespaces = rows_without namespace_id id content.namespaces })
-dropped_namespace access content tied gone empty =
+-- a namespace without tables and views may be dropped with the grants on it
+pub dropped_namespace : (access : AccessRows) (content : ContentRows) → AreTied access content → (id : ℕ) → holds_table id content.tables ≡ false → holds_view id content.views ≡ false → AreTied (grants_on_dropped (Namespace id) access) (record content { namespaces = rows_without namespace_id id content.namespaces })
+dropped_namespace access content tied gone empty no_views =
     let after : ContentRows = record content { namespaces = rows_without namespace_id gone content.namespaces } in
     let roles : AccessRows = grants_on_dropped (Namespace gone) access in
     record {
       role_catalogs = tied.role_catalogs;
-      grants_within = each-kept (IsGrantWithin access content) (IsGrantWithin roles after) (λ one. not (same the_row.coded one.securable (Namespace gone))) access.grants tied.grants_within (λ one within stays. record { role = within.role; there = within.there; within = lies-kept content after within.role.catalog (λ kept found. found) one.securable (λ id kept is found in_. lies id kept within.role.catalog found in_ (granted id kept found (ap (λ of. same the_row.coded of (Namespace gone)) (sym is) ∙ not-true (same the_row.coded one.securable (Namespace gone)) stays))) (λ id kept is found. table-lies content after within.role.catalog id kept found (λ upper there in_. lies kept.namespace upper within.role.catalog there in_ (held id kept upper found there))) within.within });
+      grants_within = each-kept (IsGrantWithin access content) (IsGrantWithin roles after) (λ one. not (same the_row.coded one.securable (Namespace gone))) access.grants tied.grants_within (λ one within stays. record { role = within.role; there = within.there; within = lies-kept content after within.role.catalog (λ kept found. found) one.securable (λ id kept is found in_. lies id kept within.role.catalog found in_ (granted id kept found (ap (λ of. same the_row.coded of (Namespace gone)) (sym is) ∙ not-true (same the_row.coded one.securable (Namespace gone)) stays))) (λ id kept is found. table-lies content after within.role.catalog id kept found (λ upper there in_. lies kept.namespace upper within.role.catalog there in_ (held id kept upper found there))) (λ id kept is found. view-lies content after within.role.catalog id kept found (λ upper there in_. lies kept.namespace upper within.role.catalog there in_ (view-held id kept upper found there))) within.within });
       catalog_admins = admins-kept access roles content tied (λ one has. admin-kept access roles one.id has has.role_there has.service_there has.joined (λ privilege managed. holds-kept grant.the_row.coded (λ kept. not (same the_row.coded kept.securable (Namespace gone))) (record { catalog_role = has.role.id; privilege = privilege; securable = Catalog one.id }) access.grants managed (ap not (same-differ the_row.coded (Catalog one.id) (Namespace gone) (λ is. no_namespace one.id is)))));
       ids_apart = record {
         catalogs = tied.ids_apart.catalogs;
         namespaces = each-rows_without namespace_id (λ kept. is_access_id kept.id access ≡ false) (λ kept. is_access_id kept.id access ≡ false) gone content.namespaces tied.ids_apart.namespaces (λ kept apart other. apart);
         tables = tied.ids_apart.tables;
+        views = tied.ids_apart.views;
       };
     }
   where
     no_namespace : (id : ℕ) → Catalog id ≡ Namespace gone → ⊥
     no_namespace id is = cc
 
-    -- the namespace of a grant that stays, or of a table, is another one
+    -- the namespace of a grant that stays, or of a table or a view, is another one
     granted : (id : ℕ) (kept : NamespaceRow) → row_of namespace_id id content.namespaces ≡ Some kept → same the_row.coded (Namespace id) (Namespace gone) ≡ false → nat_eq gone kept.id ≡ false
     granted id kept found apart =
         ne_eqb gone kept.id (λ is. true≢false (sym (ap (λ n. same the_row.coded (Namespace id) (Namespace n)) (is ∙ sym (key-row_of namespace_id id kept content.namespaces found)) ∙ same-refl the_row.coded (Namespace id)) ∙ apart))
@@ -162,6 +181,11 @@ dropped_namespace access content tied gone empty =
     held : (id : ℕ) (row : TableRow) (kept : NamespaceRow) → row_of table_id id content.tables ≡ Some row → row_of namespace_id row.namespace content.namespaces ≡ Some kept → nat_eq gone kept.id ≡ false
     held id row kept found there =
         let apart = found-holds (has_id table_id id) (λ one. nat_eq one.namespace gone ≡ false) content.tables row (each-fails (λ one. nat_eq one.namespace gone) content.tables empty) found in
+        nat_eq_equiv.symm gone kept.id ∙ ap (λ n. nat_eq n gone) (sym (key-row_of namespace_id row.namespace kept content.namespaces there)) ∙ apart
+
+    view-held : (id : ℕ) (row : ViewRow) (kept : NamespaceRow) → row_of view_id id content.views ≡ Some row → row_of namespace_id row.namespace content.namespaces ≡ Some kept → nat_eq gone kept.id ≡ false
+    view-held id row kept found there =
+        let apart = found-holds (has_id view_id id) (λ one. nat_eq one.namespace gone ≡ false) content.views row (each-fails (λ one. nat_eq one.namespace gone) content.views no_views) found in
         nat_eq_equiv.symm gone kept.id ∙ ap (λ n. nat_eq n gone) (sym (key-row_of namespace_id row.namespace kept content.namespaces there)) ∙ apart
 
     lies : (id : ℕ) (kept : NamespaceRow) (catalog : ℕ) → row_of namespace_id id content.namespaces ≡ Some kept → kept.catalog ≡ catalog → nat_eq gone kept.id ≡ false
@@ -176,12 +200,13 @@ put_table access content tied row same_catalog none =
     let after : ContentRows = record content { tables = rows_with table_id row content.tables } in
     record {
       role_catalogs = tied.role_catalogs;
-      grants_within = each-weaken (IsGrantWithin access content) (IsGrantWithin access after) access.grants (λ one within. record { role = within.role; there = within.there; within = lies-kept content after within.role.catalog (λ kept found. found) one.securable (λ id kept is found in_. ap (option_map (λ (other : NamespaceRow). other.catalog)) found ∙ ap Some in_) (λ id kept is found inside. lies id kept within.role.catalog found inside (has_id table_id id row) refl) within.within }) tied.grants_within;
+      grants_within = each-weaken (IsGrantWithin access content) (IsGrantWithin access after) access.grants (λ one within. record { role = within.role; there = within.there; within = lies-kept content after within.role.catalog (λ kept found. found) one.securable (λ id kept is found in_. ap (option_map (λ (other : NamespaceRow). other.catalog)) found ∙ ap Some in_) (λ id kept is found inside. lies id kept within.role.catalog found inside (has_id table_id id row) refl) (λ id kept is found inside. view-stays content within.role.catalog id kept found inside) within.within }) tied.grants_within;
       catalog_admins = tied.catalog_admins;
       ids_apart = record {
         catalogs = tied.ids_apart.catalogs;
         namespaces = tied.ids_apart.namespaces;
         tables = each-rows_with table_id (λ kept. is_access_id kept.id access ≡ false) (λ kept. is_access_id kept.id access ≡ false) row content.tables tied.ids_apart.tables (λ kept apart other. apart) none;
+        views = tied.ids_apart.views;
       };
     }
   where
@@ -201,12 +226,13 @@ dropped_table access content tied gone =
     let roles : AccessRows = grants_on_dropped (Table gone) access in
     record {
       role_catalogs = tied.role_catalogs;
-      grants_within = each-kept (IsGrantWithin access content) (IsGrantWithin roles after) (λ one. not (same the_row.coded one.securable (Table gone))) access.grants tied.grants_within (λ one within stays. record { role = within.role; there = within.there; within = lies-kept content after within.role.catalog (λ kept found. found) one.securable (λ id kept is found in_. ap (option_map (λ (other : NamespaceRow). other.catalog)) found ∙ ap Some in_) (λ id kept is found inside. lies id kept within.role.catalog found inside (ap (λ of. same the_row.coded of (Table gone)) (sym is) ∙ not-true (same the_row.coded one.securable (Table gone)) stays)) within.within });
+      grants_within = each-kept (IsGrantWithin access content) (IsGrantWithin roles after) (λ one. not (same the_row.coded one.securable (Table gone))) access.grants tied.grants_within (λ one within stays. record { role = within.role; there = within.there; within = lies-kept content after within.role.catalog (λ kept found. found) one.securable (λ id kept is found in_. ap (option_map (λ (other : NamespaceRow). other.catalog)) found ∙ ap Some in_) (λ id kept is found inside. lies id kept within.role.catalog found inside (ap (λ of. same the_row.coded of (Table gone)) (sym is) ∙ not-true (same the_row.coded one.securable (Table gone)) stays)) (λ id kept is found inside. view-stays content within.role.catalog id kept found inside) within.within });
       catalog_admins = admins-kept access roles content tied (λ one has. admin-kept access roles one.id has has.role_there has.service_there has.joined (λ privilege managed. holds-kept grant.the_row.coded (λ kept. not (same the_row.coded kept.securable (Table gone))) (record { catalog_role = has.role.id; privilege = privilege; securable = Catalog one.id }) access.grants managed (ap not (same-differ the_row.coded (Catalog one.id) (Table gone) (λ is. no_table one.id is)))));
       ids_apart = record {
         catalogs = tied.ids_apart.catalogs;
         namespaces = tied.ids_apart.namespaces;
         tables = each-rows_without table_id (λ kept. is_access_id kept.id access ≡ false) (λ kept. is_access_id kept.id access ≡ false) gone content.tables tied.ids_apart.tables (λ kept apart other. apart);
+        views = tied.ids_apart.views;
       };
     }
   where
@@ -234,6 +260,7 @@ dropped_catalog access content tied gone differ =
         catalogs = each-rows_without catalog_id (λ kept. is_access_id kept.id roles ≡ false) (λ kept. is_access_id kept.id roles ≡ false) gone content.catalogs ids.catalogs (λ kept apart other. apart);
         namespaces = ids.namespaces;
         tables = ids.tables;
+        views = ids.views;
       };
     }
   where
@@ -245,7 +272,7 @@ dropped_catalog access content tied gone differ =
     within_others one within apart = record {
       role = within.role;
       there = find-kept (has_id catalog_role_id one.catalog_role) (λ row. not (nat_eq row.catalog gone)) access.catalog_roles within.role within.there (ap not apart);
-      within = lies-kept content (record content { catalogs = rows_without catalog_id gone content.catalogs }) within.role.catalog (λ row found. find-without catalog_id (has_id catalog_id within.role.catalog) gone row content.catalogs found (nat_eq_equiv.symm gone row.id ∙ ap (λ id. nat_eq id gone) (sym (key-row_of catalog_id within.role.catalog row content.catalogs found)) ∙ apart)) one.securable (λ id row is found in_. ap (option_map (λ (kept : NamespaceRow). kept.catalog)) found ∙ ap Some in_) (λ id row is found inside. ap (option_and_then (λ (kept : TableRow). catalog_of_namespace kept.namespace content)) found ∙ inside) within.within;
+      within = lies-kept content (record content { catalogs = rows_without catalog_id gone content.catalogs }) within.role.catalog (λ row found. find-without catalog_id (has_id catalog_id within.role.catalog) gone row content.catalogs found (nat_eq_equiv.symm gone row.id ∙ ap (λ id. nat_eq id gone) (sym (key-row_of catalog_id within.role.catalog row content.catalogs found)) ∙ apart)) one.securable (λ id row is found in_. ap (option_map (λ (kept : NamespaceRow). kept.catalog)) found ∙ ap Some in_) (λ id row is found inside. ap (option_and_then (λ (kept : TableRow). catalog_of_namespace kept.namespace content)) found ∙ inside) (λ id row is found inside. view-stays content within.role.catalog id row found inside) within.within;
     }
 
     admins : (one : CatalogRow) → HasAdmin access one.id → has_id catalog_id gone one ≡ false → HasAdmin (catalog_roles_dropped gone access) one.id
@@ -270,6 +297,7 @@ created_catalog access content tied row service service_there none none_after un
         catalogs = each-rows_with catalog_id (λ kept. is_access_id kept.id roles ≡ false) (λ kept. is_access_id kept.id roles ≡ false) row content.catalogs ids.catalogs (λ kept apart other. apart) (unknown-from row.id roles (still_unknown row.id (unknown-parts row.id access unknown) (ne_eqb row.id (row.id + 1) (λ is. omega (arith, is)))));
         namespaces = ids.namespaces;
         tables = ids.tables;
+        views = ids.views;
       };
     }
   where
@@ -281,7 +309,7 @@ created_catalog access content tied row service service_there none none_after un
 
     new_catalog : knows catalog_id row.id content.catalogs ≡ false
     new_catalog =
-        (or_parts (knows catalog_id row.id content.catalogs) (knows namespace_id row.id content.namespaces) (or_parts (knows catalog_id row.id content.catalogs || knows namespace_id row.id content.namespaces) (knows table_id row.id content.tables) none).0).0
+        (or_parts (knows catalog_id row.id content.catalogs) (knows namespace_id row.id content.namespaces) (or_parts (knows catalog_id row.id content.catalogs || knows namespace_id row.id content.namespaces) (knows table_id row.id content.tables) (or_parts (knows catalog_id row.id content.catalogs || knows namespace_id row.id content.namespaces || knows table_id row.id content.tables) (knows view_id row.id content.views) none).0).0).0
 
     new_role : knows catalog_role_id (row.id + 1) access.catalog_roles ≡ false
     new_role = (unknown-parts (row.id + 1) access unknown_after).catalog_roles
@@ -299,7 +327,7 @@ created_catalog access content tied row service service_there none none_after un
     within one inside = record {
       role = inside.role;
       there = find-pushed catalog_role_id (has_id catalog_role_id one.catalog_role) (admin_of row.id) inside.role access.catalog_roles new_role inside.there;
-      within = lies-kept content after inside.role.catalog (λ kept found. find-pushed catalog_id (has_id catalog_id inside.role.catalog) row kept content.catalogs new_catalog found) one.securable (λ id kept is found in_. ap (option_map (λ (other : NamespaceRow). other.catalog)) found ∙ ap Some in_) (λ id kept is found lies. ap (option_and_then (λ (other : TableRow). catalog_of_namespace other.namespace content)) found ∙ lies) inside.within;
+      within = lies-kept content after inside.role.catalog (λ kept found. find-pushed catalog_id (has_id catalog_id inside.role.catalog) row kept content.catalogs new_catalog found) one.securable (λ id kept is found in_. ap (option_map (λ (other : NamespaceRow). other.catalog)) found ∙ ap Some in_) (λ id kept is found lies. ap (option_and_then (λ (other : TableRow). catalog_of_namespace other.namespace content)) found ∙ lies) (λ id kept is found lies. view-stays content inside.role.catalog id kept found lies) inside.within;
     }
 
     admin_within : (one : GrantRow) → one.catalog_role ≡ row.id + 1 → one.securable ≡ Catalog row.id → IsGrantWithin roles after one
@@ -379,11 +407,12 @@ altered_tables access content tied alter ids same_catalog =
     let after : ContentRows = record content { tables = map alter content.tables } in
     record {
       role_catalogs = tied.role_catalogs;
-      grants_within = each-weaken (IsGrantWithin access content) (IsGrantWithin access after) access.grants (λ one within. record { role = within.role; there = within.there; within = lies-kept content after within.role.catalog (λ kept found. found) one.securable (λ id kept is found in_. ap (option_map (λ (other : NamespaceRow). other.catalog)) found ∙ ap Some in_) (λ id kept is found inside. ap (option_and_then (λ (other : TableRow). catalog_of_namespace other.namespace content)) (altered-found alter ids id kept content.tables found) ∙ same_catalog id kept found ∙ inside) within.within }) tied.grants_within;
+      grants_within = each-weaken (IsGrantWithin access content) (IsGrantWithin access after) access.grants (λ one within. record { role = within.role; there = within.there; within = lies-kept content after within.role.catalog (λ kept found. found) one.securable (λ id kept is found in_. ap (option_map (λ (other : NamespaceRow). other.catalog)) found ∙ ap Some in_) (λ id kept is found inside. ap (option_and_then (λ (other : TableRow). catalog_of_namespace other.namespace content)) (altered-found alter ids id kept content.tables found) ∙ same_catalog id kept found ∙ inside) (λ id kept is found inside. view-stays content within.role.catalog id kept found inside) within.within }) tied.grants_within;
       catalog_admins = tied.catalog_admins;
       ids_apart = record {
         catalogs = tied.ids_apart.catalogs;
         namespaces = tied.ids_apart.namespaces;
         tables = each-map (λ kept. is_access_id kept.id access ≡ false) alter content.tables (each-weaken (λ kept. is_access_id kept.id access ≡ false) (λ kept. is_access_id (alter kept).id access ≡ false) content.tables (λ kept apart. ap (λ id. is_access_id id access) (ids kept) ∙ apart) tied.ids_apart.tables);
+        views = tied.ids_apart.views;
       };
     }

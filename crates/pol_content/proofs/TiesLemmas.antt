@@ -31,6 +31,7 @@ use Rattle.pol_tables.proofs.RisingLemmas.{knows-below, KeysBelow-more}
 use Rattle.pol_tables.proofs.SameLemmas.{same-differ, same-refl}
 use Rattle.pol_tables.proofs.TableLemmas.{rows_with-new, some_is}
 use Rattle.pol_table_rows.specs.Tables.{table_id}
+use Rattle.pol_view_rows.specs.Views.{view_id}
 use Rattle.pol_content.specs.Content.{catalog_id, namespace_id, ContentRows}
 use Rattle.pol_content.specs.Ties.{is_access_id, is_content_id, manages, HasAdmin, IdsApart, IsGrantWithin, AreTied}
 use Rattle.pol_content.specs.declared.rows.CatalogRow.{CatalogRow}
@@ -136,22 +137,29 @@ module _ (access after : AccessRows) (content : ContentRows) (apart : IdsApart a
     catalogs = each-weaken (λ row. is_access_id row.id access ≡ false) (λ row. is_access_id row.id after ≡ false) content.catalogs (λ row none. unknown-from row.id after (so row.id (unknown-parts row.id access none))) apart.catalogs;
     namespaces = each-weaken (λ row. is_access_id row.id access ≡ false) (λ row. is_access_id row.id after ≡ false) content.namespaces (λ row none. unknown-from row.id after (so row.id (unknown-parts row.id access none))) apart.namespaces;
     tables = each-weaken (λ row. is_access_id row.id access ≡ false) (λ row. is_access_id row.id after ≡ false) content.tables (λ row none. unknown-from row.id after (so row.id (unknown-parts row.id access none))) apart.tables;
+    views = each-weaken (λ row. is_access_id row.id access ≡ false) (λ row. is_access_id row.id after ≡ false) content.views (λ row none. unknown-from row.id after (so row.id (unknown-parts row.id access none))) apart.views;
   }
 
   pub apart-put : (new : ℕ) → is_content_id new content ≡ false → ((id : ℕ) → IsUnknown id access → nat_eq id new ≡ false → IsUnknown id after) → IdsApart after content
   apart-put new none so =
-      let last = or_parts (knows catalog_id new content.catalogs || knows namespace_id new content.namespaces) (knows table_id new content.tables) none in
+      let all = or_parts (knows catalog_id new content.catalogs || knows namespace_id new content.namespaces || knows table_id new content.tables) (knows view_id new content.views) none in
+      let last = or_parts (knows catalog_id new content.catalogs || knows namespace_id new content.namespaces) (knows table_id new content.tables) all.0 in
       let parts = or_parts (knows catalog_id new content.catalogs) (knows namespace_id new content.namespaces) last.0 in
       record {
         catalogs = each-join (λ row. nat_eq new row.id ≡ false) (λ row. is_access_id row.id access ≡ false) (λ row. is_access_id row.id after ≡ false) content.catalogs (λ row other unknown. unknown-from row.id after (so row.id (unknown-parts row.id access unknown) (nat_eq_equiv.symm row.id new ∙ other))) (each-fails (has_id catalog_id new) content.catalogs parts.0) apart.catalogs;
         namespaces = each-join (λ row. nat_eq new row.id ≡ false) (λ row. is_access_id row.id access ≡ false) (λ row. is_access_id row.id after ≡ false) content.namespaces (λ row other unknown. unknown-from row.id after (so row.id (unknown-parts row.id access unknown) (nat_eq_equiv.symm row.id new ∙ other))) (each-fails (has_id namespace_id new) content.namespaces parts.1) apart.namespaces;
         tables = each-join (λ row. nat_eq new row.id ≡ false) (λ row. is_access_id row.id access ≡ false) (λ row. is_access_id row.id after ≡ false) content.tables (λ row other unknown. unknown-from row.id after (so row.id (unknown-parts row.id access unknown) (nat_eq_equiv.symm row.id new ∙ other))) (each-fails (has_id table_id new) content.tables last.1) apart.tables;
+        views = each-join (λ row. nat_eq new row.id ≡ false) (λ row. is_access_id row.id access ≡ false) (λ row. is_access_id row.id after ≡ false) content.views (λ row other unknown. unknown-from row.id after (so row.id (unknown-parts row.id access unknown) (nat_eq_equiv.symm row.id new ∙ other))) (each-fails (has_id view_id new) content.views all.1) apart.views;
       }
 
 -- an id that was not given out is none of the content
 pub new_ids : (next_id id : ℕ) (content : ContentRows) → IsSoundContent next_id content → next_id ≤ id → is_content_id id content ≡ false
 new_ids next_id id content sound above =
-    or-false (knows catalog_id id content.catalogs || knows namespace_id id content.namespaces) (knows table_id id content.tables) (or-false (knows catalog_id id content.catalogs) (knows namespace_id id content.namespaces) (knows-below catalog_id id content.catalogs (KeysBelow-more catalog_id next_id id content.catalogs above (below-next catalog_id next_id content.catalogs sound.catalogs))) (knows-below namespace_id id content.namespaces (KeysBelow-more namespace_id next_id id content.namespaces above (below-next namespace_id next_id content.namespaces sound.namespaces)))) (knows-below table_id id content.tables (KeysBelow-more table_id next_id id content.tables above (below-next table_id next_id content.tables sound.tables.numbered)))
+    let catalogs : knows catalog_id id content.catalogs ≡ false = knows-below catalog_id id content.catalogs (KeysBelow-more catalog_id next_id id content.catalogs above (below-next catalog_id next_id content.catalogs sound.catalogs)) in
+    let namespaces : knows namespace_id id content.namespaces ≡ false = knows-below namespace_id id content.namespaces (KeysBelow-more namespace_id next_id id content.namespaces above (below-next namespace_id next_id content.namespaces sound.namespaces)) in
+    let tables : knows table_id id content.tables ≡ false = knows-below table_id id content.tables (KeysBelow-more table_id next_id id content.tables above (below-next table_id next_id content.tables sound.tables.numbered)) in
+    let views : knows view_id id content.views ≡ false = knows-below view_id id content.views (KeysBelow-more view_id next_id id content.views above (below-next view_id next_id content.views sound.views.numbered)) in
+    λ i. ((catalogs i || namespaces i) || tables i) || views i
 
 -- grants stay within their roles' catalogues where the roles are found as before
 module _ (access after : AccessRows) (content : ContentRows) where
@@ -236,7 +244,7 @@ members_keep access content tied members = record {
   role_catalogs = tied.role_catalogs;
   grants_within = each-within access (record access { members = members }) content (λ row within. within.there) access.grants tied.grants_within;
   catalog_admins = admins-kept access (record access { members = members }) content tied (λ one has. admin-kept access (record access { members = members }) one.id has has.role_there has.service_there has.joined (λ privilege managed. managed));
-  ids_apart = record { catalogs = tied.ids_apart.catalogs; namespaces = tied.ids_apart.namespaces; tables = tied.ids_apart.tables };
+  ids_apart = record { catalogs = tied.ids_apart.catalogs; namespaces = tied.ids_apart.namespaces; tables = tied.ids_apart.tables; views = tied.ids_apart.views };
 }
 
 -- a join may be put, and one other than of `service_admin` to a `catalog_admin` may be dropped
@@ -247,7 +255,7 @@ put_join access content tied row =
       role_catalogs = tied.role_catalogs;
       grants_within = each-within access after content (λ one within. within.there) access.grants tied.grants_within;
       catalog_admins = admins-kept access after content tied (λ one has. admin-kept access after one.id has has.role_there has.service_there (holds-with join.the_row.coded (record { principal_role = has.service.id; catalog_role = has.role.id }) row access.joins has.joined) (λ privilege managed. managed));
-      ids_apart = record { catalogs = tied.ids_apart.catalogs; namespaces = tied.ids_apart.namespaces; tables = tied.ids_apart.tables };
+      ids_apart = record { catalogs = tied.ids_apart.catalogs; namespaces = tied.ids_apart.namespaces; tables = tied.ids_apart.tables; views = tied.ids_apart.views };
     }
 
 -- the name that a found role has
@@ -267,7 +275,7 @@ dropped_join access content tied principal_role catalog_role roles_differ differ
       role_catalogs = tied.role_catalogs;
       grants_within = each-within access after content (λ one within. within.there) access.grants tied.grants_within;
       catalog_admins = admins-kept access after content tied (λ one has. admin-kept access after one.id has has.role_there has.service_there (holds-without join.the_row.coded gone (record { principal_role = has.service.id; catalog_role = has.role.id }) access.joins has.joined (λ is. stays one has (ap (λ join_. join_.principal_role) is) (ap (λ join_. join_.catalog_role) is))) (λ privilege managed. managed));
-      ids_apart = record { catalogs = tied.ids_apart.catalogs; namespaces = tied.ids_apart.namespaces; tables = tied.ids_apart.tables };
+      ids_apart = record { catalogs = tied.ids_apart.catalogs; namespaces = tied.ids_apart.namespaces; tables = tied.ids_apart.tables; views = tied.ids_apart.views };
     }
   where
     stays : (one : CatalogRow) (has : HasAdmin access one.id) → has.service.id ≡ principal_role.id → has.role.id ≡ catalog_role.id → ⊥
@@ -288,7 +296,7 @@ put_grant access content tied row within =
       role_catalogs = tied.role_catalogs;
       grants_within = each-with grant.the_row.coded (IsGrantWithin after content) row access.grants (each-within access after content (λ one inside. inside.there) access.grants tied.grants_within) (within-roles access after content row within within.there);
       catalog_admins = admins-kept access after content tied (λ one has. admin-kept access after one.id has has.role_there has.service_there has.joined (λ privilege managed. holds-with grant.the_row.coded (record { catalog_role = has.role.id; privilege = privilege; securable = Catalog one.id }) row access.grants managed));
-      ids_apart = record { catalogs = tied.ids_apart.catalogs; namespaces = tied.ids_apart.namespaces; tables = tied.ids_apart.tables };
+      ids_apart = record { catalogs = tied.ids_apart.catalogs; namespaces = tied.ids_apart.namespaces; tables = tied.ids_apart.tables; views = tied.ids_apart.views };
     }
 
 pub dropped_grant : (access : AccessRows) (content : ContentRows) → AreTied access content → (role : CatalogRoleRow) (row : GrantRow) → IdsDiffer catalog_role_id access.catalog_roles → row_of catalog_role_id row.catalog_role access.catalog_roles ≡ Some role
@@ -309,7 +317,7 @@ dropped_grant access content tied role row differ there other =
         manages_access = holds-without grant.the_row.coded row (record { catalog_role = has.role.id; privilege = CatalogManageAccess; securable = Catalog one.id }) access.grants has.manages_access (λ is. (admins one has (ap (λ grant_. grant_.catalog_role) is) (ap (λ grant_. grant_.securable) is)).0 (sym (ap (λ grant_. grant_.privilege) is)));
         manages_content = holds-without grant.the_row.coded row (record { catalog_role = has.role.id; privilege = CatalogManageContent; securable = Catalog one.id }) access.grants has.manages_content (λ is. (admins one has (ap (λ grant_. grant_.catalog_role) is) (ap (λ grant_. grant_.securable) is)).1 (sym (ap (λ grant_. grant_.privilege) is)));
       }) tied.catalog_admins;
-      ids_apart = record { catalogs = tied.ids_apart.catalogs; namespaces = tied.ids_apart.namespaces; tables = tied.ids_apart.tables };
+      ids_apart = record { catalogs = tied.ids_apart.catalogs; namespaces = tied.ids_apart.namespaces; tables = tied.ids_apart.tables; views = tied.ids_apart.views };
     }
   where
     admins : (one : CatalogRow) (has : HasAdmin access one.id) → has.role.id ≡ row.catalog_role → Catalog one.id ≡ row.securable → (row.privilege ≢ CatalogManageAccess) × (row.privilege ≢ CatalogManageContent)

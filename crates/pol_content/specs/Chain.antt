@@ -6,6 +6,8 @@ use Rattle.pol_names.specs.Namespace.{parent_of}
 use Rattle.pol_table_rows.specs.Tables.{table_id, table_named}
 use Rattle.pol_table_rows.specs.declared.row.TableRow.{TableRow}
 use Rattle.pol_tables.specs.Table.{row_of}
+use Rattle.pol_view_rows.specs.Views.{view_id, view_named}
+use Rattle.pol_view_rows.specs.declared.row.ViewRow.{ViewRow}
 use Rattle.pol_content.specs.Content.{ContentRows, lies_below, lineage, namespace_id, namespace_named}
 use Rattle.pol_content.specs.declared.rows.NamespaceRow.{NamespaceRow}
 
@@ -24,15 +26,16 @@ abbrev pub EnclosesNamespace : ContentRows → Securable → ℕ → Type 0
 EnclosesNamespace content upper id =
     (row : NamespaceRow) × (row_of namespace_id id content.namespaces ≡ Some row) × EnclosesRow content upper row
 
--- one securable contains another, which is there: a namespace, or a table, which its namespace contains and what
--- contains that one
+-- one securable contains another, which is there: a namespace, or a table or a view, which its namespace contains and
+-- what contains that one
 abbrev pub Encloses : ContentRows → Securable → Securable → Type 0
 Encloses content upper Realm = ⊥
 Encloses content upper (Catalog id) = ⊥
 Encloses content upper (Namespace id) = EnclosesNamespace content upper id
 Encloses content upper (Table id) =
     (row : TableRow) × (row_of table_id id content.tables ≡ Some row) × ((upper ≡ Namespace row.namespace) ⊎ EnclosesNamespace content upper row.namespace)
-Encloses content upper (View id) = ⊥
+Encloses content upper (View id) =
+    (row : ViewRow) × (row_of view_id id content.views ≡ Some row) × ((upper ≡ Namespace row.namespace) ⊎ EnclosesNamespace content upper row.namespace)
 
 -- the namespace of a catalogue with these levels, as a securable
 abbrev pub namespace_at : ℕ → ContentRows → List (List ℕ) → Option Securable
@@ -68,13 +71,21 @@ table_uppers (Some row) content = namespace_chain row.namespace content
 abbrev pub table_chain : ℕ → ContentRows → List Securable
 table_chain id content = Table id ∷ table_uppers (row_of table_id id content.tables) content
 
+-- what contains a view, and a view and what contains it
+abbrev pub view_uppers : Option ViewRow → ContentRows → List Securable
+view_uppers None content = []
+view_uppers (Some row) content = namespace_chain row.namespace content
+
+abbrev pub view_chain : ℕ → ContentRows → List Securable
+view_chain id content = View id ∷ view_uppers (row_of view_id id content.views) content
+
 -- a securable and all that contain it, itself first and then outwards
 abbrev pub chain_of : Securable → ContentRows → List Securable
 chain_of Realm content = Realm ∷ []
 chain_of (Catalog id) content = Catalog id ∷ []
 chain_of (Namespace id) content = namespace_chain id content
 chain_of (Table id) content = table_chain id content
-chain_of (View id) content = View id ∷ []
+chain_of (View id) content = view_chain id content
 
 -- the first of these namespaces, or the catalogue where there is none
 abbrev pub first_or : ℕ → List Securable → Securable
@@ -98,3 +109,17 @@ table_or part (Some row) = Table row.id
 -- the deepest part of a table's path that is there: the table, or else that of its namespace's path
 abbrev pub deepest_of_table : ℕ → List (List ℕ) → List ℕ → ContentRows → Securable
 deepest_of_table catalog levels name content = table_or (deepest catalog levels content) (table_at catalog levels name content)
+
+-- the view of a name in the namespace of these levels
+abbrev pub view_at : ℕ → List (List ℕ) → List ℕ → ContentRows → Option ViewRow
+view_at catalog levels name content =
+    option_and_then (λ (row : NamespaceRow). view_named row.id name content.views) (namespace_named catalog levels content)
+
+-- a view that was found, or else a part of its path
+abbrev pub view_or : Securable → Option ViewRow → Securable
+view_or part None = part
+view_or part (Some row) = View row.id
+
+-- the deepest part of a view's path that is there: the view, or else that of its namespace's path
+abbrev pub deepest_of_view : ℕ → List (List ℕ) → List ℕ → ContentRows → Securable
+deepest_of_view catalog levels name content = view_or (deepest catalog levels content) (view_at catalog levels name content)

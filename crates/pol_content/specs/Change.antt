@@ -3,7 +3,7 @@ use Rattle.std.specs.Prelude.{Bool, false, Option, None, Some}
 use denote.Enum.Bare.{sameb}
 use Rattle.pol_content.specs.contracts.change.RowKind.{the_type}
 use Rattle.pol_content.specs.declared.change.Change.{Change}
-use Rattle.pol_content.specs.declared.change.Change.TheVariants.{Time, NextId, NextSerial, PutPrincipal, DropPrincipal, PutPrincipalRole, DropPrincipalRole, PutCatalog, DropCatalog, PutCatalogRole, DropCatalogRole, PutNamespace, DropNamespace, PutTable, DropTable, PutMember, DropMember, PutJoin, DropJoin, PutGrant, DropGrant, PutSession}
+use Rattle.pol_content.specs.declared.change.Change.TheVariants.{Time, NextId, NextSerial, PutPrincipal, DropPrincipal, PutPrincipalRole, DropPrincipalRole, PutCatalog, DropCatalog, PutCatalogRole, DropCatalogRole, PutNamespace, DropNamespace, PutTable, DropTable, PutView, DropView, PutMember, DropMember, PutJoin, DropJoin, PutGrant, DropGrant, PutSession}
 use Rattle.pol_content.specs.declared.change.RowKind.{RowKind}
 use Rattle.pol_content.specs.declared.change.RowKind.TheVariants as kind
 
@@ -24,6 +24,8 @@ kind_put (PutNamespace row) = Some kind.Namespace
 kind_put (DropNamespace id) = None
 kind_put (PutTable row) = Some kind.Table
 kind_put (DropTable id) = None
+kind_put (PutView row) = Some kind.View
+kind_put (DropView id) = None
 kind_put (PutMember row) = Some kind.Member
 kind_put (DropMember row) = None
 kind_put (PutJoin row) = Some kind.Join

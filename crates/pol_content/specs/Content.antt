@@ -1,12 +1,15 @@
--- Catalogues, namespaces and tables, as contracts see them.
+-- Catalogues, namespaces, tables and views, as contracts see them.
 use Rattle.std.specs.Prelude.{ℕ, Bool, true, false, not, ◌&&◌, ◌==◌, nat_eq, nat_lt, List, length, filter, map, take, Option, Some, None, is_none}
 use Rattle.std.specs.Cmp.Lexicographic.{pointwise}
 use Rattle.std.specs.List.{find, list_any, range_with_len, starts_with, IsDistinct}
+use Rattle.std.specs.Option.{option_map, option_or}
 use Rattle.std.specs.Str.{bytes_eq}
 use Rattle.pol_names.specs.Namespace.{parent_of}
-use Rattle.pol_table_rows.specs.Tables.{holds_table, table_named}
+use Rattle.pol_table_rows.specs.Tables.{holds_table, table_id, table_named}
 use Rattle.pol_table_rows.specs.declared.row.TableRow.{TableRow}
 use Rattle.pol_tables.specs.Table.{row_of}
+use Rattle.pol_view_rows.specs.Views.{holds_view, view_id, view_named}
+use Rattle.pol_view_rows.specs.declared.row.ViewRow.{ViewRow}
 use Rattle.pol_content.specs.Order.{by_levels}
 use Rattle.pol_content.specs.declared.rows.CatalogRow.{CatalogRow}
 use Rattle.pol_content.specs.declared.rows.NamespaceRow.{NamespaceRow}
@@ -16,12 +19,14 @@ pub record ContentRows : Type 0 where
   pub catalogs : List CatalogRow
   pub namespaces : List NamespaceRow
   pub tables : List TableRow
+  pub views : List ViewRow
 
 -- how many more rows need no memory
 pub record ContentRoom : Type 0 where
   pub catalogs : ℕ
   pub namespaces : ℕ
   pub tables : ℕ
+  pub views : ℕ
 
 pub record ContentValue : Type 0 where
   pub rows : ContentRows
@@ -97,14 +102,17 @@ abbrev pub none_below : Option NamespaceRow → List NamespaceRow → Bool
 none_below None rows = true
 none_below (Some upper) rows = not (list_any (lies_below upper) rows)
 
--- whether a namespace holds nothing: neither a deeper one nor a table
+-- whether a namespace holds nothing: neither a deeper one nor a table nor a view
 abbrev pub is_empty : ℕ → ContentRows → Bool
 is_empty namespace content =
-    none_below (row_of namespace_id namespace content.namespaces) content.namespaces && not (holds_table namespace content.tables)
+    none_below (row_of namespace_id namespace content.namespaces) content.namespaces
+    && not (holds_table namespace content.tables)
+    && not (holds_view namespace content.views)
 
--- what has a name in a namespace: its tables and its views share their names, and there are no views yet
-abbrev pub part_named : ℕ → List ℕ → ContentRows → Option TableRow
-part_named namespace name content = table_named namespace name content.tables
+-- the id of what has a name in a namespace: its tables and its views share their names
+abbrev pub part_named : ℕ → List ℕ → ContentRows → Option ℕ
+part_named namespace name content =
+    option_or (option_map table_id (table_named namespace name content.tables)) (option_map view_id (view_named namespace name content.views))
 
 -- whether a catalogue has no namespace
 abbrev pub catalog_is_empty : ℕ → ContentRows → Bool

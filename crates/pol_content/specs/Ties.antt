@@ -1,4 +1,4 @@
--- What ties principals and roles to catalogues, namespaces and tables.
+-- What ties principals and roles to catalogues, namespaces, tables and views.
 use Rattle.std.specs.Prelude.{◌≡◌, ◌+◌, ℕ, Bool, true, false, ◌||◌, [], ◌∷◌, ◌++◌, Option, Some, None, option_and_then, codes}
 use Rattle.std.specs.List.{AllByRecursion}
 use Rattle.std.specs.Option.{option_map}
@@ -18,29 +18,34 @@ use Rattle.pol_table_rows.specs.Tables.{table_id}
 use Rattle.pol_table_rows.specs.declared.row.TableRow.{TableRow}
 use Rattle.pol_tables.specs.Facts.{facts_with, holds}
 use Rattle.pol_tables.specs.Table.{knows, row_of, rows_with}
+use Rattle.pol_view_rows.specs.Views.{view_id}
+use Rattle.pol_view_rows.specs.declared.row.ViewRow.{ViewRow}
 use Rattle.pol_content.specs.Content.{ContentRows, catalog_id, namespace_id}
 
 -- the catalogue of a namespace
 abbrev pub catalog_of_namespace : ℕ → ContentRows → Option ℕ
 catalog_of_namespace id content = option_map (λ row. row.catalog) (row_of namespace_id id content.namespaces)
 
--- the catalogue in which a securable lies that is there: a catalogue lies in itself, a table in that of its namespace,
--- and the realm in none; no view is there
+-- the catalogue in which a securable lies that is there: a catalogue lies in itself, a table or a view in that of its
+-- namespace, and the realm in none
 abbrev pub catalog_of : Securable → ContentRows → Option ℕ
 catalog_of securable.Realm content = None
 catalog_of (securable.Catalog id) content = option_map (λ row. row.id) (row_of catalog_id id content.catalogs)
 catalog_of (securable.Namespace id) content = catalog_of_namespace id content
 catalog_of (securable.Table id) content = option_and_then (λ (row : TableRow). catalog_of_namespace row.namespace content) (row_of table_id id content.tables)
-catalog_of (securable.View id) content = None
+catalog_of (securable.View id) content = option_and_then (λ (row : ViewRow). catalog_of_namespace row.namespace content) (row_of view_id id content.views)
 
--- whether a row of principals and roles has this id, and whether one of catalogues, namespaces and tables has
+-- whether a row of principals and roles has this id, and whether one of catalogues, namespaces, tables and views has
 abbrev pub is_access_id : ℕ → AccessRows → Bool
 is_access_id id access =
     knows principal_id id access.principals || knows principal_role_id id access.principal_roles || knows catalog_role_id id access.catalog_roles
 
 abbrev pub is_content_id : ℕ → ContentRows → Bool
 is_content_id id content =
-    knows catalog_id id content.catalogs || knows namespace_id id content.namespaces || knows table_id id content.tables
+    knows catalog_id id content.catalogs
+    || knows namespace_id id content.namespaces
+    || knows table_id id content.tables
+    || knows view_id id content.views
 
 -- a grant's securable is there, and lies in the catalogue of the grant's role
 pub record IsGrantWithin (access : AccessRows) (content : ContentRows) (row : GrantRow) : Type 0 where
@@ -64,11 +69,12 @@ pub record HasAdmin (access : AccessRows) (catalog : ℕ) : Type 0 where
   pub manages_access : manages CatalogManageAccess role.id catalog access ≡ true
   pub manages_content : manages CatalogManageContent role.id catalog access ≡ true
 
--- no catalogue, no namespace and no table has an id of a principal or a role
+-- no catalogue, no namespace, no table and no view has an id of a principal or a role
 pub record IdsApart (access : AccessRows) (content : ContentRows) : Type 0 where
   pub catalogs : AllByRecursion (λ row. is_access_id row.id access ≡ false) content.catalogs
   pub namespaces : AllByRecursion (λ row. is_access_id row.id access ≡ false) content.namespaces
   pub tables : AllByRecursion (λ row. is_access_id row.id access ≡ false) content.tables
+  pub views : AllByRecursion (λ row. is_access_id row.id access ≡ false) content.views
 
 -- each catalogue role's catalogue is there, each grant lies within its role's catalogue, each catalogue has its
 -- `catalog_admin`, and ids are apart

@@ -1,20 +1,22 @@
 ghost use Rattle.std.specs.Prelude.{◌≡◌, ◌++◌, ◌<◌, ◌≤◌, IfOk, IfSome, OnOk, Some, length, option_copied, option_to_list, take};
-ghost use Rattle.pol_content.specs.Chain.{chain_of, deepest, deepest_of_table, namespace_at, namespace_chain, namespaces_out, table_at, table_chain, uppers_of};
+ghost use Rattle.pol_content.specs.Chain.{chain_of, deepest, deepest_of_table, deepest_of_view, namespace_at, namespace_chain, namespaces_out, table_at, table_chain, uppers_of, view_at, view_chain};
 ghost use Rattle.pol_content.specs.Content.{NamespaceNamesDiffer};
 ghost use Rattle.pol_table_rows.specs.Tables.{TableNamesDiffer, table_id};
 ghost use Rattle.pol_tables.specs.Table.{row_of};
+ghost use Rattle.pol_view_rows.specs.Views.{ViewNamesDiffer, view_id};
 
 use crate::{Content, NamespaceRow};
 use pol_access::Securable;
 use pol_names::{Identifier, Namespace};
 use pol_table_rows::TableRow;
 use pol_types::OutOfMemory;
+use pol_view_rows::ViewRow;
 use std::alloc::Global;
 
 impl Content {
-    /// The securable and all that contain it, itself first and then outwards: after a table comes its namespace, and
-    /// after a namespace come those in which it stands, from the nearest out, and its catalogue. Nothing contains a
-    /// catalogue, the realm, or what isn't there. It scans no rows.
+    /// The securable and all that contain it, itself first and then outwards: after a table or a view comes its
+    /// namespace, and after a namespace come those in which it stands, from the nearest out, and its catalogue. Nothing
+    /// contains a catalogue, the realm, or what isn't there. It scans no rows.
     pub fn chain(&self, alloc: Global, of: Securable) -> Result<Vec<Securable>, OutOfMemory>
         ensures { NamespaceNamesDiffer self.now.rows.namespaces
             → IfOk result (λ chain. chain.items ≡ chain_of of self.now.rows) }
@@ -23,7 +25,8 @@ impl Content {
         match of {
             Securable::Namespace(id) => self.push_namespace(alloc, id, &mut chain)?,
             Securable::Table(id) => self.push_table(alloc, id, &mut chain)?,
-            Securable::Realm | Securable::Catalog(_) | Securable::View(_) => chain.push(of)?,
+            Securable::View(id) => self.push_view(alloc, id, &mut chain)?,
+            Securable::Realm | Securable::Catalog(_) => chain.push(of)?,
         }
         Ok(chain)
     }
@@ -40,6 +43,23 @@ impl Content {
     {
         chain.push(Securable::Table(id))?;
         if let Some(row) = self.table_of(id) {
+            self.push_namespace(alloc, row.namespace, chain)?;
+        }
+        Ok(())
+    }
+
+    /// Pushes a view and what contains it, from its namespace out.
+    fn push_view(
+        &self,
+        alloc: Global,
+        id: u64,
+        chain: &mut Vec<Securable>,
+    ) -> Result<(), OutOfMemory>
+        ensures { NamespaceNamesDiffer self.now.rows.namespaces
+            → OnOk result (chain.new.items ≡ chain.old.items ++ view_chain id self.now.rows) }
+    {
+        chain.push(Securable::View(id))?;
+        if let Some(row) = self.view_of(id) {
             self.push_namespace(alloc, row.namespace, chain)?;
         }
         Ok(())
@@ -106,6 +126,34 @@ impl Content {
     {
         if let Some(row) = self.table_at(catalog, identifier) {
             return Ok(Securable::Table(row.id));
+        }
+        self.deepest(alloc, catalog, &identifier.namespace)
+    }
+
+    /// The view of this name in the namespace of its levels. It scans no rows.
+    pub fn view_at(&self, catalog: u64, identifier: &Identifier) -> Option<&ViewRow>
+        ensures first { NamespaceNamesDiffer self.now.rows.namespaces → ViewNamesDiffer self.now.rows.views
+            → option_copied result ≡ view_at catalog identifier.now.namespace identifier.now.name self.now.rows }
+        ensures own { IfSome result (λ row. row_of view_id row.now.id self.now.rows.views ≡ Some row.now) }
+    {
+        let namespace = self.namespace(catalog, &identifier.namespace)?;
+        self.view(namespace.id, &identifier.name)
+    }
+
+    /// The deepest part of a view's path that is there: the view, or else that of its namespace's path. It scans no
+    /// rows.
+    pub fn deepest_of_view(
+        &self,
+        alloc: Global,
+        catalog: u64,
+        identifier: &Identifier,
+    ) -> Result<Securable, OutOfMemory>
+        ensures { let content = self.now.rows in NamespaceNamesDiffer content.namespaces
+            → ViewNamesDiffer content.views → IfOk result (λ part.
+            part ≡ deepest_of_view catalog identifier.now.namespace identifier.now.name content) }
+    {
+        if let Some(row) = self.view_at(catalog, identifier) {
+            return Ok(Securable::View(row.id));
         }
         self.deepest(alloc, catalog, &identifier.namespace)
     }

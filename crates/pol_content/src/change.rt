@@ -5,6 +5,7 @@ use crate::{CatalogRow, NamespaceRow};
 use pol_access::{CatalogRoleRow, GrantRow, JoinRow, MemberRow, PrincipalRoleRow, PrincipalRow};
 use pol_table_rows::TablePut;
 use pol_tokens::SessionRow;
+use pol_view_rows::ViewRow;
 
 /// A change of a state. The changes of one command stand in the order of these variants, those of one variant by
 /// rising ids or serials, and those of members, joins and grants by rising rows. A put of a row with a new id or
@@ -29,6 +30,8 @@ pub enum Change {
     DropNamespace(u64),
     PutTable(TablePut),
     DropTable(u64),
+    PutView(ViewRow),
+    DropView(u64),
     PutMember(MemberRow),
     DropMember(MemberRow),
     PutJoin(JoinRow),
@@ -50,6 +53,7 @@ impl Change {
             Change::PutCatalogRole(_) => Some(RowKind::CatalogRole),
             Change::PutNamespace(_) => Some(RowKind::Namespace),
             Change::PutTable(_) => Some(RowKind::Table),
+            Change::PutView(_) => Some(RowKind::View),
             Change::PutMember(_) => Some(RowKind::Member),
             Change::PutJoin(_) => Some(RowKind::Join),
             Change::PutGrant(_) => Some(RowKind::Grant),
@@ -63,6 +67,7 @@ impl Change {
             | Change::DropCatalogRole(_)
             | Change::DropNamespace(_)
             | Change::DropTable(_)
+            | Change::DropView(_)
             | Change::DropMember(_)
             | Change::DropJoin(_)
             | Change::DropGrant(_) => None,
@@ -79,6 +84,7 @@ pub enum RowKind {
     CatalogRole,
     Namespace,
     Table,
+    View,
     Member,
     Join,
     Grant,

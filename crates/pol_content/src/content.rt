@@ -1,12 +1,13 @@
-ghost use Rattle.std.specs.Prelude.{◌≡◌, ◌<◌, ◌≤◌, ◌+◌, [], filter, map, nat_eq, IfOk, IsOk, OnOk, option_copied};
+ghost use Rattle.std.specs.Prelude.{◌≡◌, ◌<◌, ◌≤◌, ◌+◌, [], filter, is_some, map, nat_eq, IfOk, IsOk, OnOk, option_copied};
 ghost use Rattle.std.specs.List.{list_any};
 ghost use Rattle.std.specs.Slice.Iter.{iter_rest};
 ghost use Rattle.pol_tables.specs.Named.{Finds};
 ghost use Rattle.pol_tables.specs.Table.{row_of, rows_with, rows_without};
 ghost use Rattle.pol_content.specs.Order.{by_levels, by_name};
-ghost use Rattle.pol_content.specs.Content.{CatalogNamesDiffer, NamespaceNamesDiffer, catalog_id, catalog_is_empty, catalog_named, children, first_missing, is_catalog_named, is_child, is_child_of, is_empty, is_missing, is_namespace_named, lies_below, namespace_id, namespace_named, none_below};
+ghost use Rattle.pol_content.specs.Content.{CatalogNamesDiffer, NamespaceNamesDiffer, catalog_id, catalog_is_empty, catalog_named, children, first_missing, is_catalog_named, is_child, is_child_of, is_empty, is_missing, is_namespace_named, lies_below, namespace_id, namespace_named, none_below, part_named};
 ghost use Rattle.pol_table_rows.specs.Tables.{TableNamesDiffer, is_table_named, overlapping, table_id, table_named, tables_in};
 ghost use Rattle.pol_tables.specs.Rising.{KeysRise};
+ghost use Rattle.pol_view_rows.specs.Views.{ViewNamesDiffer, is_view_named, view_id, view_named, views_in};
 
 use crate::{CatalogRow, NamespaceName, NamespaceRow};
 use pol_locations::Location;
@@ -14,17 +15,19 @@ use pol_names::{Name, Namespace, Plain};
 use pol_table_rows::{TablePut, TableRow, Tables};
 use pol_tables::{NamedTable, rows_in_order, sorted_rows};
 use pol_types::OutOfMemory;
+use pol_view_rows::{ViewName, ViewRow, any_view_in, views_in};
 use std::alloc::{AllocError, Global};
 use std::marker::Model;
 use std::slice;
 
-/// Catalogues, their namespaces and the tables in these, each found by its id and by its name. Contracts see the rows,
-/// and the room: how many more can be put without taking memory.
+/// Catalogues, their namespaces, and the tables and views in these, each found by its id and by its name. Contracts see
+/// the rows, and the room: how many more can be put without taking memory.
 #[derive(Debug, Drop)]
 pub struct Content {
     catalogs: NamedTable<CatalogRow>,
     namespaces: NamedTable<NamespaceRow>,
     tables: Tables,
+    views: NamedTable<ViewRow>,
 }
 
 impl Model for Content {
@@ -37,11 +40,13 @@ impl Model for Content {
         catalogs = content.catalogs.rows;
         namespaces = content.namespaces.rows;
         tables = content.tables.rows;
+        views = content.views.rows;
       };
       room = record {
         catalogs = content.catalogs.room;
         namespaces = content.namespaces.room;
         tables = content.tables.room;
+        views = content.views.room;
       };
     } };
 }
@@ -49,12 +54,13 @@ impl Model for Content {
 impl Content {
     /// No rows, and no memory taken.
     pub fn new(alloc: Global) -> Self
-        ensures { result.rows ≡ record { catalogs = []; namespaces = []; tables = [] } }
+        ensures { result.rows ≡ record { catalogs = []; namespaces = []; tables = []; views = [] } }
     {
         Content {
             catalogs: NamedTable::new(alloc),
             namespaces: NamedTable::new(alloc),
             tables: Tables::new(alloc),
+            views: NamedTable::new(alloc),
         }
     }
 
@@ -153,12 +159,14 @@ impl Content {
         sorted_rows(children_of(alloc, rows, catalog, parent)?)
     }
 
-    /// Whether a namespace holds nothing: no namespace stands below it, directly or deeper, and no table is in it. An
-    /// id that isn't there has no namespace below it.
+    /// Whether a namespace holds nothing: no namespace stands below it, directly or deeper, and no table and no view is
+    /// in it. An id that isn't there has no namespace below it.
     pub fn is_empty(&self, namespace: u64) -> bool
         ensures { result ≡ is_empty namespace self.now.rows }
     {
-        self.none_below(namespace) && !self.tables.any_in(namespace)
+        self.none_below(namespace)
+            && !self.tables.any_in(namespace)
+            && !any_view_in(self.views.rows().as_slice(), namespace)
     }
 
     /// Whether no namespace stands below this one, directly or deeper.
@@ -219,6 +227,49 @@ impl Content {
         self.tables.overlapping(wanted, except)
     }
 
+    /// The view of this namespace with this name. It scans no rows.
+    pub fn view(&self, namespace: u64, name: &Name) -> Option<&ViewRow>
+        ensures found { Finds view_id (is_view_named namespace name.now) self.now.rows.views (option_copied result) }
+        ensures first { ViewNamesDiffer self.now.rows.views
+            → option_copied result ≡ view_named namespace name.now self.now.rows.views }
+    {
+        self.views.named(&ViewName { namespace, name })
+    }
+
+    /// The view of this id.
+    pub fn view_of(&self, id: u64) -> Option<&ViewRow>
+        ensures { option_copied result ≡ row_of view_id id self.now.rows.views }
+    {
+        self.views.find(id)
+    }
+
+    /// The views, in the order in which they were put.
+    pub fn views(&self) -> slice::Iter<'_, ViewRow>
+        ensures { iter_rest result ≡ self.now.rows.views }
+    {
+        self.views.rows()
+    }
+
+    /// The views of a namespace, in byte order of their names.
+    pub fn views_in(&self, alloc: Global, namespace: u64) -> Result<Vec<&ViewRow>, OutOfMemory>
+        ensures { IfOk result (λ found.
+            map (λ row. row.now) found.items ≡ views_in namespace self.now.rows.views) }
+    {
+        views_in(alloc, self.views.rows().as_slice(), namespace)
+    }
+
+    /// Whether a table or a view of the namespace has the name. It scans no rows.
+    #[tactic(auto, using(crate::proofs::NamesLemmas::mapped_some))]
+    pub fn has_part(&self, namespace: u64, name: &Name) -> bool
+        ensures { TableNamesDiffer self.now.rows.tables → ViewNamesDiffer self.now.rows.views
+            → result ≡ is_some (part_named namespace name.now self.now.rows) }
+    {
+        match self.table(namespace, name) {
+            Some(_) => true,
+            None => self.view(namespace, name).is_some(),
+        }
+    }
+
     /// Makes room for `more` catalogues, so that putting as many takes no memory. On an error the rows stay, and the
     /// room does not shrink.
     pub fn reserve_catalogs(&mut self, more: usize) -> Result<(), OutOfMemory>
@@ -228,6 +279,7 @@ impl Content {
         ensures room { self.old.room.catalogs ≤ self.new.room.catalogs }
         ensures namespaces { self.new.room.namespaces ≡ self.old.room.namespaces }
         ensures tables { self.new.room.tables ≡ self.old.room.tables }
+        ensures views { self.new.room.views ≡ self.old.room.views }
     {
         self.catalogs.reserve(more)
     }
@@ -241,6 +293,7 @@ impl Content {
         ensures room { self.old.room.namespaces ≤ self.new.room.namespaces }
         ensures catalogs { self.new.room.catalogs ≡ self.old.room.catalogs }
         ensures tables { self.new.room.tables ≡ self.old.room.tables }
+        ensures views { self.new.room.views ≡ self.old.room.views }
     {
         self.namespaces.reserve(more)
     }
@@ -254,6 +307,7 @@ impl Content {
         ensures room { self.old.room.tables ≤ self.new.room.tables }
         ensures catalogs { self.new.room.catalogs ≡ self.old.room.catalogs }
         ensures namespaces { self.new.room.namespaces ≡ self.old.room.namespaces }
+        ensures views { self.new.room.views ≡ self.old.room.views }
     {
         self.tables.reserve(more)
     }
@@ -266,6 +320,7 @@ impl Content {
         ensures room { self.old.room.catalogs ≤ self.new.room.catalogs + 1 }
         ensures namespaces { self.new.room.namespaces ≡ self.old.room.namespaces }
         ensures tables { self.new.room.tables ≡ self.old.room.tables }
+        ensures views { self.new.room.views ≡ self.old.room.views }
     {
         self.catalogs.put(row)
     }
@@ -277,6 +332,7 @@ impl Content {
         ensures room { self.old.room.catalogs ≤ self.new.room.catalogs }
         ensures namespaces { self.new.room.namespaces ≡ self.old.room.namespaces }
         ensures tables { self.new.room.tables ≡ self.old.room.tables }
+        ensures views { self.new.room.views ≡ self.old.room.views }
     {
         self.catalogs.take(id);
     }
@@ -289,17 +345,19 @@ impl Content {
         ensures room { self.old.room.namespaces ≤ self.new.room.namespaces + 1 }
         ensures catalogs { self.new.room.catalogs ≡ self.old.room.catalogs }
         ensures tables { self.new.room.tables ≡ self.old.room.tables }
+        ensures views { self.new.room.views ≡ self.old.room.views }
     {
         self.namespaces.put(row)
     }
 
-    /// Takes the namespace of this id away, and takes no memory. Those below it and its tables stay.
+    /// Takes the namespace of this id away, and takes no memory. Those below it, its tables and its views stay.
     pub fn drop_namespace(&mut self, id: u64)
         ensures rows { self.new.rows
             ≡ record self.old.rows { namespaces = rows_without namespace_id id self.old.rows.namespaces } }
         ensures room { self.old.room.namespaces ≤ self.new.room.namespaces }
         ensures catalogs { self.new.room.catalogs ≡ self.old.room.catalogs }
         ensures tables { self.new.room.tables ≡ self.old.room.tables }
+        ensures views { self.new.room.views ≡ self.old.room.views }
     {
         self.namespaces.take(id);
     }
@@ -312,6 +370,7 @@ impl Content {
         ensures room { self.old.room.tables ≤ self.new.room.tables + 1 }
         ensures catalogs { self.new.room.catalogs ≡ self.old.room.catalogs }
         ensures namespaces { self.new.room.namespaces ≡ self.old.room.namespaces }
+        ensures views { self.new.room.views ≡ self.old.room.views }
     {
         self.tables.put(table);
     }
@@ -323,8 +382,48 @@ impl Content {
         ensures room { self.old.room.tables ≤ self.new.room.tables }
         ensures catalogs { self.new.room.catalogs ≡ self.old.room.catalogs }
         ensures namespaces { self.new.room.namespaces ≡ self.old.room.namespaces }
+        ensures views { self.new.room.views ≡ self.old.room.views }
     {
         self.tables.take(id);
+    }
+
+    /// Makes room for `more` views, so that putting as many takes no memory. On an error the rows stay, and the room
+    /// does not shrink.
+    pub fn reserve_views(&mut self, more: usize) -> Result<(), OutOfMemory>
+        ensures rows { self.new.rows ≡ self.old.rows }
+        ensures reserved { OnOk result (more ≤ self.new.room.views) }
+        ensures succeeds { more ≤ self.old.room.views → IsOk result }
+        ensures room { self.old.room.views ≤ self.new.room.views }
+        ensures catalogs { self.new.room.catalogs ≡ self.old.room.catalogs }
+        ensures namespaces { self.new.room.namespaces ≡ self.old.room.namespaces }
+        ensures tables { self.new.room.tables ≡ self.old.room.tables }
+    {
+        self.views.reserve(more)
+    }
+
+    /// Puts a view, and takes no memory: a new id goes last, and a known id's row is replaced in its place.
+    pub fn put_view(&mut self, row: ViewRow)
+        requires { 0 < self.old.room.views }
+        ensures rows { self.new.rows
+            ≡ record self.old.rows { views = rows_with view_id row self.old.rows.views } }
+        ensures room { self.old.room.views ≤ self.new.room.views + 1 }
+        ensures catalogs { self.new.room.catalogs ≡ self.old.room.catalogs }
+        ensures namespaces { self.new.room.namespaces ≡ self.old.room.namespaces }
+        ensures tables { self.new.room.tables ≡ self.old.room.tables }
+    {
+        self.views.put(row)
+    }
+
+    /// Takes the view of this id away, and takes no memory.
+    pub fn drop_view(&mut self, id: u64)
+        ensures rows { self.new.rows
+            ≡ record self.old.rows { views = rows_without view_id id self.old.rows.views } }
+        ensures room { self.old.room.views ≤ self.new.room.views }
+        ensures catalogs { self.new.room.catalogs ≡ self.old.room.catalogs }
+        ensures namespaces { self.new.room.namespaces ≡ self.old.room.namespaces }
+        ensures tables { self.new.room.tables ≡ self.old.room.tables }
+    {
+        self.views.take(id);
     }
 }
 
@@ -335,10 +434,12 @@ impl Clone for Content {
         let catalogs = self.catalogs.clone()?;
         let namespaces = self.namespaces.clone()?;
         let tables = self.tables.clone()?;
+        let views = self.views.clone()?;
         Ok(Content {
             catalogs,
             namespaces,
             tables,
+            views,
         })
     }
 }

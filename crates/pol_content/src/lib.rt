@@ -10,4 +10,5 @@ mod rows;
 pub use change::{Change, RowKind};
 pub use content::Content;
 pub use pol_table_rows::{Handle, TablePut, TableRow};
+pub use pol_view_rows::ViewRow;
 pub use rows::{CatalogRow, NamespaceName, NamespaceRow};

@@ -26,7 +26,7 @@ use Rattle.pol_content.specs.Ties.{admin_grant, admin_join, admin_of, is_access_
 use Rattle.pol_content.specs.contracts.rows.NamespaceRow.{the_row}
 use Rattle.pol_content.specs.declared.rows.CatalogRow.{CatalogRow}
 use Rattle.pol_content.specs.declared.rows.NamespaceRow.{NamespaceRow}
-use Rattle.pol_content.proofs.SoundLemmas.{dropped_catalog, dropped_namespace, more_ids, new_rows_last, no-tables, pushed_catalog, replaced_namespace}
+use Rattle.pol_content.proofs.SoundLemmas.{dropped_catalog, dropped_namespace, more_ids, new_rows_last, no-parts, pushed_catalog, replaced_namespace}
 use Rattle.pol_content.proofs.TiedContentLemmas as ties
 use Rattle.pol_content.proofs.TiedContentLemmas.{created_catalog, put_namespace}
 use Rattle.pol_content.proofs.TiesLemmas.{new_ids}
@@ -170,7 +170,7 @@ module _ (s : Rows) (command : Command) where
       orderly-drop_namespace name levels passes = orderly-done s command sound within (namespace_row_at s name levels) (without_namespace s) (λ row is.
           let empty = namespace-empty s row (sym (ap (λ one. given one (namespace_holds s)) is) ∙ passes.1.1.1.1.0) in
           tables-orderly s command (without_namespace s row).access (without_namespace s row).content s.next_id sound within (omega arith) ((dropped_grants s.next_id s.access sound.orderly.access).1 (securable.Namespace row.id)) (dropped_namespace s.next_id row.id s.content sound.orderly.content empty)
-          (ties.dropped_namespace s.access s.content sound.orderly.ties row.id (no-tables row.id s.content empty)))
+          (ties.dropped_namespace s.access s.content sound.orderly.ties row.id (no-parts row.id s.content empty).1 (no-parts row.id s.content empty).2))
 
       -- a namespace whose properties are removed and set
       pub orderly-update_properties : (name : List ℕ) (levels removals : List (List ℕ)) (updates : List Property) → EachPasses (update_properties s command name levels removals updates).rules → IsOrderly (stamped s command (update_properties s command name levels removals updates).after)

@@ -21,10 +21,12 @@ use Rattle.pol_tables.specs.Table.{knows, row_of, IdsDiffer}
 use Rattle.pol_tables.proofs.ListLemmas.{or_true}
 use Rattle.pol_tables.proofs.RisingLemmas.{IdsDiffer-rising}
 use Rattle.pol_tables.proofs.TableLemmas.{some_is}
-use Rattle.pol_content.specs.Chain.{namespace_at, table_at}
+use Rattle.pol_content.specs.Chain.{namespace_at, table_at, view_at}
 use Rattle.pol_content.specs.Content.{catalog_id, catalog_named, is_catalog_named, is_namespace_named, namespace_id, namespace_named}
 use Rattle.pol_table_rows.specs.Tables.{is_table_named, table_id, table_named}
 use Rattle.pol_table_rows.specs.declared.row.TableRow.{TableRow}
+use Rattle.pol_view_rows.specs.Views.{is_view_named, view_id, view_named}
+use Rattle.pol_view_rows.specs.declared.row.ViewRow.{ViewRow}
 use Rattle.pol_names.specs.declared.identifier.Identifier.{Identifier}
 use Rattle.pol_content.specs.Ties.{IsGrantWithin, catalog_of, catalog_of_namespace}
 use Rattle.pol_content.specs.declared.rows.CatalogRow.{CatalogRow}
@@ -164,6 +166,40 @@ module _ (s : Rows) (command : Command) (sound : IsSound s) (within : IsWithin s
       by None there is = let contrary : None ≡ Some one = is in cc
       by (Some upper) there is = of upper there (table_named upper.id identifier.name s.content.tables) refl is
 
+  -- a view that was found lies in a namespace of its catalogue
+  record IsViewAt (catalog : ℕ) (one : Securable) : Type 0 where
+    row : ViewRow
+    own : row_of view_id row.id s.content.views ≡ Some row
+    upper : NamespaceRow
+    upper_own : row_of namespace_id row.namespace s.content.namespaces ≡ Some upper
+    within_catalog : upper.catalog ≡ catalog
+    given_id : IsGiven s.next_id row.id
+    is : securable.View row.id ≡ one
+
+  view-found : (catalog : ℕ) (identifier : Identifier) (one : Securable) → option_map (λ (row : ViewRow). securable.View row.id) (view_at catalog identifier.namespace identifier.name s.content) ≡ Some one → IsViewAt catalog one
+  view-found catalog identifier one found = by (namespace_named catalog identifier.namespace s.content) refl found
+    where
+      of : (upper : NamespaceRow) → namespace_named catalog identifier.namespace s.content ≡ Some upper → (row : Option ViewRow) → view_named upper.id identifier.name s.content.views ≡ row
+          → option_map (λ (row : ViewRow). securable.View row.id) row ≡ Some one → IsViewAt catalog one
+      of upper there None missing is = let contrary : None ≡ Some one = is in cc
+      of upper there (Some row) kept is =
+          let named = and_parts (nat_eq upper.id row.namespace) _ (found-passes (is_view_named upper.id identifier.name) s.content.views row kept) in
+          let own = found-own namespace_id (is_namespace_named catalog identifier.namespace) upper s.content.namespaces (IdsDiffer-rising namespace_id s.content.namespaces sound.orderly.content.namespaces.rise) there in
+          record {
+            row = row;
+            own = found-own view_id (is_view_named upper.id identifier.name) row s.content.views (IdsDiffer-rising view_id s.content.views sound.orderly.content.views.numbered.rise) kept;
+            upper = upper;
+            upper_own = ap (λ id. row_of namespace_id id s.content.namespaces) (sym (eqb-true upper.id row.namespace named.0)) ∙ own;
+            within_catalog = sym (eqb-true catalog upper.catalog (and_parts (nat_eq catalog upper.catalog) _ (found-passes (is_namespace_named catalog identifier.namespace) s.content.namespaces upper there)).0);
+            given_id = found-holds (λ (one : ViewRow). IsGiven s.next_id (view_id one)) (is_view_named upper.id identifier.name) s.content.views row sound.orderly.content.views.numbered.given kept;
+            is = some_is (securable.View row.id) one is;
+          }
+
+      by : (upper : Option NamespaceRow) → namespace_named catalog identifier.namespace s.content ≡ upper
+          → option_map (λ (row : ViewRow). securable.View row.id) (option_and_then (λ (row : NamespaceRow). view_named row.id identifier.name s.content.views) upper) ≡ Some one → IsViewAt catalog one
+      by None there is = let contrary : None ≡ Some one = is in cc
+      by (Some upper) there is = of upper there (view_named upper.id identifier.name s.content.views) refl is
+
   -- what a grant names in a catalogue lies there, was given its id, and is of the kind that is named
   record LiesIn (catalog : CatalogRow) (named : GrantedOn) (one : Securable) : Type 0 where
     lies : catalog_of one s.content ≡ Some catalog.id
@@ -190,7 +226,13 @@ module _ (s : Rows) (command : Command) (sound : IsSound s) (within : IsWithin s
         given_id = at.given_id;
         kind = refl;
       })
-  lies-in name catalog (on.View identifier) one there found = let contrary : None ≡ Some one = found in cc
+  lies-in name catalog (on.View identifier) one there found =
+      let at = view-found catalog.id identifier one found in
+      subst (LiesIn catalog (on.View identifier)) at.is (record {
+        lies = ap (option_and_then (λ (row : ViewRow). catalog_of_namespace row.namespace s.content)) at.own ∙ ap (option_map (λ (row : NamespaceRow). row.catalog)) at.upper_own ∙ ap Some at.within_catalog;
+        given_id = at.given_id;
+        kind = refl;
+      })
 
   -- a grant that is added
   pub orderly-add_grant : (catalog role : List ℕ) (grant : Grant) → EachPasses (add_grant s command catalog role grant).rules → IsOrderly (stamped s command (add_grant s command catalog role grant).after)
@@ -214,7 +256,9 @@ module _ (s : Rows) (command : Command) (sound : IsSound s) (within : IsWithin s
   on-catalog catalog (on.Table identifier) one id found is =
       let at = table-found catalog.id identifier one found in
       let contrary : securable.Table at.row.id ≡ securable.Catalog id = at.is ∙ is in cc
-  on-catalog catalog (on.View identifier) one id found is = let contrary : None ≡ Some one = found in cc
+  on-catalog catalog (on.View identifier) one id found is =
+      let at = view-found catalog.id identifier one found in
+      let contrary : securable.View at.row.id ≡ securable.Catalog id = at.is ∙ is in cc
 
   privilege-same : (privilege other : Privilege) → privilege ≡ other → same_privilege privilege other ≡ true
   privilege-same privilege other is = true_same the_type privilege other is

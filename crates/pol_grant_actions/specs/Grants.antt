@@ -19,6 +19,8 @@ use Rattle.pol_content.specs.Content.{namespace_id}
 use Rattle.pol_content.specs.declared.rows.NamespaceRow.{NamespaceRow}
 use Rattle.pol_table_rows.specs.Tables.{table_id}
 use Rattle.pol_table_rows.specs.declared.row.TableRow.{TableRow}
+use Rattle.pol_view_rows.specs.Views.{view_id}
+use Rattle.pol_view_rows.specs.declared.row.ViewRow.{ViewRow}
 use Rattle.pol_tables.specs.Facts.{facts_with, facts_without}
 use Rattle.pol_tables.specs.Table.{row_of}
 use Rattle.pol_rules.specs.AccessRules.{catalog_role_at, grant_of, in_catalog, no_catalog_role, no_grant, no_securable, reserved_grant}
@@ -31,13 +33,18 @@ abbrev pub table_named_on : Rows → TableRow → Option GrantedOn
 table_named_on s table =
     option_map (λ (row : NamespaceRow). on.Table (record { namespace = row.levels; name = table.name })) (row_of namespace_id table.namespace s.content.namespaces)
 
+-- a view by its name in its catalogue
+abbrev pub view_named_on : Rows → ViewRow → Option GrantedOn
+view_named_on s view =
+    option_map (λ (row : NamespaceRow). on.View (record { namespace = row.levels; name = view.name })) (row_of namespace_id view.namespace s.content.namespaces)
+
 -- the securable that is there by its name in its catalogue
 abbrev pub named_on : Rows → Securable → Option GrantedOn
 named_on s securable.Realm = None
 named_on s (securable.Catalog id) = Some on.Catalog
 named_on s (securable.Namespace id) = option_map (λ row. on.Namespace row.levels) (row_of namespace_id id s.content.namespaces)
 named_on s (securable.Table id) = option_and_then (table_named_on s) (row_of table_id id s.content.tables)
-named_on s (securable.View id) = None
+named_on s (securable.View id) = option_and_then (view_named_on s) (row_of view_id id s.content.views)
 
 -- a grant by the name of what it is on
 abbrev pub named_grant : Rows → GrantRow → Option Grant

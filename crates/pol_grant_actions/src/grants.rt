@@ -1,11 +1,11 @@
 ghost use Rattle.std.specs.Prelude.{◌≡◌, ◌++◌, IfOk, OnOk, filter_map, option_to_list};
-ghost use Rattle.pol_grant_actions.specs.Grants.{add_grant, grants_held, list_grants, named_grant, named_on, revoke, table_named_on, with_grant};
+ghost use Rattle.pol_grant_actions.specs.Grants.{add_grant, grants_held, list_grants, named_grant, named_on, revoke, table_named_on, view_named_on, with_grant};
 ghost use Rattle.pol_rules.specs.Judged.{Acts, changes_to};
 ghost use Rattle.pol_state.specs.Sound.{IsSound};
 
 use pol_access::{CatalogRoleRow, GrantRow, Referent, Securable};
 use pol_commands::{Answer, Grant, GrantedOn};
-use pol_content::{Change, TableRow};
+use pol_content::{Change, TableRow, ViewRow};
 use pol_names::{Identifier, Plain};
 use pol_rules::access_rules::{catalog_role_there, grant_may_end, grant_there, securable_there};
 use pol_rules::changes::{no_changes, one_change};
@@ -80,7 +80,11 @@ fn named_on(state: &State, securable: Securable) -> Result<Option<GrantedOn>, Ou
             Some(row) => table_named_on(state, row),
             None => Ok(None),
         },
-        Securable::Realm | Securable::View(_) => Ok(None),
+        Securable::View(id) => match state.content().view_of(id) {
+            Some(row) => view_named_on(state, row),
+            None => Ok(None),
+        },
+        Securable::Realm => Ok(None),
     }
 }
 
@@ -90,6 +94,19 @@ fn table_named_on(state: &State, row: &TableRow) -> Result<Option<GrantedOn>, Ou
 {
     match state.content().namespace_of(row.namespace) {
         Some(namespace) => Ok(Some(GrantedOn::Table(Identifier {
+            namespace: namespace.levels.clone()?,
+            name: row.name.clone()?,
+        }))),
+        None => Ok(None),
+    }
+}
+
+/// A view by its name in its catalogue.
+fn view_named_on(state: &State, row: &ViewRow) -> Result<Option<GrantedOn>, OutOfMemory>
+    ensures { IfOk result (λ on. on ≡ view_named_on state.now.rows row.now) }
+{
+    match state.content().namespace_of(row.namespace) {
+        Some(namespace) => Ok(Some(GrantedOn::View(Identifier {
             namespace: namespace.levels.clone()?,
             name: row.name.clone()?,
         }))),

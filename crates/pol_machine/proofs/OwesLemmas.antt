@@ -1,12 +1,13 @@
 -- What each action of the machine owes.
 use Rattle.pol_commands.specs.declared.command.Action.{Action}
-use Rattle.pol_commands.specs.declared.command.Action.TheVariants.{OpenSession, GetConfig, ListCatalogs, CreateCatalog, GetCatalog, DropCatalog, ListNamespaces, CreateNamespace, LoadNamespace, HeadNamespace, DropNamespace, UpdateProperties, ListTables, CreateTable, LoadTable, HeadTable, DropTable, ReportMetrics, CommitTable, CommitTransaction, RenameTable, ListPrincipals, CreatePrincipal, GetPrincipal, DropPrincipal, Rotate, ListMembers, AddMember, EndMember, ListPrincipalRoles, CreatePrincipalRole, GetPrincipalRole, DropPrincipalRole, ListJoins, AddJoin, EndJoin, ListCatalogRoles, CreateCatalogRole, GetCatalogRole, DropCatalogRole, ListGrants, AddGrant, Revoke}
+use Rattle.pol_commands.specs.declared.command.Action.TheVariants.{OpenSession, GetConfig, ListCatalogs, CreateCatalog, GetCatalog, DropCatalog, ListNamespaces, CreateNamespace, LoadNamespace, HeadNamespace, DropNamespace, UpdateProperties, ListTables, CreateTable, LoadTable, HeadTable, DropTable, ReportMetrics, CommitTable, CommitTransaction, RenameTable, ListViews, CreateView, LoadView, HeadView, ReplaceView, DropView, RenameView, ListPrincipals, CreatePrincipal, GetPrincipal, DropPrincipal, Rotate, ListMembers, AddMember, EndMember, ListPrincipalRoles, CreatePrincipalRole, GetPrincipalRole, DropPrincipalRole, ListJoins, AddJoin, EndJoin, ListCatalogRoles, CreateCatalogRole, GetCatalogRole, DropCatalogRole, ListGrants, AddGrant, Revoke}
 use Rattle.pol_commands.specs.declared.command.Command.{Command}
 use Rattle.pol_state.specs.Rows.{Rows}
 use Rattle.pol_rules.specs.Live.{live_part}
 use Rattle.pol_rules.proofs.OwesLemmas.{Owes}
 use Rattle.pol_commit_actions.proofs.OwesLemmas.{owes-commit_table, owes-commit_transaction, owes-rename_table}
 use Rattle.pol_table_actions.proofs.OwesLemmas.{owes-create_table, owes-drop_table, owes-head_table, owes-list_tables, owes-load_table, owes-report_metrics}
+use Rattle.pol_view_actions.proofs.OwesLemmas.{owes-create_view, owes-drop_view, owes-head_view, owes-list_views, owes-load_view, owes-rename_view, owes-replace_view}
 use Rattle.pol_content_actions.proofs.OwesLemmas.{owes-create_catalog, owes-create_namespace, owes-drop_catalog, owes-drop_namespace, owes-get_catalog, owes-get_config, owes-head_namespace, owes-list_catalogs, owes-list_namespaces, owes-load_namespace, owes-open_session, owes-update_properties}
 use Rattle.pol_principal_actions.proofs.OwesLemmas.{owes-add_member, owes-create_principal, owes-create_principal_role, owes-drop_principal, owes-drop_principal_role, owes-end_member, owes-get_principal, owes-get_principal_role, owes-list_members, owes-list_principal_roles, owes-list_principals, owes-rotate}
 use Rattle.pol_grant_actions.proofs.OwesLemmas.{owes-add_grant, owes-add_join, owes-create_catalog_role, owes-drop_catalog_role, owes-end_join, owes-get_catalog_role, owes-list_catalog_roles, owes-list_grants, owes-list_joins, owes-revoke}
@@ -35,6 +36,13 @@ module _ (s : Rows) (command : Command) where
   owes (CommitTable name commit) = owes-commit_table s command name commit
   owes (CommitTransaction name commits) = owes-commit_transaction s command name commits
   owes (RenameTable name source destination) = owes-rename_table s command name source destination
+  owes (ListViews name levels) = owes-list_views s command name levels
+  owes (CreateView name levels request) = owes-create_view s command name levels request
+  owes (LoadView name identifier) = owes-load_view s command name identifier
+  owes (HeadView name identifier) = owes-head_view s command name identifier
+  owes (ReplaceView name commit) = owes-replace_view s command name commit
+  owes (DropView name identifier) = owes-drop_view s command name identifier
+  owes (RenameView name source destination) = owes-rename_view s command name source destination
   owes ListPrincipals = owes-list_principals s command
   owes (CreatePrincipal name client_id secret) = owes-create_principal s command name client_id secret
   owes (GetPrincipal name) = owes-get_principal s command name

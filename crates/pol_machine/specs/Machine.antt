@@ -18,8 +18,12 @@ use Rattle.pol_commit_actions.specs.Renaming.{rename_table}
 use Rattle.pol_table_actions.specs.Creation.{create_table}
 use Rattle.pol_table_actions.specs.Loading.{load_table}
 use Rattle.pol_table_actions.specs.Tables.{drop_table, head_table, list_tables, report_metrics}
+use Rattle.pol_view_actions.specs.Creation.{create_view}
+use Rattle.pol_view_actions.specs.Renaming.{rename_view}
+use Rattle.pol_view_actions.specs.Replacing.{replace_view}
+use Rattle.pol_view_actions.specs.Views.{drop_view, head_view, list_views, load_view}
 use Rattle.pol_commands.specs.declared.command.Action.{Action}
-use Rattle.pol_commands.specs.declared.command.Action.TheVariants.{OpenSession, GetConfig, ListCatalogs, CreateCatalog, GetCatalog, DropCatalog, ListNamespaces, CreateNamespace, LoadNamespace, HeadNamespace, DropNamespace, UpdateProperties, ListTables, CreateTable, LoadTable, HeadTable, DropTable, ReportMetrics, CommitTable, CommitTransaction, RenameTable, ListPrincipals, CreatePrincipal, GetPrincipal, DropPrincipal, Rotate, ListMembers, AddMember, EndMember, ListPrincipalRoles, CreatePrincipalRole, GetPrincipalRole, DropPrincipalRole, ListJoins, AddJoin, EndJoin, ListCatalogRoles, CreateCatalogRole, GetCatalogRole, DropCatalogRole, ListGrants, AddGrant, Revoke}
+use Rattle.pol_commands.specs.declared.command.Action.TheVariants.{OpenSession, GetConfig, ListCatalogs, CreateCatalog, GetCatalog, DropCatalog, ListNamespaces, CreateNamespace, LoadNamespace, HeadNamespace, DropNamespace, UpdateProperties, ListTables, CreateTable, LoadTable, HeadTable, DropTable, ReportMetrics, CommitTable, CommitTransaction, RenameTable, ListViews, CreateView, LoadView, HeadView, ReplaceView, DropView, RenameView, ListPrincipals, CreatePrincipal, GetPrincipal, DropPrincipal, Rotate, ListMembers, AddMember, EndMember, ListPrincipalRoles, CreatePrincipalRole, GetPrincipalRole, DropPrincipalRole, ListJoins, AddJoin, EndJoin, ListCatalogRoles, CreateCatalogRole, GetCatalogRole, DropCatalogRole, ListGrants, AddGrant, Revoke}
 use Rattle.pol_commands.specs.declared.command.Command.{Command}
 use Rattle.pol_commands.specs.declared.reply.Answer.{Answer}
 use Rattle.pol_commands.specs.declared.reply.Answer.TheVariants.{NamespaceThere}
@@ -50,6 +54,13 @@ acting s command (ReportMetrics name identifier) = report_metrics s command name
 acting s command (CommitTable name commit) = commit_table s command name commit
 acting s command (CommitTransaction name commits) = commit_transaction s command name commits
 acting s command (RenameTable name source destination) = rename_table s command name source destination
+acting s command (ListViews name levels) = list_views s command name levels
+acting s command (CreateView name levels request) = create_view s command name levels request
+acting s command (LoadView name identifier) = load_view s command name identifier
+acting s command (HeadView name identifier) = head_view s command name identifier
+acting s command (ReplaceView name commit) = replace_view s command name commit
+acting s command (DropView name identifier) = drop_view s command name identifier
+acting s command (RenameView name source destination) = rename_view s command name source destination
 acting s command ListPrincipals = list_principals s command
 acting s command (CreatePrincipal name client_id secret) = create_principal s command name client_id secret
 acting s command (GetPrincipal name) = get_principal s command name

@@ -38,6 +38,10 @@ use pol_table_actions::creation::create_table;
 use pol_table_actions::loading::load_table;
 use pol_table_actions::tables::{drop_table, head_table, list_tables, report_metrics};
 use pol_types::{Listed, OutOfMemory};
+use pol_view_actions::creation::create_view;
+use pol_view_actions::renaming::rename_view;
+use pol_view_actions::replacing::replace_view;
+use pol_view_actions::views::{drop_view, head_view, list_views, load_view};
 use std::alloc::Global;
 
 /// What a command comes to: its reply, and the changes that it makes.
@@ -169,6 +173,30 @@ fn act(asked: &Asked<'_>) -> Result<Acted, Undone>
             source,
             destination,
         } => rename_table(asked, catalog, source, destination),
+        Action::ListViews { catalog, namespace } => list_views(asked, catalog, namespace),
+        Action::CreateView {
+            catalog,
+            namespace,
+            request,
+        } => create_view(asked, catalog, namespace, request),
+        Action::LoadView {
+            catalog,
+            identifier,
+        } => load_view(asked, catalog, identifier),
+        Action::HeadView {
+            catalog,
+            identifier,
+        } => head_view(asked, catalog, identifier),
+        Action::ReplaceView { catalog, commit } => replace_view(asked, catalog, commit),
+        Action::DropView {
+            catalog,
+            identifier,
+        } => drop_view(asked, catalog, identifier),
+        Action::RenameView {
+            catalog,
+            source,
+            destination,
+        } => rename_view(asked, catalog, source, destination),
         Action::ListPrincipals => list_principals(asked),
         Action::CreatePrincipal {
             name,

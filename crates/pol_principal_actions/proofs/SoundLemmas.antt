@@ -13,6 +13,7 @@ use Rattle.pol_tables.specs.Table.{has_id, knows}
 use Rattle.pol_tables.proofs.RisingLemmas.{IdsDiffer-rising}
 use Rattle.pol_content.specs.Content.{catalog_id, namespace_id}
 use Rattle.pol_table_rows.specs.Tables.{table_id}
+use Rattle.pol_view_rows.specs.Views.{view_id}
 use Rattle.pol_content.specs.Ties.{is_access_id, is_content_id}
 use Rattle.pol_content.proofs.TiesLemmas as ties
 use Rattle.pol_content.proofs.TiesLemmas.{new_ids, or-false}
@@ -68,9 +69,11 @@ module _ (s : Rows) (command : Command) (sound : IsSound s) (within : IsWithin s
   -- an id of access is none of content
   no-content : (id : ℕ) → is_access_id id s.access ≡ true → is_content_id id s.content ≡ false
   no-content id is =
-      or-false (knows catalog_id id s.content.catalogs || knows namespace_id id s.content.namespaces) (knows table_id id s.content.tables)
-      (or-false (knows catalog_id id s.content.catalogs) (knows namespace_id id s.content.namespaces) (apart-unknown catalog_id (λ one. is_access_id one s.access) id s.content.catalogs sound.orderly.ties.ids_apart.catalogs is) (apart-unknown namespace_id (λ one. is_access_id one s.access) id s.content.namespaces sound.orderly.ties.ids_apart.namespaces is))
-      (apart-unknown table_id (λ one. is_access_id one s.access) id s.content.tables sound.orderly.ties.ids_apart.tables is)
+      let catalogs : knows catalog_id id s.content.catalogs ≡ false = apart-unknown catalog_id (λ one. is_access_id one s.access) id s.content.catalogs sound.orderly.ties.ids_apart.catalogs is in
+      let namespaces : knows namespace_id id s.content.namespaces ≡ false = apart-unknown namespace_id (λ one. is_access_id one s.access) id s.content.namespaces sound.orderly.ties.ids_apart.namespaces is in
+      let tables : knows table_id id s.content.tables ≡ false = apart-unknown table_id (λ one. is_access_id one s.access) id s.content.tables sound.orderly.ties.ids_apart.tables is in
+      let views : knows view_id id s.content.views ≡ false = apart-unknown view_id (λ one. is_access_id one s.access) id s.content.views sound.orderly.ties.ids_apart.views is in
+      λ i. ((catalogs i || namespaces i) || tables i) || views i
 
   -- a principal that gets another secret
   pub orderly-rotate : (name : List ℕ) (secret : Option (List ℕ)) → EachPasses (rotate s command name secret).rules → IsOrderly (stamped s command (rotate s command name secret).after)

@@ -7,6 +7,7 @@ pub enum Endpoint {
     Content(ContentRequest),
     Namespace(NamespaceRequest),
     Table(TableRequest),
+    View(ViewRequest),
     Catalog(CatalogRequest),
     Principal(PrincipalRequest),
     PrincipalRole(PrincipalRoleRequest),
@@ -21,9 +22,10 @@ pub enum ContentRequest {
     CreateNamespace,
     RenameTable,
     CommitTransaction,
+    RenameView,
 }
 
-/// One namespace of a catalogue, and the tables in it.
+/// One namespace of a catalogue, and the tables and views in it.
 #[derive(Clone, Copy, Debug)]
 pub enum NamespaceRequest {
     LoadNamespace,
@@ -32,6 +34,8 @@ pub enum NamespaceRequest {
     UpdateProperties,
     ListTables,
     CreateTable,
+    ListViews,
+    CreateView,
 }
 
 /// One table of a namespace.
@@ -42,6 +46,15 @@ pub enum TableRequest {
     CommitTable,
     DropTable,
     ReportMetrics,
+}
+
+/// One view of a namespace.
+#[derive(Clone, Copy, Debug)]
+pub enum ViewRequest {
+    LoadView,
+    HeadView,
+    ReplaceView,
+    DropView,
 }
 
 /// The catalogues themselves.

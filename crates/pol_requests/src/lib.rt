@@ -9,7 +9,7 @@ mod table;
 
 pub use endpoint::{
     CatalogRequest, CatalogRoleRequest, ContentRequest, Endpoint, NamespaceRequest,
-    PrincipalRequest, PrincipalRoleRequest, TableRequest,
+    PrincipalRequest, PrincipalRoleRequest, TableRequest, ViewRequest,
 };
 pub use keys::BASE_KEY;
 pub use refused::{RouteRefused, Unplanned, unreadable};

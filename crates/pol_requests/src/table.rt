@@ -5,14 +5,15 @@ ghost use Rattle.pol_requests.specs.Table.{entry_of, table};
 
 use crate::endpoint::{
     CatalogRequest, CatalogRoleRequest, ContentRequest, Endpoint, NamespaceRequest,
-    PrincipalRequest, PrincipalRoleRequest, TableRequest,
+    PrincipalRequest, PrincipalRoleRequest, TableRequest, ViewRequest,
 };
 
 /// How the requests of a method and path are served.
 #[derive(Clone, Copy, Debug)]
 pub enum Service {
     /// They ask for this, and each draws so many random words, 4 at most: the token of a session is made of two, the
-    /// uuid of a new table of two of its four, the client id of a new principal of one, and each secret of two.
+    /// uuid of a new table of two of its four and that of a new view of two, the client id of a new principal of one,
+    /// and each secret of two.
     Built { endpoint: Endpoint, words: u8 },
     /// They are not served yet.
     NotBuilt,
@@ -171,37 +172,58 @@ pub const TABLE: [Row; ROW_COUNT] = [
     (
         "GET",
         "/api/catalog/v1/{prefix}/namespaces/{namespace}/views",
-        Service::NotBuilt,
+        Service::Built {
+            endpoint: Endpoint::Namespace(NamespaceRequest::ListViews),
+            words: 0,
+        },
     ),
     (
         "POST",
         "/api/catalog/v1/{prefix}/namespaces/{namespace}/views",
-        Service::NotBuilt,
+        Service::Built {
+            endpoint: Endpoint::Namespace(NamespaceRequest::CreateView),
+            words: 2,
+        },
     ),
     (
         "GET",
         "/api/catalog/v1/{prefix}/namespaces/{namespace}/views/{view}",
-        Service::NotBuilt,
+        Service::Built {
+            endpoint: Endpoint::View(ViewRequest::LoadView),
+            words: 0,
+        },
     ),
     (
         "HEAD",
         "/api/catalog/v1/{prefix}/namespaces/{namespace}/views/{view}",
-        Service::NotBuilt,
+        Service::Built {
+            endpoint: Endpoint::View(ViewRequest::HeadView),
+            words: 0,
+        },
     ),
     (
         "POST",
         "/api/catalog/v1/{prefix}/namespaces/{namespace}/views/{view}",
-        Service::NotBuilt,
+        Service::Built {
+            endpoint: Endpoint::View(ViewRequest::ReplaceView),
+            words: 0,
+        },
     ),
     (
         "DELETE",
         "/api/catalog/v1/{prefix}/namespaces/{namespace}/views/{view}",
-        Service::NotBuilt,
+        Service::Built {
+            endpoint: Endpoint::View(ViewRequest::DropView),
+            words: 0,
+        },
     ),
     (
         "POST",
         "/api/catalog/v1/{prefix}/views/rename",
-        Service::NotBuilt,
+        Service::Built {
+            endpoint: Endpoint::Content(ContentRequest::RenameView),
+            words: 0,
+        },
     ),
     (
         "GET",

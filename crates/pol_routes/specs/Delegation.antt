@@ -2,9 +2,9 @@
 use Rattle.std.specs.Prelude.{ℕ, Bool, true, false, List, codes}
 use Rattle.pol_http.specs.Fields.{lists}
 use Rattle.pol_requests.specs.declared.endpoint.Endpoint.{Endpoint}
-use Rattle.pol_requests.specs.declared.endpoint.Endpoint.TheVariants.{OpenSession, Content, Namespace, Table, Catalog, Principal, PrincipalRole, CatalogRole}
+use Rattle.pol_requests.specs.declared.endpoint.Endpoint.TheVariants.{OpenSession, Content, Namespace, Table, View, Catalog, Principal, PrincipalRole, CatalogRole}
 use Rattle.pol_requests.specs.declared.endpoint.NamespaceRequest.{NamespaceRequest}
-use Rattle.pol_requests.specs.declared.endpoint.NamespaceRequest.TheVariants.{LoadNamespace, HeadNamespace, DropNamespace, UpdateProperties, ListTables, CreateTable}
+use Rattle.pol_requests.specs.declared.endpoint.NamespaceRequest.TheVariants.{LoadNamespace, HeadNamespace, DropNamespace, UpdateProperties, ListTables, CreateTable, ListViews, CreateView}
 use Rattle.pol_requests.specs.declared.endpoint.TableRequest.{TableRequest}
 use Rattle.pol_requests.specs.declared.endpoint.TableRequest.TheVariants.{LoadTable, HeadTable, CommitTable, DropTable, ReportMetrics}
 
@@ -20,6 +20,8 @@ on_namespace_may DropNamespace = false
 on_namespace_may UpdateProperties = false
 on_namespace_may ListTables = false
 on_namespace_may CreateTable = true
+on_namespace_may ListViews = false
+on_namespace_may CreateView = false
 
 abbrev pub on_table_may : TableRequest → Bool
 on_table_may LoadTable = true
@@ -33,6 +35,7 @@ may_hand_out OpenSession = false
 may_hand_out (Content asked) = false
 may_hand_out (Namespace asked) = on_namespace_may asked
 may_hand_out (Table asked) = on_table_may asked
+may_hand_out (View asked) = false
 may_hand_out (Catalog asked) = false
 may_hand_out (Principal asked) = false
 may_hand_out (PrincipalRole asked) = false

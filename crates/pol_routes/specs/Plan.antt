@@ -7,7 +7,7 @@ use Rattle.pol_commands.specs.declared.command.Caller.TheVariants.{Nobody}
 use Rattle.pol_commands.specs.declared.command.Command.{Command}
 use Rattle.pol_commands.specs.declared.command.Words4.{Words4}
 use Rattle.pol_requests.specs.declared.endpoint.Endpoint.{Endpoint}
-use Rattle.pol_requests.specs.declared.endpoint.Endpoint.TheVariants.{OpenSession, Content, Namespace, Table, Catalog, Principal, PrincipalRole, CatalogRole}
+use Rattle.pol_requests.specs.declared.endpoint.Endpoint.TheVariants.{OpenSession, Content, Namespace, Table, View, Catalog, Principal, PrincipalRole, CatalogRole}
 use Rattle.pol_requests.specs.declared.refused.RouteRefused.{RouteRefused}
 use Rattle.pol_requests.specs.declared.refused.RouteRefused.TheVariants.{NotBuilt as NotBuiltYet}
 use Rattle.pol_requests.specs.declared.table.Service.{Service}
@@ -29,6 +29,7 @@ caller_for OpenSession caller = Nobody
 caller_for (Content request) caller = caller
 caller_for (Namespace request) caller = caller
 caller_for (Table request) caller = caller
+caller_for (View request) caller = caller
 caller_for (Catalog request) caller = caller
 caller_for (Principal request) caller = caller
 caller_for (PrincipalRole request) caller = caller

@@ -2,7 +2,7 @@
 use Rattle.std.specs.Prelude.{ℕ, Bool, List, Result}
 use Rattle.pol_requests.specs.declared.refused.RouteRefused.{RouteRefused}
 use Rattle.pol_routes.specs.declared.routed.Routed.{Routed}
-use Rattle.pol_routes.specs.declared.routed.TheConstants.{NAMESPACE, TABLE}
+use Rattle.pol_routes.specs.declared.routed.TheConstants.{NAMESPACE}
 use Rattle.pol_routes.specs.Segment.{segment_for, name_segment, plain_segment, namespace_segment}
 use Rattle.pol_routes.specs.Target.{path_of}
 
@@ -17,12 +17,13 @@ pub record Request : Type 0 where
 abbrev pub request_of : Routed → Request
 request_of routed = record { pattern = routed.pattern.now; target = routed.target.now; body = routed.body.now; delegated = routed.delegated }
 
--- the name that its path has for a parameter, and the namespace and the name of a table that it has
+-- the plain name that its path has for a parameter, the namespace that it has, and the name of a table or a view that
+-- it has for a parameter
 unfoldable pub plain : List ℕ → Request → Result (List ℕ) RouteRefused
 plain parameter request = plain_segment (segment_for parameter request.pattern (path_of request.target))
 
 unfoldable pub namespace : Request → Result (List (List ℕ)) RouteRefused
 namespace request = namespace_segment (segment_for NAMESPACE.now request.pattern (path_of request.target))
 
-unfoldable pub table : Request → Result (List ℕ) RouteRefused
-table request = name_segment (segment_for TABLE.now request.pattern (path_of request.target))
+unfoldable pub part : List ℕ → Request → Result (List ℕ) RouteRefused
+part parameter request = name_segment (segment_for parameter request.pattern (path_of request.target))

@@ -9,13 +9,15 @@ use Rattle.pol_requests.specs.Refused.{◌>>=◌}
 use Rattle.pol_requests.specs.declared.endpoint.CatalogRequest.TheVariants.{ListCatalogs, CreateCatalog, GetCatalog, DropCatalog}
 use Rattle.pol_requests.specs.declared.endpoint.CatalogRoleRequest.{CatalogRoleRequest}
 use Rattle.pol_requests.specs.declared.endpoint.CatalogRoleRequest.TheVariants.{ListCatalogRoles, CreateCatalogRole, GetCatalogRole, DropCatalogRole, ListGrants, AddGrant, Revoke}
-use Rattle.pol_requests.specs.declared.endpoint.ContentRequest.TheVariants.{GetConfig, ListNamespaces, CreateNamespace, RenameTable, CommitTransaction}
+use Rattle.pol_requests.specs.declared.endpoint.ContentRequest.TheVariants.{GetConfig, ListNamespaces, CreateNamespace, RenameTable, CommitTransaction, RenameView}
 use Rattle.pol_requests.specs.declared.endpoint.Endpoint.{Endpoint}
-use Rattle.pol_requests.specs.declared.endpoint.Endpoint.TheVariants.{OpenSession, Content, Namespace, Table, Catalog, Principal, PrincipalRole, CatalogRole}
+use Rattle.pol_requests.specs.declared.endpoint.Endpoint.TheVariants.{OpenSession, Content, Namespace, Table, View, Catalog, Principal, PrincipalRole, CatalogRole}
 use Rattle.pol_requests.specs.declared.endpoint.NamespaceRequest.{NamespaceRequest}
-use Rattle.pol_requests.specs.declared.endpoint.NamespaceRequest.TheVariants.{LoadNamespace, HeadNamespace, DropNamespace, UpdateProperties, ListTables, CreateTable}
+use Rattle.pol_requests.specs.declared.endpoint.NamespaceRequest.TheVariants.{LoadNamespace, HeadNamespace, DropNamespace, UpdateProperties, ListTables, CreateTable, ListViews, CreateView}
 use Rattle.pol_requests.specs.declared.endpoint.TableRequest.{TableRequest}
 use Rattle.pol_requests.specs.declared.endpoint.TableRequest.TheVariants.{LoadTable, HeadTable, CommitTable, DropTable, ReportMetrics}
+use Rattle.pol_requests.specs.declared.endpoint.ViewRequest.{ViewRequest}
+use Rattle.pol_requests.specs.declared.endpoint.ViewRequest.TheVariants.{LoadView, HeadView, ReplaceView, DropView}
 use Rattle.pol_requests.specs.declared.endpoint.PrincipalRequest.TheVariants.{ListPrincipals, CreatePrincipal, GetPrincipal, DropPrincipal, Rotate, ListMembers, AddMember, EndMember}
 use Rattle.pol_requests.specs.declared.endpoint.PrincipalRoleRequest.TheVariants.{ListPrincipalRoles, CreatePrincipalRole, GetPrincipalRole, DropPrincipalRole, ListJoins, AddJoin, EndJoin}
 use Rattle.pol_requests.specs.declared.refused.RouteRefused.{RouteRefused}
@@ -26,15 +28,16 @@ use Rattle.pol_bodies.specs.Body.{body_of}
 use Rattle.pol_bodies.specs.CommitBodies.{commit_of, commits_of}
 use Rattle.pol_bodies.specs.Renaming.{renaming}
 use Rattle.pol_bodies.specs.TableBody.{create_table_of}
+use Rattle.pol_bodies.specs.ViewBodies.{create_view_of, view_commit_of}
 use Rattle.pol_names.specs.declared.identifier.Identifier.{Identifier}
 use Rattle.pol_bodies.specs.ManagementBodies.{catalog_role_body, grant_body, principal_body, principal_role_body}
 use Rattle.pol_routes.specs.Query.{query_value}
-use Rattle.pol_routes.specs.Request.{Request, plain, namespace, table}
+use Rattle.pol_routes.specs.Request.{Request, plain, namespace, part}
 use Rattle.pol_routes.specs.Segment.{plain_of, namespace_of}
 use Rattle.pol_routes.specs.Tables.{drop_table, load_table}
 use Rattle.pol_routes.specs.Target.{query_of}
 use Rattle.pol_routes.specs.TokenForm.{token_form}
-use Rattle.pol_routes.specs.declared.routed.TheConstants.{PREFIX, CATALOG, PRINCIPAL, ROLE, CATALOG_ROLE}
+use Rattle.pol_routes.specs.declared.routed.TheConstants.{PREFIX, CATALOG, PRINCIPAL, ROLE, CATALOG_ROLE, TABLE, VIEW}
 use Rattle.pol_routes.specs.declared.token_form.TokenForm.{TokenForm}
 
 -- the catalogue of a warehouse, which must be there
@@ -81,6 +84,8 @@ on_namespace request catalog levels DropNamespace = Ok (action.DropNamespace cat
 on_namespace request catalog levels UpdateProperties = body_of (body property_updates request.body) >>= λ new. Ok (action.UpdateProperties catalog levels new.removals new.updates)
 on_namespace request catalog levels ListTables = Ok (action.ListTables catalog levels)
 on_namespace request catalog levels CreateTable = create_table_of request.body >>= λ new. Ok (action.CreateTable catalog levels new)
+on_namespace request catalog levels ListViews = Ok (action.ListViews catalog levels)
+on_namespace request catalog levels CreateView = create_view_of request.body >>= λ new. Ok (action.CreateView catalog levels new)
 
 -- the action of a request on a table of a catalogue
 abbrev pub on_table : Request → List ℕ → Identifier → TableRequest → Result Action RouteRefused
@@ -89,6 +94,13 @@ on_table request catalog identifier HeadTable = Ok (action.HeadTable catalog ide
 on_table request catalog identifier CommitTable = commit_of identifier request.body >>= λ commit. Ok (action.CommitTable catalog commit)
 on_table request catalog identifier DropTable = drop_table request.target catalog identifier
 on_table request catalog identifier ReportMetrics = Ok (action.ReportMetrics catalog identifier)
+
+-- the action of a request on a view of a catalogue
+abbrev pub on_view : Request → List ℕ → Identifier → ViewRequest → Result Action RouteRefused
+on_view request catalog identifier LoadView = Ok (action.LoadView catalog identifier)
+on_view request catalog identifier HeadView = Ok (action.HeadView catalog identifier)
+on_view request catalog identifier ReplaceView = view_commit_of identifier request.body >>= λ commit. Ok (action.ReplaceView catalog commit)
+on_view request catalog identifier DropView = Ok (action.DropView catalog identifier)
 
 -- the action of a request on the roles of a catalogue
 abbrev pub on_catalog_roles : Request → List ℕ → CatalogRoleRequest → Result Action RouteRefused
@@ -108,8 +120,10 @@ action_of request (Content ListNamespaces) = plain PREFIX.now request >>= λ cat
 action_of request (Content CreateNamespace) = plain PREFIX.now request >>= λ catalog. body_of (body new_namespace request.body) >>= λ new. Ok (action.CreateNamespace catalog new.namespace new.properties)
 action_of request (Content RenameTable) = plain PREFIX.now request >>= λ catalog. body_of (body renaming request.body) >>= λ names. Ok (action.RenameTable catalog names.source names.destination)
 action_of request (Content CommitTransaction) = plain PREFIX.now request >>= λ catalog. commits_of request.body >>= λ commits. Ok (action.CommitTransaction catalog commits)
+action_of request (Content RenameView) = plain PREFIX.now request >>= λ catalog. body_of (body renaming request.body) >>= λ names. Ok (action.RenameView catalog names.source names.destination)
 action_of request (Namespace asked) = plain PREFIX.now request >>= λ catalog. namespace request >>= λ levels. on_namespace request catalog levels asked
-action_of request (Table asked) = plain PREFIX.now request >>= λ catalog. namespace request >>= λ levels. table request >>= λ name. on_table request catalog (record { namespace = levels; name = name }) asked
+action_of request (Table asked) = plain PREFIX.now request >>= λ catalog. namespace request >>= λ levels. part TABLE.now request >>= λ name. on_table request catalog (record { namespace = levels; name = name }) asked
+action_of request (View asked) = plain PREFIX.now request >>= λ catalog. namespace request >>= λ levels. part VIEW.now request >>= λ name. on_view request catalog (record { namespace = levels; name = name }) asked
 action_of request (Catalog ListCatalogs) = Ok action.ListCatalogs
 action_of request (Catalog CreateCatalog) = body_of (body catalog_body request.body) >>= λ read. Ok (creation_of read.catalog)
 action_of request (Catalog GetCatalog) = plain CATALOG.now request >>= λ catalog. Ok (action.GetCatalog catalog)

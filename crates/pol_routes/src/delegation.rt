@@ -30,6 +30,7 @@ pub(crate) fn may_hand_out(endpoint: Endpoint) -> bool
         Endpoint::Table(asked) => matches!(asked, TableRequest::LoadTable),
         Endpoint::OpenSession
         | Endpoint::Content(_)
+        | Endpoint::View(_)
         | Endpoint::Catalog(_)
         | Endpoint::Principal(_)
         | Endpoint::PrincipalRole(_)

@@ -1,7 +1,7 @@
 //! Laws of plans: theorems over the definitions in `specs/`. Their bodies are empty.
 ghost use Rattle.std.specs.Prelude.{◌≡◌, codes};
 ghost use Rattle.pol_routes.specs.declared.plans.TheConstants.{REQUEST_CHARGE};
-ghost use Rattle.pol_routes.specs.declared.routed.TheConstants.{CATALOG, CATALOG_ROLE, NAMESPACE, PREFIX, PRINCIPAL, ROLE, TABLE};
+ghost use Rattle.pol_routes.specs.declared.routed.TheConstants.{CATALOG, CATALOG_ROLE, NAMESPACE, PREFIX, PRINCIPAL, ROLE, TABLE, VIEW};
 ghost use Rattle.pol_routes.specs.declared.token_form.TheConstants.{SCOPE_LIMIT};
 ghost use Rattle.pol_routes.specs.Laws.{EachRowIsServed};
 
@@ -16,6 +16,7 @@ pub fn parameters_are_those()
     ensures prefix { PREFIX.now ≡ codes "{prefix}" }
     ensures namespace { NAMESPACE.now ≡ codes "{namespace}" }
     ensures table { TABLE.now ≡ codes "{table}" }
+    ensures view { VIEW.now ≡ codes "{view}" }
     ensures catalog { CATALOG.now ≡ codes "{catalog}" }
     ensures catalog_role { CATALOG_ROLE.now ≡ codes "{catalog_role}" }
     ensures principal { PRINCIPAL.now ≡ codes "{principal}" }

@@ -1,7 +1,7 @@
 //! What requests ask for, by their paths, queries and bodies: those of the catalogue API (Iceberg REST OpenAPI).
 ghost use Rattle.std.specs.Prelude.{◌≡◌};
 ghost use Rattle.pol_requests.specs.Refused.{Meets};
-ghost use Rattle.pol_requests.specs.declared.endpoint.Endpoint.TheVariants.{Content as OfContent, Namespace as OfNamespace, Table as OfTable};
+ghost use Rattle.pol_requests.specs.declared.endpoint.Endpoint.TheVariants.{Content as OfContent, Namespace as OfNamespace, Table as OfTable, View as OfView};
 ghost use Rattle.pol_routes.specs.Request.{request_of};
 ghost use Rattle.pol_routes.specs.Requests as spec;
 
@@ -9,18 +9,20 @@ use crate::management::{
     catalog_action, catalog_role_action, principal_action, principal_role_action,
 };
 use crate::query::query_value;
-use crate::routed::{PREFIX, Routed};
+use crate::routed::{PREFIX, Routed, TABLE, VIEW};
 use crate::segment::{namespace_of, plain_of};
 use crate::tables::{drop_table, load_table};
 use crate::target::query_of;
 use crate::token_form::{TokenForm, read_token_form};
 use pol_bodies::{
     NewNamespace, PropertyUpdates, RenameBody, body_of, commit_of, commits_of, create_table_of,
+    create_view_of, view_commit_of,
 };
 use pol_commands::Action;
 use pol_names::{Identifier, Namespace, Plain};
 use pol_requests::{
-    ContentRequest, Endpoint, NamespaceRequest, RouteRefused, TableRequest, Unplanned, unreadable,
+    ContentRequest, Endpoint, NamespaceRequest, RouteRefused, TableRequest, Unplanned, ViewRequest,
+    unreadable,
 };
 use pol_types::Text;
 use std::alloc::Global;
@@ -38,6 +40,7 @@ pub(crate) fn action_of(
         Endpoint::Content(asked) => content_action(alloc, asked, message),
         Endpoint::Namespace(asked) => namespace_action(alloc, asked, message),
         Endpoint::Table(asked) => table_action(alloc, asked, message),
+        Endpoint::View(asked) => view_action(alloc, asked, message),
         Endpoint::Catalog(asked) => catalog_action(alloc, asked, message),
         Endpoint::Principal(asked) => principal_action(alloc, asked, message),
         Endpoint::PrincipalRole(asked) => principal_role_action(alloc, asked, message),
@@ -84,6 +87,15 @@ fn content_action(
             catalog: message.plain(alloc, PREFIX)?,
             commits: commits_of(alloc, message.body)?,
         }),
+        ContentRequest::RenameView => {
+            let catalog = message.plain(alloc, PREFIX)?;
+            let names: RenameBody = body_of(alloc, message.body)?;
+            Ok(Action::RenameView {
+                catalog,
+                source: names.source,
+                destination: names.destination,
+            })
+        }
     }
 }
 
@@ -131,6 +143,12 @@ fn on_namespace(
             namespace,
             request: create_table_of(alloc, message.body)?,
         }),
+        NamespaceRequest::ListViews => Ok(Action::ListViews { catalog, namespace }),
+        NamespaceRequest::CreateView => Ok(Action::CreateView {
+            catalog,
+            namespace,
+            request: create_view_of(alloc, message.body)?,
+        }),
     }
 }
 
@@ -145,7 +163,7 @@ fn table_action(
 {
     let catalog = message.plain(alloc, PREFIX)?;
     let namespace = message.namespace(alloc)?;
-    let name = message.table(alloc)?;
+    let name = message.part(alloc, TABLE)?;
     on_table(
         alloc,
         asked,
@@ -178,6 +196,54 @@ fn on_table(
         }),
         TableRequest::DropTable => drop_table(alloc, message.target, catalog, identifier),
         TableRequest::ReportMetrics => Ok(Action::ReportMetrics {
+            catalog,
+            identifier,
+        }),
+    }
+}
+
+/// What a request asks for of one view of a namespace.
+#[tactic(auto, using(pol_requests::proofs::RefusedLemmas::chained))]
+fn view_action(alloc: Global, asked: ViewRequest, message: &Routed<'_>) -> Result<Action, Unplanned>
+    ensures { Meets (spec.action_of (request_of message.now) (OfView asked)) result }
+{
+    let catalog = message.plain(alloc, PREFIX)?;
+    let namespace = message.namespace(alloc)?;
+    let name = message.part(alloc, VIEW)?;
+    on_view(
+        alloc,
+        asked,
+        message,
+        catalog,
+        Identifier { namespace, name },
+    )
+}
+
+/// What a request asks for of a view that it names.
+#[tactic(auto, using(pol_requests::proofs::RefusedLemmas::chained))]
+fn on_view(
+    alloc: Global,
+    asked: ViewRequest,
+    message: &Routed<'_>,
+    catalog: Plain,
+    identifier: Identifier,
+) -> Result<Action, Unplanned>
+    ensures { Meets (spec.on_view (request_of message.now) catalog identifier asked) result }
+{
+    match asked {
+        ViewRequest::LoadView => Ok(Action::LoadView {
+            catalog,
+            identifier,
+        }),
+        ViewRequest::HeadView => Ok(Action::HeadView {
+            catalog,
+            identifier,
+        }),
+        ViewRequest::ReplaceView => Ok(Action::ReplaceView {
+            catalog,
+            commit: view_commit_of(alloc, identifier, message.body)?,
+        }),
+        ViewRequest::DropView => Ok(Action::DropView {
             catalog,
             identifier,
         }),

@@ -15,6 +15,8 @@ pub(crate) const NAMESPACE: &[u8] = b"{namespace}";
 
 pub(crate) const TABLE: &[u8] = b"{table}";
 
+pub(crate) const VIEW: &[u8] = b"{view}";
+
 pub(crate) const CATALOG: &[u8] = b"{catalog}";
 
 pub(crate) const CATALOG_ROLE: &[u8] = b"{catalog_role}";
@@ -53,12 +55,12 @@ impl Routed<'_> {
         namespace_segment(alloc, segment_for(path, self.pattern, NAMESPACE))
     }
 
-    /// The name of a table that the path has.
-    #[tactic(auto, unfolding(crate::specs::Request::table))]
-    pub(crate) fn table(&self, alloc: Global) -> Result<Name, Unplanned>
-        ensures { Meets (spec.table (spec.request_of self.now)) result }
+    /// The name of a table or a view that the path has for a parameter.
+    #[tactic(auto, unfolding(crate::specs::Request::part))]
+    pub(crate) fn part(&self, alloc: Global, parameter: &[u8]) -> Result<Name, Unplanned>
+        ensures { Meets (spec.part parameter.now (spec.request_of self.now)) result }
     {
         let path = path_of(self.target);
-        name_segment(alloc, segment_for(path, self.pattern, TABLE))
+        name_segment(alloc, segment_for(path, self.pattern, parameter))
     }
 }

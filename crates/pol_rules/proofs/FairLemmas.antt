@@ -26,7 +26,7 @@ use Rattle.pol_commands.specs.declared.grants.GrantedOn.{GrantedOn}
 use Rattle.pol_commands.specs.declared.grants.GrantedOn.TheVariants as on
 use Rattle.pol_commands.specs.declared.reply.OptionName.TheVariants as option
 use Rattle.pol_commands.specs.declared.reply.Refusal.{Refusal}
-use Rattle.pol_commands.specs.declared.reply.Refusal.TheVariants.{BadLocation, Forbidden, InvalidClient, InvalidScope, KeyTwice, LocationOutside, LocationOverlap, NameTaken, NoCatalogue, NoNamespace, NoSuchRole, NoTable, NotEmpty, Reserved, Unauthenticated, Unsupported, UpdateRefused}
+use Rattle.pol_commands.specs.declared.reply.Refusal.TheVariants.{BadLocation, Forbidden, InvalidClient, InvalidScope, KeyTwice, LocationOutside, LocationOverlap, NameTaken, NoCatalogue, NoNamespace, NoSuchRole, NoTable, NoView, NotEmpty, Reserved, Unauthenticated, Unsupported, UpdateRefused}
 use Rattle.pol_state.specs.Rows.{Rows}
 use Rattle.pol_state.specs.Sound.{IsSound}
 use Rattle.pol_rules.specs.AccessRules.{in_catalog, in_realm, no_catalog_role, no_grant, no_join, no_member, no_principal, no_principal_role, no_securable, reserved, reserved_grant, reserved_join, reserved_member}
@@ -35,8 +35,9 @@ use Rattle.pol_rules.specs.Needs.{caller_may, first_unmet, forbidden, session_ma
 use Rattle.pol_state.specs.Bounds.{limits, over_limit, refuse_if}
 use Rattle.pol_rules.specs.Rules.{bad_text, bad_texts, catalog_holds, client_of, given, inside, invalid_client, invalid_scope, is_signed_in, key_twice, namespace_holds, no_catalogue, no_namespace, no_parent, time_of, unauthenticated, unsupported_type, name_taken}
 use Rattle.pol_access.specs.declared.privilege.Privilege.{Privilege}
-use Rattle.pol_rules.specs.Prologues.{at_table, on_namespace}
-use Rattle.pol_rules.specs.TableRules.{bad_creation, bad_location, bad_location_by, default_location, location_outside, location_overlap, no_table, other_format, staged}
+use Rattle.pol_rules.specs.Prologues.{at_table, at_view, on_namespace}
+use Rattle.pol_rules.specs.TableRules.{bad_creation, bad_location, default_location, location_outside, location_overlap, no_table, other_format, staged}
+use Rattle.pol_rules.specs.ViewRules.{no_view}
 use Rattle.pol_rules.specs.declared.needs.Need.{Need}
 use Rattle.pol_rules.proofs.LiveLemmas.{session-live}
 use Rattle.pol_rules.proofs.RulesLemmas.{either-other, first-other, refuse_if-other, tells_full}
@@ -65,7 +66,7 @@ first ⊳ rest = record {
 pub limit-other : (rows : Rows) → tells_full (over_limit rows) ≡ false
 unfolding over_limit
 limit-other rows =
-    first-other (limits rows) (refuse_if-other _ _ refl, (refuse_if-other _ _ refl, (refuse_if-other _ _ refl, (refuse_if-other _ _ refl, (refuse_if-other _ _ refl, (refuse_if-other _ _ refl, (refuse_if-other _ _ refl, (refuse_if-other _ _ refl, (refuse_if-other _ _ refl, (refuse_if-other _ _ refl, (refuse_if-other _ _ refl, (refuse_if-other _ _ refl, (refuse_if-other _ _ refl, (refuse_if-other _ _ refl, (refuse_if-other _ _ refl, (refuse_if-other _ _ refl, (refuse_if-other _ _ refl, (refuse_if-other _ _ refl, (refuse_if-other _ _ refl, (refuse_if-other _ _ refl, (refuse_if-other _ _ refl, (refuse_if-other _ _ refl, tt))))))))))))))))))))))
+    first-other (limits rows) (refuse_if-other _ _ refl, (refuse_if-other _ _ refl, (refuse_if-other _ _ refl, (refuse_if-other _ _ refl, (refuse_if-other _ _ refl, (refuse_if-other _ _ refl, (refuse_if-other _ _ refl, (refuse_if-other _ _ refl, (refuse_if-other _ _ refl, (refuse_if-other _ _ refl, (refuse_if-other _ _ refl, (refuse_if-other _ _ refl, (refuse_if-other _ _ refl, (refuse_if-other _ _ refl, (refuse_if-other _ _ refl, (refuse_if-other _ _ refl, (refuse_if-other _ _ refl, (refuse_if-other _ _ refl, (refuse_if-other _ _ refl, (refuse_if-other _ _ refl, (refuse_if-other _ _ refl, (refuse_if-other _ _ refl, (refuse_if-other _ _ refl, (refuse_if-other _ _ refl, (refuse_if-other _ _ refl, (refuse_if-other _ _ refl, (refuse_if-other _ _ refl, tt)))))))))))))))))))))))))))
 
 module _ {s : Rows} where
   -- a rule that doesn't look at the sessions
@@ -179,23 +180,24 @@ module _ {s : Rows} where
   unfolding unsupported_type
   fair-unsupported_type external = fair-if external (Unsupported option.Type) refl
 
-  -- rules on tables
+  -- rules on tables and views
   pub fair-no_table : (identifier : Identifier) (catalog : CatalogRow) → IsFair s (no_table s identifier catalog) (no_table (live_part s) identifier catalog)
   unfolding no_table
   fair-no_table identifier catalog = fair-if _ (NoTable identifier) refl
+
+  pub fair-no_view : (identifier : Identifier) (catalog : CatalogRow) → IsFair s (no_view s identifier catalog) (no_view (live_part s) identifier catalog)
+  unfolding no_view
+  fair-no_view identifier catalog = fair-if _ (NoView identifier) refl
 
   pub fair-bad_creation : (request : CreateTable) → IsFair s (bad_creation request) (bad_creation request)
   unfolding bad_creation
   fair-bad_creation request =
       fair-mapped (create_refusal request.schema request.partition_spec request.write_order) (UpdateRefused 0 0) (λ why. refl)
 
-  pub fair-bad_location : (levels : List (List ℕ)) (request : CreateTable) (catalog : CatalogRow) → IsFair s (bad_location levels request catalog) (bad_location levels request catalog)
+  pub fair-bad_location : (levels : List (List ℕ)) (given : Option (List ℕ)) (name : List ℕ) (catalog : CatalogRow) → IsFair s (bad_location levels given name catalog) (bad_location levels given name catalog)
   unfolding bad_location
-  fair-bad_location levels request catalog = by request.location
-    where
-      by : (given : Option (List ℕ)) → IsFair s (bad_location_by given (default_location catalog levels request.name)) (bad_location_by given (default_location catalog levels request.name))
-      by None = fair-mapped (location_refusal (default_location catalog levels request.name)) (BadLocation 0) (λ why. refl)
-      by (Some text) = fair-bad_text text
+  fair-bad_location levels None name catalog = fair-mapped (location_refusal (default_location catalog levels name)) (BadLocation 0) (λ why. refl)
+  fair-bad_location levels (Some text) name catalog = fair-bad_text text
 
   pub fair-location_outside : (location : List (List ℕ)) (catalog : CatalogRow) → IsFair s (location_outside location catalog) (location_outside location catalog)
   unfolding location_outside
@@ -231,7 +233,7 @@ module _ {s : Rows} where
   fair-no_securable on.Catalog catalog = fair-same refl
   fair-no_securable (on.Namespace levels) catalog = fair-no_namespace catalog.id levels
   fair-no_securable (on.Table identifier) catalog = fair-either (fair-no_namespace catalog.id identifier.namespace) (fair-no_table identifier catalog)
-  fair-no_securable (on.View identifier) catalog = fair-either (fair-no_namespace catalog.id identifier.namespace) (fair-same refl)
+  fair-no_securable (on.View identifier) catalog = fair-either (fair-no_namespace catalog.id identifier.namespace) (fair-no_view identifier catalog)
 
   pub fair-no_member : (role : List ℕ) (row : MemberRow) → IsFair s (no_member s role row) (no_member (live_part s) role row)
   unfolding no_member
@@ -269,7 +271,7 @@ module _ {s : Rows} where
     pub fair-in_catalog : (name : List ℕ) → AreFair s rules live → AreFair s (in_catalog s command name rules) (in_catalog (live_part s) command name live)
     fair-in_catalog name fair = fair-caller command ⊳ fair-no_catalogue name ⊳ fair-inside name (λ catalog. fair-need command _) ⊳ fair
 
-    -- and those of an action on a namespace, and on a table, that must be there
+    -- and those of an action on a namespace, on a table, and on a view, that must be there
     pub fair-on_namespace : (privilege : Privilege) (name : List ℕ) (levels : List (List ℕ)) → AreFair s rules live → AreFair s (on_namespace s command privilege name levels rules) (on_namespace (live_part s) command privilege name levels live)
     fair-on_namespace privilege name levels fair =
         fair-caller command ⊳ fair-no_catalogue name ⊳ fair-inside name (λ catalog. fair-need command _) ⊳ fair-inside name (λ catalog. fair-no_namespace catalog.id levels) ⊳ fair
@@ -277,3 +279,7 @@ module _ {s : Rows} where
     pub fair-at_table : (privilege : Privilege) (name : List ℕ) (identifier : Identifier) → AreFair s rules live → AreFair s (at_table s command privilege name identifier rules) (at_table (live_part s) command privilege name identifier live)
     fair-at_table privilege name identifier fair =
         fair-caller command ⊳ fair-no_catalogue name ⊳ fair-inside name (λ catalog. fair-need command _) ⊳ fair-inside name (λ catalog. fair-no_namespace catalog.id identifier.namespace) ⊳ fair-inside name (fair-no_table identifier) ⊳ fair
+
+    pub fair-at_view : (privilege : Privilege) (name : List ℕ) (identifier : Identifier) → AreFair s rules live → AreFair s (at_view s command privilege name identifier rules) (at_view (live_part s) command privilege name identifier live)
+    fair-at_view privilege name identifier fair =
+        fair-caller command ⊳ fair-no_catalogue name ⊳ fair-inside name (λ catalog. fair-need command _) ⊳ fair-inside name (λ catalog. fair-no_namespace catalog.id identifier.namespace) ⊳ fair-inside name (fair-no_view identifier) ⊳ fair

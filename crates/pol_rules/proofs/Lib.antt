@@ -3,6 +3,7 @@ pub mod ContentLemmas
 pub mod FairLemmas
 pub mod FoundLemmas
 pub mod JudgedLemmas
+pub mod JudgingLemmas
 pub mod LeadsLemmas
 pub mod LiveLemmas
 pub mod NeedsLemmas

@@ -10,13 +10,15 @@ use Rattle.pol_content.specs.declared.rows.NamespaceRow.{NamespaceRow}
 use Rattle.pol_names.specs.declared.identifier.Identifier.{Identifier}
 use Rattle.pol_table_rows.specs.Tables.{table_id}
 use Rattle.pol_table_rows.specs.declared.row.TableRow.{TableRow}
+use Rattle.pol_view_rows.specs.Views.{view_id}
+use Rattle.pol_view_rows.specs.declared.row.ViewRow.{ViewRow}
 use Rattle.pol_commands.specs.declared.command.Command.{Command}
 use Rattle.pol_commands.specs.declared.reply.Answer.{Answer}
 use Rattle.pol_commands.specs.declared.reply.Refusal.{Refusal}
 use Rattle.pol_state.specs.Rows.{Rows}
 use Rattle.pol_rules.specs.AccessRules.{in_catalog, in_realm}
 use Rattle.pol_rules.specs.Judged.{Does, Enters}
-use Rattle.pol_rules.specs.Prologues.{at_table, namespace_row_at, on_namespace, table_row_at}
+use Rattle.pol_rules.specs.Prologues.{at_table, at_view, namespace_row_at, on_namespace, table_row_at, view_row_at}
 use Rattle.pol_rules.specs.declared.rules.Acted.{Acted}
 use Rattle.pol_rules.specs.declared.rules.Undone.{Undone}
 use Rattle.pol_rules.proofs.JudgedLemmas.{entered-stopped}
@@ -37,3 +39,7 @@ module _ (s : Rows) (command : Command) (rules : List (Option Refusal)) (after :
   pub at_table_stops : (privilege : Privilege) (name : List ℕ) (identifier : Identifier) → Enters {T = TableRow} (at_table s command privilege name identifier) (λ row. (table_row_at s name identifier ≡ Some row) × (row_of table_id row.id s.content.tables ≡ Some row)) (Err why) → Does s command (record { rules = at_table s command privilege name identifier rules; after = after; answer = answer }) result
   at_table_stops privilege name identifier entered =
       entered-stopped {T = TableRow} (λ row. (table_row_at s name identifier ≡ Some row) × (row_of table_id row.id s.content.tables ≡ Some row)) (at_table s command privilege name identifier) s command (record { rules = at_table s command privilege name identifier rules; after = after; answer = answer }) rules why result refl (λ passes. passes) told entered
+
+  pub at_view_stops : (privilege : Privilege) (name : List ℕ) (identifier : Identifier) → Enters {T = ViewRow} (at_view s command privilege name identifier) (λ row. (view_row_at s name identifier ≡ Some row) × (row_of view_id row.id s.content.views ≡ Some row)) (Err why) → Does s command (record { rules = at_view s command privilege name identifier rules; after = after; answer = answer }) result
+  at_view_stops privilege name identifier entered =
+      entered-stopped {T = ViewRow} (λ row. (view_row_at s name identifier ≡ Some row) × (row_of view_id row.id s.content.views ≡ Some row)) (at_view s command privilege name identifier) s command (record { rules = at_view s command privilege name identifier rules; after = after; answer = answer }) rules why result refl (λ passes. passes) told entered

@@ -18,17 +18,19 @@ use Rattle.pol_commands.specs.declared.grants.Grant.{Grant}
 use Rattle.pol_commands.specs.declared.grants.GrantedOn.{GrantedOn}
 use Rattle.pol_commands.specs.declared.grants.GrantedOn.TheVariants as on
 use Rattle.pol_commands.specs.declared.reply.Refusal.{Refusal}
-use Rattle.pol_commands.specs.declared.reply.Refusal.TheVariants.{NoSuchRole, NoView, Reserved}
-use Rattle.pol_content.specs.Chain.{namespace_at, table_at}
+use Rattle.pol_commands.specs.declared.reply.Refusal.TheVariants.{NoSuchRole, Reserved}
+use Rattle.pol_content.specs.Chain.{namespace_at, table_at, view_at}
 use Rattle.pol_content.specs.Content.{catalog_named}
 use Rattle.pol_content.specs.declared.rows.CatalogRow.{CatalogRow}
 use Rattle.pol_table_rows.specs.declared.row.TableRow.{TableRow}
 use Rattle.pol_tables.specs.Facts.{holds}
+use Rattle.pol_view_rows.specs.declared.row.ViewRow.{ViewRow}
 use Rattle.pol_rules.specs.Needs.{forbidden, on_catalog, service}
 use Rattle.pol_state.specs.Rows.{Rows}
 use Rattle.pol_state.specs.Bounds.{refuse_if}
 use Rattle.pol_rules.specs.Rules.{inside, no_catalogue, no_namespace, unauthenticated}
 use Rattle.pol_rules.specs.TableRules.{no_table}
+use Rattle.pol_rules.specs.ViewRules.{no_view}
 
 -- the rules of an action that manages the realm, and of one that manages the access of a catalogue, before its own
 abbrev pub in_realm : Rows → Command → List (Option Refusal) → List (Option Refusal)
@@ -48,13 +50,12 @@ no_principal_role s name = refuse_if (is_none (principal_role_named name s.acces
 unfoldable pub no_catalog_role : Rows → List ℕ → CatalogRow → Option Refusal
 no_catalog_role s name catalog = refuse_if (is_none (catalog_role_named catalog.id name s.access)) (NoSuchRole name)
 
--- what a grant names in a catalogue isn't there: a namespace, or, in a namespace that is, a table or a view. There are
--- no views yet
+-- what a grant names in a catalogue isn't there: a namespace, or, in a namespace that is, a table or a view
 abbrev pub no_securable : Rows → GrantedOn → CatalogRow → Option Refusal
 no_securable s on.Catalog catalog = None
 no_securable s (on.Namespace levels) catalog = no_namespace s catalog.id levels
 no_securable s (on.Table identifier) catalog = option_or (no_namespace s catalog.id identifier.namespace) (no_table s identifier catalog)
-no_securable s (on.View identifier) catalog = option_or (no_namespace s catalog.id identifier.namespace) (Some (NoView identifier))
+no_securable s (on.View identifier) catalog = option_or (no_namespace s catalog.id identifier.namespace) (no_view s identifier catalog)
 
 -- what is made of two things that were found
 abbrev pub of_both : {A B C : Type 0} → (A → B → C) → Option A → Option B → Option C
@@ -81,7 +82,8 @@ securable_in s on.Catalog catalog = Some (securable.Catalog catalog.id)
 securable_in s (on.Namespace levels) catalog = namespace_at catalog.id s.content levels
 securable_in s (on.Table identifier) catalog =
     option_map (λ (row : TableRow). securable.Table row.id) (table_at catalog.id identifier.namespace identifier.name s.content)
-securable_in s (on.View identifier) catalog = None
+securable_in s (on.View identifier) catalog =
+    option_map (λ (row : ViewRow). securable.View row.id) (view_at catalog.id identifier.namespace identifier.name s.content)
 
 abbrev pub securable_at : Rows → List ℕ → GrantedOn → Option Securable
 securable_at s catalog named = option_and_then (securable_in s named) (catalog_named catalog s.content)

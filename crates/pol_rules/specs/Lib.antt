@@ -7,3 +7,4 @@ pub mod Needs
 pub mod Prologues
 pub mod Rules
 pub mod TableRules
+pub mod ViewRules

@@ -7,7 +7,7 @@ use Rattle.pol_access.specs.declared.privilege.Privilege.{Privilege}
 use Rattle.pol_access.specs.declared.privilege.Privilege.TheVariants.{ServiceManageAccess}
 use Rattle.pol_access.specs.declared.securable.Securable.{Securable}
 use Rattle.pol_access.specs.declared.securable.Securable.TheVariants as securable
-use Rattle.pol_content.specs.Chain.{chain_of, deepest, deepest_of_table}
+use Rattle.pol_content.specs.Chain.{chain_of, deepest, deepest_of_table, deepest_of_view}
 use Rattle.pol_content.specs.Content.{catalog_id, namespace_id}
 use Rattle.pol_content.specs.declared.rows.CatalogRow.{CatalogRow}
 use Rattle.pol_content.specs.declared.rows.NamespaceRow.{NamespaceRow}
@@ -15,6 +15,8 @@ use Rattle.pol_names.specs.declared.identifier.Identifier.{Identifier}
 use Rattle.pol_table_rows.specs.Tables.{table_id}
 use Rattle.pol_table_rows.specs.declared.row.TableRow.{TableRow}
 use Rattle.pol_tables.specs.Table.{row_of}
+use Rattle.pol_view_rows.specs.Views.{view_id}
+use Rattle.pol_view_rows.specs.declared.row.ViewRow.{ViewRow}
 use Rattle.pol_tokens.specs.declared.session.SessionRow.{SessionRow}
 use Rattle.pol_state.specs.Rows.{Rows}
 use Rattle.pol_rules.specs.Rules.{session_of, time_of}
@@ -63,12 +65,24 @@ abbrev pub table_shown : Rows → Option TableRow → SecurableName
 table_shown s None = name.Realm
 table_shown s (Some row) = table_shown_in s row.name (row_of namespace_id row.namespace s.content.namespaces)
 
+abbrev pub view_name_shown : Option CatalogRow → List (List ℕ) → List ℕ → SecurableName
+view_name_shown None levels called = name.Realm
+view_name_shown (Some row) levels called = name.View row.name (record { namespace = levels; name = called })
+
+abbrev pub view_shown_in : Rows → List ℕ → Option NamespaceRow → SecurableName
+view_shown_in s called None = name.Realm
+view_shown_in s called (Some row) = view_name_shown (row_of catalog_id row.catalog s.content.catalogs) row.levels called
+
+abbrev pub view_shown : Rows → Option ViewRow → SecurableName
+view_shown s None = name.Realm
+view_shown s (Some row) = view_shown_in s row.name (row_of namespace_id row.namespace s.content.namespaces)
+
 abbrev pub shown : Rows → Securable → SecurableName
 shown s securable.Realm = name.Realm
 shown s (securable.Catalog id) = catalog_shown (row_of catalog_id id s.content.catalogs)
 shown s (securable.Namespace id) = namespace_shown s (row_of namespace_id id s.content.namespaces)
 shown s (securable.Table id) = table_shown s (row_of table_id id s.content.tables)
-shown s (securable.View id) = name.Realm
+shown s (securable.View id) = view_shown s (row_of view_id id s.content.views)
 
 -- a need isn't met; the first such is told
 unfoldable pub first_unmet : Rows → Command → List Need → Option Need
@@ -85,8 +99,8 @@ need privilege on = record { privilege = privilege; on = on } ∷ []
 abbrev pub service : List Need
 service = need ServiceManageAccess securable.Realm
 
--- a privilege on a catalogue, on the deepest part of a path in it that is there, of a namespace or of a table, and on a
--- parent, where there is one
+-- a privilege on a catalogue, on the deepest part of a path in it that is there, of a namespace, of a table or of a
+-- view, and on a parent, where there is one
 abbrev pub on_catalog : Privilege → CatalogRow → List Need
 on_catalog privilege catalog = need privilege (securable.Catalog catalog.id)
 
@@ -96,6 +110,10 @@ on_path s privilege levels catalog = need privilege (deepest catalog.id levels s
 abbrev pub on_table : Rows → Privilege → Identifier → CatalogRow → List Need
 on_table s privilege identifier catalog =
     need privilege (deepest_of_table catalog.id identifier.namespace identifier.name s.content)
+
+abbrev pub on_view : Rows → Privilege → Identifier → CatalogRow → List Need
+on_view s privilege identifier catalog =
+    need privilege (deepest_of_view catalog.id identifier.namespace identifier.name s.content)
 
 abbrev pub on_parent : Rows → Privilege → Option (List (List ℕ)) → CatalogRow → List Need
 on_parent s privilege None catalog = on_catalog privilege catalog

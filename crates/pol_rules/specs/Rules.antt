@@ -112,7 +112,7 @@ no_parent s catalog (Some parent) = no_namespace s catalog parent
 unfoldable pub name_taken : {A : Type 0} → Option A → List ℕ → Option Refusal
 name_taken found name = refuse_if (is_some found) (NameTaken name)
 
--- a catalogue has a namespace, or a role beside `catalog_admin`, and a namespace has a deeper one or a table
+-- a catalogue has a namespace, or a role beside `catalog_admin`, and a namespace has a deeper one, a table or a view
 unfoldable pub catalog_holds : Rows → CatalogRow → Option Refusal
 catalog_holds s catalog =
     refuse_if (not (catalog_is_empty catalog.id s.content) || has_other_role catalog.id (codes "catalog_admin") s.access) (NotEmpty catalog.name)

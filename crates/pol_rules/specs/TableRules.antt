@@ -29,25 +29,25 @@ unfoldable pub bad_creation : CreateTable → Option Refusal
 bad_creation request =
     option_map (UpdateRefused 0 0) (create_refusal request.schema request.partition_spec request.write_order)
 
--- the default location of a table: the catalogue's base, and below it the levels and the name
+-- the default location of a table or a view: the catalogue's base, and below it the levels and the name
 abbrev pub default_location : CatalogRow → List (List ℕ) → List ℕ → List (List ℕ)
 default_location catalog levels name = catalog.base ++ (levels ++ name ∷ [])
 
--- the location of a new table: that of the text that is given, or else the default one
+-- the location of a new table or view: that of the text that is given, or else the default one
 abbrev pub location_by : Option (List ℕ) → List (List ℕ) → List (List ℕ)
 location_by None usual = usual
 location_by (Some text) usual = segments_of text
 
-abbrev pub location_asked : List (List ℕ) → CreateTable → CatalogRow → List (List ℕ)
-location_asked levels request catalog = location_by request.location (default_location catalog levels request.name)
+abbrev pub location_asked : List (List ℕ) → Option (List ℕ) → List ℕ → CatalogRow → List (List ℕ)
+location_asked levels given name catalog = location_by given (default_location catalog levels name)
 
 -- the text that is given is no location, or else the default location is none
 abbrev pub bad_location_by : Option (List ℕ) → List (List ℕ) → Option Refusal
 bad_location_by None usual = option_map (BadLocation 0) (location_refusal usual)
 bad_location_by (Some text) usual = bad_text text
 
-unfoldable pub bad_location : List (List ℕ) → CreateTable → CatalogRow → Option Refusal
-bad_location levels request catalog = bad_location_by request.location (default_location catalog levels request.name)
+unfoldable pub bad_location : List (List ℕ) → Option (List ℕ) → List ℕ → CatalogRow → Option Refusal
+bad_location levels given name catalog = bad_location_by given (default_location catalog levels name)
 
 -- neither the catalogue's base nor a location that is allowed beside it covers the location
 abbrev pub is_allowed : List (List ℕ) → CatalogRow → Bool

@@ -14,6 +14,7 @@ use crate::catalog_rules::CATALOG_ADMIN;
 use crate::namespace_rules::namespace_there;
 use crate::rules::{Asked, Undone};
 use crate::table_rules::table_there;
+use crate::view_rules::view_there;
 use pol_access::{
     CatalogRoleRow, GrantRow, JoinRow, MemberRow, PrincipalRoleRow, PrincipalRow, Privilege,
     Securable,
@@ -182,9 +183,8 @@ pub fn securable_there(
         }
         GrantedOn::View(identifier) => {
             namespace_there(asked, catalog.id, &identifier.namespace)?;
-            Err(Undone::Refused(Refusal::NoView {
-                identifier: identifier.clone()?,
-            }))
+            let row = view_there(asked, catalog, identifier)?;
+            Ok(Securable::View(row.id))
         }
     }
 }

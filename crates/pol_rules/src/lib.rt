@@ -12,3 +12,4 @@ pub mod needs;
 pub mod prologues;
 pub mod rules;
 pub mod table_rules;
+pub mod view_rules;

@@ -1,14 +1,14 @@
 ghost use Rattle.std.specs.Prelude.{◌≡◌, option_copied, IfOk, Some};
 ghost use Rattle.std.specs.Bool.{⊤};
 ghost use Rattle.pol_rules.specs.Judged.{Judges};
-ghost use Rattle.pol_rules.specs.Needs.{caller_may, first_unmet, forbidden, namespace_shown, on_catalog, on_parent, on_path, on_table, service, session_may, shown, table_shown};
+ghost use Rattle.pol_rules.specs.Needs.{caller_may, first_unmet, forbidden, namespace_shown, on_catalog, on_parent, on_path, on_table, on_view, service, session_may, shown, table_shown, view_shown};
 ghost use Rattle.pol_state.specs.Sound.{IsSound};
 
 use crate::callers::session_of;
 use crate::rules::{Asked, Undone, time_of};
 use pol_access::{Privilege, Securable};
 use pol_commands::{Caller, Refusal, SecurableName};
-use pol_content::{CatalogRow, NamespaceRow, TableRow};
+use pol_content::{CatalogRow, NamespaceRow, TableRow, ViewRow};
 use pol_names::{Identifier, Namespace};
 use pol_state::State;
 use pol_tokens::SessionRow;
@@ -80,6 +80,23 @@ pub fn allowed_on_table(
 {
     let content = asked.state.content();
     let on = content.deepest_of_table(asked.alloc, catalog.id, identifier)?;
+    allowed(asked, &[Need { privilege, on }])
+}
+
+/// The caller may use the privilege on the deepest part of a view's path that is there: the view, or else that of its
+/// namespace's path.
+pub fn allowed_on_view(
+    asked: &Asked<'_>,
+    privilege: Privilege,
+    identifier: &Identifier,
+    catalog: &CatalogRow,
+) -> Result<(), Undone>
+    requires { IsSound asked.now.state.now.rows }
+    ensures { let s = asked.now.state.now.rows in
+        Judges (forbidden s asked.now.command.now (on_view s privilege identifier.now catalog.now)) (λ _. ⊤) result }
+{
+    let content = asked.state.content();
+    let on = content.deepest_of_view(asked.alloc, catalog.id, identifier)?;
     allowed(asked, &[Need { privilege, on }])
 }
 
@@ -182,7 +199,11 @@ fn shown(state: &State, securable: Securable) -> Result<SecurableName, OutOfMemo
             Some(row) => table_shown(state, row),
             None => Ok(SecurableName::Realm),
         },
-        Securable::Realm | Securable::View(_) => Ok(SecurableName::Realm),
+        Securable::View(id) => match state.content().view_of(id) {
+            Some(row) => view_shown(state, row),
+            None => Ok(SecurableName::Realm),
+        },
+        Securable::Realm => Ok(SecurableName::Realm),
     }
 }
 
@@ -208,6 +229,25 @@ fn table_shown(state: &State, row: &TableRow) -> Result<SecurableName, OutOfMemo
     };
     match state.content().catalog_of(namespace.catalog) {
         Some(catalog) => Ok(SecurableName::Table {
+            catalog: catalog.name.clone()?,
+            identifier: Identifier {
+                namespace: namespace.levels.clone()?,
+                name: row.name.clone()?,
+            },
+        }),
+        None => Ok(SecurableName::Realm),
+    }
+}
+
+/// The view as a refusal shows it.
+fn view_shown(state: &State, row: &ViewRow) -> Result<SecurableName, OutOfMemory>
+    ensures { IfOk result (λ name. name ≡ view_shown state.now.rows (Some row.now)) }
+{
+    let Some(namespace) = state.content().namespace_of(row.namespace) else {
+        return Ok(SecurableName::Realm);
+    };
+    match state.content().catalog_of(namespace.catalog) {
+        Some(catalog) => Ok(SecurableName::View {
             catalog: catalog.name.clone()?,
             identifier: Identifier {
                 namespace: namespace.levels.clone()?,

@@ -5,18 +5,22 @@ ghost use Rattle.pol_content.specs.Content.{catalog_id, catalog_named, namespace
 ghost use Rattle.pol_tables.specs.Table.{row_of};
 ghost use Rattle.pol_rules.specs.AccessRules.{in_catalog, in_realm};
 ghost use Rattle.pol_rules.specs.Judged.{Enters};
-ghost use Rattle.pol_rules.specs.Prologues.{at_table, namespace_row_at, on_namespace, table_row_at};
+ghost use Rattle.pol_rules.specs.Prologues.{at_table, at_view, namespace_row_at, on_namespace, table_row_at, view_row_at};
 ghost use Rattle.pol_table_rows.specs.Tables.{table_id};
+ghost use Rattle.pol_view_rows.specs.Views.{view_id};
 ghost use Rattle.pol_state.specs.Sound.{IsSound};
 
 use crate::callers::signed_in;
 use crate::catalog_rules::catalog_there;
 use crate::namespace_rules::namespace_there;
-use crate::needs::{allowed_on_catalog, allowed_on_path, allowed_on_table, allowed_service};
+use crate::needs::{
+    allowed_on_catalog, allowed_on_path, allowed_on_table, allowed_on_view, allowed_service,
+};
 use crate::rules::{Asked, Undone};
 use crate::table_rules::table_there;
+use crate::view_rules::view_there;
 use pol_access::Privilege;
-use pol_content::{CatalogRow, NamespaceRow, TableRow};
+use pol_content::{CatalogRow, NamespaceRow, TableRow, ViewRow};
 use pol_names::{Identifier, Namespace, Plain};
 
 /// The caller may manage the realm.
@@ -83,5 +87,27 @@ pub fn at_table<'a>(
     allowed_on_table(asked, privilege, identifier, catalog)?;
     namespace_there(asked, catalog.id, &identifier.namespace)?;
     let row = table_there(asked, catalog, identifier)?;
+    Ok(row)
+}
+
+/// The view of the identifier in the catalogue of the name, on which the caller may use the privilege.
+#[tactic(auto, unfolding(crate::specs::Prologues::view_row_at))]
+pub fn at_view<'a>(
+    asked: &Asked<'a>,
+    privilege: Privilege,
+    name: &Plain,
+    identifier: &Identifier,
+) -> Result<&'a ViewRow, Undone>
+    requires { IsSound asked.now.state.now.rows }
+    ensures { let s = asked.now.state.now.rows in
+        Enters (at_view s asked.now.command.now privilege name.now identifier.now)
+        (λ row. (view_row_at s name.now identifier.now ≡ Some row.now)
+        × (row_of view_id row.now.id s.content.views ≡ Some row.now)) result }
+{
+    signed_in(asked)?;
+    let catalog = catalog_there(asked, name)?;
+    allowed_on_view(asked, privilege, identifier, catalog)?;
+    namespace_there(asked, catalog.id, &identifier.namespace)?;
+    let row = view_there(asked, catalog, identifier)?;
     Ok(row)
 }

@@ -14,7 +14,7 @@ ghost use Rattle.pol_state.specs.Sound.{IsSound};
 
 use crate::catalog_rules::located;
 use crate::rules::{Asked, Undone};
-use pol_commands::{CreateTable, OptionName, Refusal};
+use pol_commands::{OptionName, Refusal};
 use pol_content::{CatalogRow, NamespaceRow, TableRow};
 use pol_locations::{Location, LocationRefused, covers};
 use pol_names::{Identifier, Name, Namespace};
@@ -54,8 +54,7 @@ pub fn name_free(asked: &Asked<'_>, namespace: &NamespaceRow, name: &Name) -> Re
     ensures { let found = part_named namespace.now.id name.now asked.now.state.now.rows.content in
         Tells (name_taken found name.now) (λ _. ⊤) result }
 {
-    let content = asked.state.content();
-    if content.table(namespace.id, name).is_some() {
+    if asked.state.content().has_part(namespace.id, name) {
         return Err(Undone::Refused(Refusal::NameTaken {
             name: text(asked.alloc, name.as_str())?,
         }));
@@ -63,24 +62,25 @@ pub fn name_free(asked: &Asked<'_>, namespace: &NamespaceRow, name: &Name) -> Re
     Ok(())
 }
 
-/// The location of a new table: that of the text that is given, or else the default one.
+/// The location of a new table or view: that of the text that is given, or else the default one.
 #[tactic(auto, unfolding(crate::specs::TableRules::bad_location))]
 pub fn placed(
     alloc: Global,
     catalog: &CatalogRow,
     levels: &Namespace,
-    request: &CreateTable,
+    given: &Option<Text>,
+    name: &Name,
 ) -> Result<Location, Undone>
-    ensures { Judges (bad_location levels.now request.now catalog.now)
-        (λ location. location ≡ location_asked levels.now request.now catalog.now) result }
+    ensures { Judges (bad_location levels.now given.now name.now catalog.now)
+        (λ location. location ≡ location_asked levels.now given.now name.now catalog.now) result }
 {
-    match &request.location {
+    match given {
         Some(text) => located(alloc, text),
-        None => default_location(alloc, catalog, levels, &request.name),
+        None => default_location(alloc, catalog, levels, name),
     }
 }
 
-/// The default location of a table.
+/// The default location of a table or a view.
 #[tactic(auto, using(crate::proofs::ContentLemmas::location_made))]
 fn default_location(
     alloc: Global,

@@ -37,8 +37,8 @@ module _ (s : Rows) (sound : IsSound s) where
   each-within = EachPasses-none (limits s) sound.within
 
   pub next_id_bound : s.next_id ≤ 2 ^ 62
-  next_id_bound = above-within quantity.NextId (2 ^ 62) s.next_id each-within.1.1.1.1.1.1.1.1.1.1.1.1.1.1.1.1.1.1.1.0
+  next_id_bound = above-within quantity.NextId (2 ^ 62) s.next_id each-within.1.1.1.1.1.1.1.1.1.1.1.1.1.1.1.1.1.1.1.1.1.1.1.0
 
   pub next_serial_bound : s.next_serial ≤ 2 ^ 62
   next_serial_bound =
-      above-within quantity.NextSerial (2 ^ 62) s.next_serial each-within.1.1.1.1.1.1.1.1.1.1.1.1.1.1.1.1.1.1.1.1.0
+      above-within quantity.NextSerial (2 ^ 62) s.next_serial each-within.1.1.1.1.1.1.1.1.1.1.1.1.1.1.1.1.1.1.1.1.1.1.1.1.0

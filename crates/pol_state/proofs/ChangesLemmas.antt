@@ -11,6 +11,8 @@ use Rattle.pol_access.specs.contracts.rows.PrincipalRoleRow as principal_role
 use Rattle.pol_access.specs.contracts.rows.PrincipalRow as principal
 use Rattle.pol_table_rows.specs.Tables.{table_id}
 use Rattle.pol_table_rows.specs.contracts.row.TableRow as table
+use Rattle.pol_view_rows.specs.Views.{view_id}
+use Rattle.pol_view_rows.specs.contracts.row.ViewRow as view
 use Rattle.pol_tables.specs.Rising.{KeysBelow}
 use Rattle.pol_tables.proofs.ChangesLemmas.{new_rows-itself, table_changes-itself}
 use Rattle.pol_tables.proofs.FactChangesLemmas.{fact_changes-itself}
@@ -19,7 +21,7 @@ use Rattle.pol_content.specs.Content.{catalog_id, namespace_id}
 use Rattle.pol_content.specs.contracts.rows.CatalogRow as catalog
 use Rattle.pol_content.specs.contracts.rows.NamespaceRow as namespace
 use Rattle.pol_content.specs.declared.change.Change.{Change}
-use Rattle.pol_content.specs.declared.change.Change.TheVariants.{NextId, NextSerial, PutPrincipal, DropPrincipal, PutPrincipalRole, DropPrincipalRole, PutCatalog, DropCatalog, PutCatalogRole, DropCatalogRole, PutNamespace, DropNamespace, PutTable, DropTable, PutMember, DropMember, PutJoin, DropJoin, PutGrant, DropGrant, PutSession}
+use Rattle.pol_content.specs.declared.change.Change.TheVariants.{NextId, NextSerial, PutPrincipal, DropPrincipal, PutPrincipalRole, DropPrincipalRole, PutCatalog, DropCatalog, PutCatalogRole, DropCatalogRole, PutNamespace, DropNamespace, PutTable, DropTable, PutView, DropView, PutMember, DropMember, PutJoin, DropJoin, PutGrant, DropGrant, PutSession}
 use Rattle.pol_tokens.specs.Tokens.{serial_of}
 use Rattle.pol_tokens.specs.contracts.session.SessionRow.{the_row}
 use Rattle.pol_state.specs.Changes.{changes_between, headed, id_change, in_turn, row_changes, serial_change, RowChanges}
@@ -40,7 +42,7 @@ timed s time charged = record s { time = time; charged = charged }
 
 -- no changes of any kind
 abbrev pub none : RowChanges
-none = record { principals = []; principal_roles = []; catalogs = []; catalog_roles = []; namespaces = []; tables = []; members = []; joins = []; grants = []; sessions = [] }
+none = record { principals = []; principal_roles = []; catalogs = []; catalog_roles = []; namespaces = []; tables = []; views = []; members = []; joins = []; grants = []; sessions = [] }
 
 -- the changes of each kind of rows, and the counters', make the changes between two states
 pub made-of : (s t : Rows) (ids serials : List Change) (rows : RowChanges) → id_change s t ≡ ids → serial_change s t ≡ serials → row_changes s t ≡ rows → changes_between s t ≡ headed t.time (ids ++ serials) (in_turn rows)
@@ -56,6 +58,7 @@ still s = λ i. record {
   catalog_roles = table_changes-itself catalog_role.the_row.coded catalog_role_id PutCatalogRole DropCatalogRole s.access.catalog_roles i;
   namespaces = table_changes-itself namespace.the_row.coded namespace_id PutNamespace DropNamespace s.content.namespaces i;
   tables = table_changes-itself table.the_row.coded table_id PutTable DropTable s.content.tables i;
+  views = table_changes-itself view.the_row.coded view_id PutView DropView s.content.views i;
   members = fact_changes-itself member.the_row.coded member_cmp PutMember DropMember s.access.members i;
   joins = fact_changes-itself join.the_row.coded join_cmp PutJoin DropJoin s.access.joins i;
   grants = fact_changes-itself grant.the_row.coded grant_cmp PutGrant DropGrant s.access.grants i;

@@ -6,12 +6,13 @@ use Rattle.pol_access.specs.contracts.rows.GrantRow as grant
 use Rattle.pol_access.specs.contracts.rows.JoinRow as join
 use Rattle.pol_access.specs.contracts.rows.MemberRow as member
 use Rattle.pol_table_rows.specs.Tables.{table_id}
+use Rattle.pol_view_rows.specs.Views.{view_id}
 use Rattle.pol_tables.specs.Facts.{facts_with, facts_without}
 use Rattle.pol_tables.specs.Table.{rows_with, rows_without}
 use Rattle.pol_content.specs.Change.{puts}
 use Rattle.pol_content.specs.Content.{catalog_id, namespace_id}
 use Rattle.pol_content.specs.declared.change.Change.{Change}
-use Rattle.pol_content.specs.declared.change.Change.TheVariants.{Time, NextId, NextSerial, PutPrincipal, DropPrincipal, PutPrincipalRole, DropPrincipalRole, PutCatalog, DropCatalog, PutCatalogRole, DropCatalogRole, PutNamespace, DropNamespace, PutTable, DropTable, PutMember, DropMember, PutJoin, DropJoin, PutGrant, DropGrant, PutSession}
+use Rattle.pol_content.specs.declared.change.Change.TheVariants.{Time, NextId, NextSerial, PutPrincipal, DropPrincipal, PutPrincipalRole, DropPrincipalRole, PutCatalog, DropCatalog, PutCatalogRole, DropCatalogRole, PutNamespace, DropNamespace, PutTable, DropTable, PutView, DropView, PutMember, DropMember, PutJoin, DropJoin, PutGrant, DropGrant, PutSession}
 use Rattle.pol_content.specs.declared.change.RowKind.TheVariants as kind
 use Rattle.pol_tokens.specs.Tokens.{serial_of}
 use Rattle.pol_state.specs.Rows.{Rows, Room}
@@ -33,6 +34,8 @@ changed s (PutNamespace row) = record s { content = record s.content { namespace
 changed s (DropNamespace id) = record s { content = record s.content { namespaces = rows_without namespace_id id s.content.namespaces } }
 changed s (PutTable row) = record s { content = record s.content { tables = rows_with table_id row s.content.tables } }
 changed s (DropTable id) = record s { content = record s.content { tables = rows_without table_id id s.content.tables } }
+changed s (PutView row) = record s { content = record s.content { views = rows_with view_id row s.content.views } }
+changed s (DropView id) = record s { content = record s.content { views = rows_without view_id id s.content.views } }
 changed s (PutMember row) = record s { access = record s.access { members = facts_with member.the_row.coded row s.access.members } }
 changed s (DropMember row) = record s { access = record s.access { members = facts_without member.the_row.coded row s.access.members } }
 changed s (PutJoin row) = record s { access = record s.access { joins = facts_with join.the_row.coded row s.access.joins } }
@@ -55,6 +58,7 @@ pub record HasRoom (changes : List Change) (room : Room) : Type 0 where
   pub catalog_roles : count_by (puts kind.CatalogRole) changes ≤ room.access.catalog_roles
   pub namespaces : count_by (puts kind.Namespace) changes ≤ room.content.namespaces
   pub tables : count_by (puts kind.Table) changes ≤ room.content.tables
+  pub views : count_by (puts kind.View) changes ≤ room.content.views
   pub members : count_by (puts kind.Member) changes ≤ room.access.members
   pub joins : count_by (puts kind.Join) changes ≤ room.access.joins
   pub grants : count_by (puts kind.Grant) changes ≤ room.access.grants
@@ -66,6 +70,7 @@ pub record KeepsRoom (old new : Room) : Type 0 where
   pub catalogs : old.content.catalogs ≤ new.content.catalogs
   pub namespaces : old.content.namespaces ≤ new.content.namespaces
   pub tables : old.content.tables ≤ new.content.tables
+  pub views : old.content.views ≤ new.content.views
   pub sessions : old.tokens.sessions ≤ new.tokens.sessions
 
 -- a change takes room for the row that it puts, and no more
@@ -76,6 +81,7 @@ pub record TakesRoom (change : Change) (old new : Room) : Type 0 where
   pub catalog_roles : old.access.catalog_roles ≤ new.access.catalog_roles + count_by (puts kind.CatalogRole) (change ∷ [])
   pub namespaces : old.content.namespaces ≤ new.content.namespaces + count_by (puts kind.Namespace) (change ∷ [])
   pub tables : old.content.tables ≤ new.content.tables + count_by (puts kind.Table) (change ∷ [])
+  pub views : old.content.views ≤ new.content.views + count_by (puts kind.View) (change ∷ [])
   pub members : old.access.members ≤ new.access.members + count_by (puts kind.Member) (change ∷ [])
   pub joins : old.access.joins ≤ new.access.joins + count_by (puts kind.Join) (change ∷ [])
   pub grants : old.access.grants ≤ new.access.grants + count_by (puts kind.Grant) (change ∷ [])

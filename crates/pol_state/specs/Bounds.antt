@@ -5,6 +5,8 @@ use Rattle.pol_content.specs.declared.rows.CatalogRow.{CatalogRow}
 use Rattle.pol_content.specs.declared.rows.NamespaceRow.{NamespaceRow}
 use Rattle.pol_meta.specs.Weight.{metadata_weight}
 use Rattle.pol_table_rows.specs.declared.row.TableRow.{TableRow}
+use Rattle.pol_view_rows.specs.declared.row.ViewRow.{ViewRow}
+use Rattle.pol_views.specs.Weight as of_views
 use Rattle.pol_commands.specs.declared.reply.Quantity.{Quantity}
 use Rattle.pol_commands.specs.declared.reply.Quantity.TheVariants as quantity
 use Rattle.pol_commands.specs.declared.reply.Refusal.{Refusal}
@@ -69,6 +71,19 @@ table_weight row = metadata_weight row.metadata
 abbrev pub table_version : TableRow → ℕ
 table_version row = row.version
 
+-- how many schemas and properties a view has, what its metadata weighs, and its version
+abbrev pub view_schemas : ViewRow → ℕ
+view_schemas row = length row.metadata.schemas
+
+abbrev pub view_properties : ViewRow → ℕ
+view_properties row = length row.metadata.properties
+
+abbrev pub view_weight : ViewRow → ℕ
+view_weight row = of_views.view_weight row.metadata
+
+abbrev pub view_version : ViewRow → ℕ
+view_version row = row.version
+
 -- the quantities of a table that are above their bounds
 abbrev pub table_limits : TableRow → List (Option Refusal)
 table_limits row =
@@ -98,19 +113,24 @@ limits rows =
     ∷ above quantity.Grants 100000 (length rows.access.grants)
     ∷ above quantity.Namespaces 100000 (length rows.content.namespaces)
     ∷ above quantity.Tables 100000 (length rows.content.tables)
+    ∷ above quantity.Views 100000 (length rows.content.views)
     ∷ any_above quantity.AllowedLocations 100 allowed_count rows.content.catalogs
     ∷ any_above quantity.Schemas 1000 schema_count rows.content.tables
     ∷ any_above quantity.PartitionSpecs 1000 spec_count rows.content.tables
     ∷ any_above quantity.SortOrders 1000 order_count rows.content.tables
     ∷ any_above quantity.Refs 1000 ref_count rows.content.tables
+    ∷ any_above quantity.Schemas 1000 view_schemas rows.content.views
     ∷ any_above quantity.Snapshots 10000 snapshot_count rows.content.tables
     ∷ any_above quantity.Properties 1000 catalog_properties rows.content.catalogs
     ∷ any_above quantity.Properties 1000 namespace_properties rows.content.namespaces
     ∷ any_above quantity.Properties 1000 table_properties rows.content.tables
+    ∷ any_above quantity.Properties 1000 view_properties rows.content.views
     ∷ any_above quantity.Weight 16777216 table_weight rows.content.tables
+    ∷ any_above quantity.Weight 16777216 view_weight rows.content.views
     ∷ above quantity.NextId (2 ^ 62) rows.next_id
     ∷ above quantity.NextSerial (2 ^ 62) rows.next_serial
     ∷ any_above quantity.Version (2 ^ 62) table_version rows.content.tables
+    ∷ any_above quantity.Version (2 ^ 62) view_version rows.content.views
     ∷ []
 
 -- the first of them

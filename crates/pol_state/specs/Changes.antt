@@ -10,12 +10,14 @@ use Rattle.pol_access.specs.contracts.rows.PrincipalRoleRow as principal_role
 use Rattle.pol_access.specs.contracts.rows.PrincipalRow as principal
 use Rattle.pol_table_rows.specs.Tables.{table_id}
 use Rattle.pol_table_rows.specs.contracts.row.TableRow as table
+use Rattle.pol_view_rows.specs.Views.{view_id}
+use Rattle.pol_view_rows.specs.contracts.row.ViewRow as view
 use Rattle.pol_tables.specs.Changes.{fact_changes, new_rows, table_changes}
 use Rattle.pol_content.specs.Content.{catalog_id, namespace_id}
 use Rattle.pol_content.specs.contracts.rows.CatalogRow as catalog
 use Rattle.pol_content.specs.contracts.rows.NamespaceRow as namespace
 use Rattle.pol_content.specs.declared.change.Change.{Change}
-use Rattle.pol_content.specs.declared.change.Change.TheVariants.{Time, NextId, NextSerial, PutPrincipal, DropPrincipal, PutPrincipalRole, DropPrincipalRole, PutCatalog, DropCatalog, PutCatalogRole, DropCatalogRole, PutNamespace, DropNamespace, PutTable, DropTable, PutMember, DropMember, PutJoin, DropJoin, PutGrant, DropGrant, PutSession}
+use Rattle.pol_content.specs.declared.change.Change.TheVariants.{Time, NextId, NextSerial, PutPrincipal, DropPrincipal, PutPrincipalRole, DropPrincipalRole, PutCatalog, DropCatalog, PutCatalogRole, DropCatalogRole, PutNamespace, DropNamespace, PutTable, DropTable, PutView, DropView, PutMember, DropMember, PutJoin, DropJoin, PutGrant, DropGrant, PutSession}
 use Rattle.pol_tokens.specs.contracts.session.SessionRow as session
 use Rattle.pol_state.specs.Rows.{Rows}
 
@@ -27,6 +29,7 @@ pub record RowChanges : Type 0 where
   pub catalog_roles : List Change
   pub namespaces : List Change
   pub tables : List Change
+  pub views : List Change
   pub members : List Change
   pub joins : List Change
   pub grants : List Change
@@ -36,7 +39,7 @@ pub record RowChanges : Type 0 where
 abbrev pub in_turn : RowChanges → List Change
 in_turn made =
     made.principals ++ (made.principal_roles ++ (made.catalogs ++ (made.catalog_roles ++ (made.namespaces
-    ++ (made.tables ++ (made.members ++ (made.joins ++ (made.grants ++ made.sessions))))))))
+    ++ (made.tables ++ (made.views ++ (made.members ++ (made.joins ++ (made.grants ++ made.sessions)))))))))
 
 -- the changes of the rows of each kind between two states; no session goes
 abbrev pub row_changes : Rows → Rows → RowChanges
@@ -47,6 +50,7 @@ row_changes s t = record {
   catalog_roles = table_changes catalog_role.the_row.coded catalog_role_id PutCatalogRole DropCatalogRole s.access.catalog_roles t.access.catalog_roles;
   namespaces = table_changes namespace.the_row.coded namespace_id PutNamespace DropNamespace s.content.namespaces t.content.namespaces;
   tables = table_changes table.the_row.coded table_id PutTable DropTable s.content.tables t.content.tables;
+  views = table_changes view.the_row.coded view_id PutView DropView s.content.views t.content.views;
   members = fact_changes member.the_row.coded member_cmp PutMember DropMember s.access.members t.access.members;
   joins = fact_changes join.the_row.coded join_cmp PutJoin DropJoin s.access.joins t.access.joins;
   grants = fact_changes grant.the_row.coded grant_cmp PutGrant DropGrant s.access.grants t.access.grants;

@@ -52,7 +52,7 @@ fresh_state secret = record {
     joins = [];
     grants = [];
   };
-  content = record { catalogs = []; namespaces = []; tables = [] };
+  content = record { catalogs = []; namespaces = []; tables = []; views = [] };
   tokens = record { sessions = [] };
   time = 0;
   next_id = 3;

@@ -1,4 +1,4 @@
-ghost use Rattle.std.specs.Prelude.{◌≡◌, ◌≤◌, ◌+◌, [], ◌∷◌, count_by, IfOk, IsOk, OnOk};
+ghost use Rattle.std.specs.Prelude.{◌≡◌, ◌≤◌, ◌+◌, [], ◌∷◌, count_by, IfOk, IsOk, Ok, OnOk};
 ghost use Rattle.pol_content.specs.Change.{puts};
 ghost use Rattle.pol_content.specs.declared.change.RowKind.TheVariants as kind;
 ghost use Rattle.pol_state.specs.Applied.{applied, changed, HasRoom, KeepsRoom, TakesRoom};
@@ -79,7 +79,7 @@ impl State {
         &self.access
     }
 
-    /// Catalogues, namespaces and tables.
+    /// Catalogues, namespaces, tables and views.
     pub fn content(&self) -> &Content
         ensures { result.now.rows ≡ self.now.rows.content }
     {
@@ -137,6 +137,8 @@ impl State {
             .reserve_namespaces(count_put(changes, RowKind::Namespace))?;
         self.content
             .reserve_tables(count_put(changes, RowKind::Table))?;
+        self.content
+            .reserve_views(count_put(changes, RowKind::View))?;
         self.tokens
             .reserve_sessions(count_put(changes, RowKind::Session))
     }
@@ -177,6 +179,8 @@ impl State {
             Change::DropNamespace(id) => self.content.drop_namespace(id),
             Change::PutTable(table) => self.content.put_table(table),
             Change::DropTable(id) => self.content.drop_table(id),
+            Change::PutView(row) => self.content.put_view(row),
+            Change::DropView(id) => self.content.drop_view(id),
             Change::PutMember(row) => self.access.put_member(row),
             Change::DropMember(row) => {
                 self.access.drop_member(&row);
@@ -199,8 +203,8 @@ impl Clone for State {
 
     fn clone(&self) -> Result<Self, AllocError> {
         let content = self.content.clone()?;
-        let tokens = self.tokens.clone()?;
-        let access = self.access.clone()?;
+        let (content, tokens) = beside(content, self.tokens.clone())?;
+        let ((content, tokens), access) = beside((content, tokens), self.access.clone())?;
         Ok(State {
             access,
             content,
@@ -210,6 +214,17 @@ impl Clone for State {
             next_serial: self.next_serial,
             charged: self.charged,
         })
+    }
+}
+
+/// What there is beside what was to be made, where that was.
+fn beside<A: Drop, B>(first: A, second: Result<B, AllocError>) -> Result<(A, B), AllocError>
+    ensures first { IfOk result (λ both. both.0 ≡ first) }
+    ensures second { IfOk result (λ both. second ≡ Ok both.1) }
+{
+    match second {
+        Ok(second) => Ok((first, second)),
+        Err(error) => Err(error),
     }
 }
 

@@ -1,5 +1,5 @@
 -- The actions on tables keep a state orderly.
-use Rattle.std.proofs.Common.{◌≡◌, ℕ, ◌+◌, ◌≤◌, ◌^◌, false, true, [], ◌∷◌, List, Option, None, Some, option_and_then, is_some, refl, sym, ap, subst, ◌∙◌, arith, true≢false}
+use Rattle.std.proofs.Common.{◌≡◌, ℕ, ◌+◌, ◌≤◌, ◌^◌, false, true, [], List, Option, None, Some, option_and_then, is_some, refl, sym, ap, subst, ◌∙◌, arith, true≢false}
 use Rattle.std.proofs.Math.Logic.{∥∥₁_map}
 use Rattle.std.specs.Option.{option_map}
 use Rattle.pol_access.specs.declared.securable.Securable.TheVariants as securable
@@ -66,21 +66,21 @@ pub record Placed (s : Rows) (command : Command) (name : List ℕ) (levels : Lis
   pub catalog_is : catalog_named name s.content ≡ Some catalog
   pub namespace : NamespaceRow
   pub namespace_is : namespace_named catalog.id levels s.content ≡ Some namespace
-  pub row_is : table_placed s command request (location_asked levels request catalog) namespace ≡ row
+  pub row_is : table_placed s command request (location_asked levels request.location request.name catalog) namespace ≡ row
 
 pub placed-parts : (s : Rows) (command : Command) (name : List ℕ) (levels : List (List ℕ)) (request : CreateTable) (row : TableRow) → new_table s command name levels request ≡ Some row → Placed s command name levels request row
 unfolding new_table
 placed-parts s command name levels request row made = by (catalog_named name s.content) refl made
   where
     within : (catalog : CatalogRow) → catalog_named name s.content ≡ Some catalog → (found : Option NamespaceRow) → namespace_named catalog.id levels s.content ≡ found
-        → option_map (table_placed s command request (location_asked levels request catalog)) found ≡ Some row → Placed s command name levels request row
+        → option_map (table_placed s command request (location_asked levels request.location request.name catalog)) found ≡ Some row → Placed s command name levels request row
     within catalog there None is none = let contrary : None ≡ Some row = none in cc
     within catalog there (Some namespace) is placed = record {
       catalog = catalog;
       catalog_is = there;
       namespace = namespace;
       namespace_is = is;
-      row_is = some_is (table_placed s command request (location_asked levels request catalog) namespace) row placed;
+      row_is = some_is (table_placed s command request (location_asked levels request.location request.name catalog) namespace) row placed;
     }
 
     by : (found : Option CatalogRow) → catalog_named name s.content ≡ found → option_and_then (table_in s command levels request) found ≡ Some row → Placed s command name levels request row
@@ -132,7 +132,7 @@ module _ (s : Rows) (command : Command) where
 
     module _ (within : IsWithin s command) where
       -- a table that is put
-      orderly-with_table : (row : TableRow) → row.id ≡ s.next_id → knows namespace_id row.namespace s.content.namespaces ≡ true → table_named row.namespace row.name s.content.tables ≡ None → overlapping row.location [] s.content.tables ≡ None → IsSoundTable row
+      orderly-with_table : (row : TableRow) → row.id ≡ s.next_id → knows namespace_id row.namespace s.content.namespaces ≡ true → part_named row.namespace row.name s.content ≡ None → overlapping row.location [] s.content.tables ≡ None → IsSoundTable row
           → IsOrderly (stamped s command (with_table s row))
       orderly-with_table row id there free clear itself =
           let pushed = pushed_table s.next_id s.content row sound.orderly.content (next_id-some s sound) id there free clear itself in
@@ -149,12 +149,12 @@ module _ (s : Rows) (command : Command) where
       unfolding namespace_row_at
       orderly-create_table name levels request passes = orderly-done s command sound within (new_table s command name levels request) (with_table s) (λ row made.
           let parts = placed-parts s command name levels request row made in
-          let location = location_asked levels request parts.catalog in
+          let location = location_asked levels request.location request.name parts.catalog in
           let at = ap (option_and_then (λ (catalog : CatalogRow). namespace_named catalog.id levels s.content)) parts.catalog_is ∙ parts.namespace_is in
           let taken = sym (ap (λ one. given one (λ (namespace : NamespaceRow). name_taken (part_named namespace.id request.name s.content) request.name)) at) ∙ passes.1.1.1.1.0 in
           let free = name-free (part_named parts.namespace.id request.name s.content) request.name taken in
           let asked = creation-passes s request passes.1.1.1.1.1.0 in
-          let clear = location-clear s location (sym (ap (λ one. given one (λ (catalog : CatalogRow). location_overlap s (location_asked levels request catalog))) parts.catalog_is) ∙ passes.1.1.1.1.1.1.1.1.0) in
+          let clear = location-clear s location (sym (ap (λ one. given one (λ (catalog : CatalogRow). location_overlap s (location_asked levels request.location request.name catalog))) parts.catalog_is) ∙ passes.1.1.1.1.1.1.1.1.0) in
           subst (λ one. IsOrderly (stamped s command (with_table s one))) parts.row_is (orderly-with_table (table_placed s command request location parts.namespace) refl (namespace-there parts.catalog.id levels parts.namespace parts.namespace_is) free clear (placed-sound s command request location parts.namespace within.time asked)))
 
       -- a table that is dropped

@@ -43,7 +43,7 @@ module _ (s : Rows) (command : Command) where
     rows = owes-done s command (new_table s command name levels request) (with_table s) (with_table live) (λ row made. owes-apart s command (with_table s row) refl (λ sound.
         leads-by s command (with_table s row) _ (table_changes s command sound row (placed-id s command name levels request row made)) refl));
     orderly = λ sound within passes. orderly-create_table s command sound within name levels request passes;
-    fair = fair-on_namespace command _ name levels (fair-given (namespace_row_at s name levels) (λ namespace. fair-name_taken _ request.name) ⊳ fair-bad_creation request ⊳ fair-inside name (fair-bad_location levels request) ⊳ fair-inside name (λ catalog. fair-location_outside (location_asked levels request catalog) catalog) ⊳ fair-inside name (λ catalog. fair-location_overlap (location_asked levels request catalog)) ⊳ fair-staged request.stage_create ⊳ fair-other_format request.properties ⊳ none-fair);
+    fair = fair-on_namespace command _ name levels (fair-given (namespace_row_at s name levels) (λ namespace. fair-name_taken _ request.name) ⊳ fair-bad_creation request ⊳ fair-inside name (fair-bad_location levels request.location request.name) ⊳ fair-inside name (λ catalog. fair-location_outside (location_asked levels request.location request.name catalog) catalog) ⊳ fair-inside name (λ catalog. fair-location_overlap (location_asked levels request.location request.name catalog)) ⊳ fair-staged request.stage_create ⊳ fair-other_format request.properties ⊳ none-fair);
     answer = refl;
   }
 

@@ -49,7 +49,7 @@ table_placed s command request location namespace = record {
 
 abbrev pub table_in : Rows → Command → List (List ℕ) → CreateTable → CatalogRow → Option TableRow
 table_in s command levels request catalog =
-    option_map (table_placed s command request (location_asked levels request catalog)) (namespace_named catalog.id levels s.content)
+    option_map (table_placed s command request (location_asked levels request.location request.name catalog)) (namespace_named catalog.id levels s.content)
 
 -- the row of a new table in the namespace of these levels, in the catalogue of a name
 unfoldable pub new_table : Rows → Command → List ℕ → List (List ℕ) → CreateTable → Option TableRow
@@ -66,9 +66,9 @@ create_table s command name levels request = record {
   rules = on_namespace s command TableCreate name levels (
       given (namespace_row_at s name levels) (λ (namespace : NamespaceRow). name_taken (part_named namespace.id request.name s.content) request.name)
       ∷ bad_creation request
-      ∷ inside s name (bad_location levels request)
-      ∷ inside s name (λ catalog. location_outside (location_asked levels request catalog) catalog)
-      ∷ inside s name (λ catalog. location_overlap s (location_asked levels request catalog))
+      ∷ inside s name (bad_location levels request.location request.name)
+      ∷ inside s name (λ catalog. location_outside (location_asked levels request.location request.name catalog) catalog)
+      ∷ inside s name (λ catalog. location_overlap s (location_asked levels request.location request.name catalog))
       ∷ staged request.stage_create
       ∷ other_format request.properties
       ∷ []);

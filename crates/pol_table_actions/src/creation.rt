@@ -43,7 +43,13 @@ pub fn create_table(
     let namespace = namespace_there(asked, catalog.id, levels)?;
     name_free(asked, namespace, &request.name)?;
     let metadata = described(asked, request)?;
-    let location = placed(asked.alloc, catalog, levels, request)?;
+    let location = placed(
+        asked.alloc,
+        catalog,
+        levels,
+        &request.location,
+        &request.name,
+    )?;
     inside_catalog(catalog, &location)?;
     location_free(asked, &location)?;
     unstaged(request.stage_create)?;
@@ -81,7 +87,7 @@ fn described(asked: &Asked<'_>, request: &CreateTable) -> Result<TableMetadata, 
 
 /// The uuid that the first two words make.
 #[tactic(auto, unfolding(crate::specs::Creation::uuid_of))]
-fn uuid_of(words: &Words4) -> Uuid
+pub fn uuid_of(words: &Words4) -> Uuid
     ensures { result ≡ uuid_of words.now.a words.now.b }
 {
     let bytes = Uuid::from_u64_pair(words.a, words.b).into_bytes();

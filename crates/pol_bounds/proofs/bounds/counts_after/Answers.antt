@@ -16,5 +16,6 @@ returns c =
     let joins : c.count_after-6.result ≡ count_after kind.Join s changes (length s.access.joins) = search rules in
     let grants : c.count_after-7.result ≡ count_after kind.Grant s changes (length s.access.grants) = search rules in
     let namespaces : c.count_after-8.result ≡ count_after kind.Namespace s changes (length s.content.namespaces) = search rules in
+    let views : c.count_after-10.result ≡ count_after kind.View s changes (length s.content.views) = search rules in
     let tables : c.count_after-9.result ≡ count_after kind.Table s changes (length s.content.tables) = search rules in
-    λ i. record { catalogs = catalogs i; principals = principals i; principal_roles = principal_roles i; catalog_roles = catalog_roles i; members = members i; joins = joins i; grants = grants i; namespaces = namespaces i; tables = tables i }
+    λ i. record { catalogs = catalogs i; principals = principals i; principal_roles = principal_roles i; catalog_roles = catalog_roles i; members = members i; joins = joins i; grants = grants i; namespaces = namespaces i; tables = tables i; views = views i }

@@ -23,3 +23,11 @@ returns-in-CreateTable c =
 pub returns-in-CommitTable : goal.returns-in-CommitTable
 returns-in-CommitTable c =
     subst (λ (action : Action). Acts c.args.asked.now (λ s command. acting s command action) c.commit_table.result) (sym c.in-CommitTable.is) c.commit_table.ensures
+
+pub returns-in-CreateView : goal.returns-in-CreateView
+returns-in-CreateView c =
+    subst (λ (action : Action). Acts c.args.asked.now (λ s command. acting s command action) c.create_view.result) (sym c.in-CreateView.is) c.create_view.ensures
+
+pub returns-in-ReplaceView : goal.returns-in-ReplaceView
+returns-in-ReplaceView c =
+    subst (λ (action : Action). Acts c.args.asked.now (λ s command. acting s command action) c.replace_view.result) (sym c.in-ReplaceView.is) c.replace_view.ensures

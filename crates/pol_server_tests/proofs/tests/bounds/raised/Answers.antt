@@ -11,8 +11,8 @@ use Rattle.pol_content.specs.declared.change.Change.TheVariants.{NextSerial}
 use Rattle.pol_state.proofs.FreshLemmas.{fresh-sound}
 use Rattle.pol_server_tests.proofs.tests.bounds.raised.Goals as goal
 
--- the fresh state with another next serial is within each bound where that is: no table has a version
-serial-limit : (secret : List ℕ) (serial charged : ℕ) → over_limit (applied (NextSerial serial ∷ []) 0 charged (fresh_state secret)) ≡ first_refusal (above quantity.NextSerial (2 ^ 62) serial ∷ None ∷ [])
+-- the fresh state with another next serial is within each bound where that is: no table and no view has a version
+serial-limit : (secret : List ℕ) (serial charged : ℕ) → over_limit (applied (NextSerial serial ∷ []) 0 charged (fresh_state secret)) ≡ first_refusal (above quantity.NextSerial (2 ^ 62) serial ∷ None ∷ None ∷ [])
 unfolding fresh_state over_limit
 serial-limit secret serial charged = refl
 
@@ -27,7 +27,7 @@ raised-sound secret serial charged bound within = record {
     time_bound = lit≤ tt;
     charged_bound = omega (arith, within);
   };
-  within = serial-limit secret serial charged ∙ ap (λ over. first_refusal (refuse_if over (Limit quantity.NextSerial (2 ^ 62)) ∷ None ∷ [])) (le-ltb (2 ^ 62) serial bound);
+  within = serial-limit secret serial charged ∙ ap (λ over. first_refusal (refuse_if over (Limit quantity.NextSerial (2 ^ 62)) ∷ None ∷ None ∷ [])) (le-ltb (2 ^ 62) serial bound);
 }
 
 no-room : (serial : ℕ) (room : Room) → HasRoom (NextSerial serial ∷ []) room
@@ -38,6 +38,7 @@ no-room serial room = record {
   catalog_roles = omega arith;
   namespaces = omega arith;
   tables = omega arith;
+  views = omega arith;
   members = omega arith;
   joins = omega arith;
   grants = omega arith;

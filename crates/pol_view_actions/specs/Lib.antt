@@ -1,0 +1,5 @@
+pub mod Altered
+pub mod Creation
+pub mod Renaming
+pub mod Replacing
+pub mod Views
