@@ -1,0 +1,5 @@
+pub mod DistinctLemmas
+pub mod FieldLemmas
+pub mod InnerLemmas
+pub mod NameLemmas
+pub mod WrittenLemmas

@@ -1,0 +1,4 @@
+pub mod DepthLemmas
+pub mod HeldLemmas
+pub mod ToldLemmas
+pub mod TreeLemmas

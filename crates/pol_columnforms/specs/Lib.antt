@@ -1,0 +1,5 @@
+pub mod Columns
+pub mod Distinct
+pub mod Laws
+pub mod Named
+pub mod Shaped
