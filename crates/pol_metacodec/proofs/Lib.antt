@@ -1,0 +1,4 @@
+pub mod HeldLemmas
+pub mod IdLemmas
+pub mod ToldLemmas
+pub mod WholeLemmas
