@@ -149,7 +149,8 @@ fn write_each(
 ) -> Result<(), OutOfMemory>
     requires { depth + left ≤ 32 }
     ensures bytes { OnOk result (written.new.items
-        ≡ written.old.items ++ flat_map (spec.field depth (spec.type_form left (depth + 1))).write (spec.chunks depth columns.now)) }
+        ≡ written.old.items
+        ++ flat_map (spec.field depth (spec.type_form left (depth + 1))).write (spec.chunks depth columns.now)) }
 {
     let mut rest = columns;
     while let Some((column, others)) = rest.split_first() {
@@ -159,7 +160,8 @@ fn write_each(
     Ok(())
 }
 
-/// Writes a column that isn't deeper, with the deeper ones at the head of the others. Of a deeper one it writes nothing.
+/// Writes a column that isn't deeper, with the deeper ones at the head of the others. Of a deeper one it writes
+/// nothing.
 #[cycle(written)]
 #[tactic(auto, using(crate::proofs::WrittenLemmas::next_written))]
 fn write_next(
@@ -170,8 +172,11 @@ fn write_next(
     written: &mut Vec<u8>,
 ) -> Result<(), OutOfMemory>
     requires { depth + left ≤ 32 }
-    ensures bytes { OnOk result (written.new.items ++ flat_map (spec.field depth (spec.type_form left (depth + 1))).write (spec.chunks depth others.now)
-        ≡ written.old.items ++ flat_map (spec.field depth (spec.type_form left (depth + 1))).write (spec.chunks depth (column.now ∷ others.now))) }
+    ensures bytes { OnOk result (written.new.items
+        ++ flat_map (spec.field depth (spec.type_form left (depth + 1))).write (spec.chunks depth others.now)
+        ≡ written.old.items
+        ++ flat_map (spec.field depth (spec.type_form left (depth + 1))).write
+        (spec.chunks depth (column.now ∷ others.now))) }
 {
     if column.depth > depth {
         return Ok(());
@@ -214,7 +219,8 @@ fn write_name(part: &Part, written: &mut Vec<u8>) -> Result<(), OutOfMemory>
 
 /// Writes the text of a part, or none where it is no field.
 fn write_doc(part: &Part, written: &mut Vec<u8>) -> Result<(), OutOfMemory>
-    ensures bytes { OnOk result (written.new.items ≡ written.old.items ++ (enums.optional forms.text).write (spec.doc_in part.now)) }
+    ensures bytes { OnOk result (written.new.items
+        ≡ written.old.items ++ (enums.optional forms.text).write (spec.doc_in part.now)) }
 {
     match part {
         Part::Field { doc, .. } => Optional::<Common>::write(doc, written),
