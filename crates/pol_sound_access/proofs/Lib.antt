@@ -1,0 +1,5 @@
+pub mod DecidedLemmas
+pub mod DifferLemmas
+pub mod FoundLemmas
+pub mod KeyLemmas
+pub mod RisingLemmas

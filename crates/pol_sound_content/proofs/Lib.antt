@@ -1,0 +1,3 @@
+pub mod DecidedLemmas
+pub mod KeyLemmas
+pub mod MovedLemmas
