@@ -2,15 +2,14 @@
 use Rattle.std.proofs.Common.{◌≡◌, ◌≢◌, ◌<◌, ◌⊎◌, ℕ, List, [], ◌∷◌, length, Option, Some, None, refl, sym, ap, subst, ◌∙◌, inl, inr, arith, length-append}
 use Rattle.std.specs.Prelude.{IfSome, IsSome}
 use Rattle.std.specs.Io.KnownBytes.{Consumes}
-use Rattle.pol_state.specs.Rows.{Rows, fresh_state}
-use Rattle.pol_shared.specs.History.{Log}
-use Rattle.pol_shared.specs.declared.entry.Entry.{Entry}
+use Rattle.pol_shared.specs.Seen.{AreOfPasses, Seen, entry_number}
+use Rattle.pol_shared.proofs.SeenLemmas.{alone-founding}
 use Rattle.pol_server.specs.Ends.{Ends}
 use Rattle.pol_server.specs.Link.{EndsBy, taken_bound}
 use Rattle.pol_server.specs.Turn.{Turn}
 use Rattle.pol_server.specs.declared.served.Ending.{Ending}
 use Rattle.pol_server.specs.declared.served.Ending.TheVariants as ending
-use Rattle.pol_cli.specs.Run.{HasCause, IsDecided, IsUnfailing, RunsLink, Serves, reason_of, report_of, status_of}
+use Rattle.pol_cli.specs.Run.{HasCause, IsDecided, IsUnfailing, RunsLink, Serves, reason_of, report_of, seen_fresh, status_of}
 use Rattle.pol_cli.specs.declared.report.Reason.{Reason}
 use Rattle.pol_cli.specs.declared.report.Reason.TheVariants.{Done, ReadFault, WriteFault, Usage, NoMemory, InputCut, Spent}
 use Rattle.pol_cli.specs.declared.report.Report.{Report}
@@ -30,15 +29,15 @@ module _ (before after : Ends) (turns : List Turn) (taken rest text : List ℕ) 
 no-cause : (before after : Ends) → HasCause before after NoMemory
 no-cause before after = record { read_fault = λ is. cc; write_fault = λ is. cc; spent = λ is. cc }
 
-cause-serves : (base : Rows) (old new : List Entry) (before after : Ends) (report : Report) → Serves base old before after new report → HasCause before after report.reason
-cause-serves base old new before after report (inl serves) =
+cause-serves : (old new : Seen) (before after : Ends) (report : Report) → Serves old before after new report → HasCause before after report.reason
+cause-serves old new before after report (inl serves) =
     subst (HasCause before after) (sym (ap (λ report. report.reason) serves.report_is))
     (cause-by before after serves.link.turns serves.link.taken serves.link.rest serves.link.text serves.link.takes serves.served.ending serves.link.ends)
-cause-serves base old new before after report (inr wanting) =
+cause-serves old new before after report (inr wanting) =
     subst (HasCause before after) (sym (ap (λ report. report.reason) wanting.1)) (no-cause before after)
 
 pub cause-run : (secret : List ℕ) (before after : Ends) (report : Report) → RunsLink secret before after report → HasCause before after report.reason
-cause-run secret before after report runs = cause-serves (fresh_state secret) [] runs.0 before after report runs.1
+cause-run secret before after report runs = cause-serves (seen_fresh secret) runs.0 before after report runs.1
 
 -- fewer bytes than the bound can't be spent
 fewer : (left after : Option (List ℕ)) (taken : List ℕ) → IsSome left → IfSome left (λ bytes. length bytes < taken_bound) → Consumes left after taken → length taken ≢ taken_bound
@@ -66,30 +65,31 @@ other-by ending.WriteFault is = cc
 other-by ending.Spent is = cc
 other-by ending.NoMemory is = cc
 
-other-serves : (base : Rows) (old new : List Entry) (before after : Ends) (report : Report) → Serves base old before after new report → report.reason ≢ Usage
-other-serves base old new before after report (inl serves) is = other-by serves.served.ending (sym (ap (λ report. report.reason) serves.report_is) ∙ is)
-other-serves base old new before after report (inr wanting) is = let contrary : NoMemory ≡ Usage = sym (ap (λ report. report.reason) wanting.1) ∙ is in cc
+other-serves : (old new : Seen) (before after : Ends) (report : Report) → Serves old before after new report → report.reason ≢ Usage
+other-serves old new before after report (inl serves) is = other-by serves.served.ending (sym (ap (λ report. report.reason) serves.report_is) ∙ is)
+other-serves old new before after report (inr wanting) is = let contrary : NoMemory ≡ Usage = sym (ap (λ report. report.reason) wanting.1) ∙ is in cc
 
 -- a link that was served is no faulty line
 pub other-run : (secret : List ℕ) (before after : Ends) (report : Report) → RunsLink secret before after report → report.reason ≢ Usage
-other-run secret before after report runs = other-serves (fresh_state secret) [] runs.0 before after report runs.1
+other-run secret before after report runs = other-serves (seen_fresh secret) runs.0 before after report runs.1
 
-status-serves : (base : Rows) (old new : List Entry) (before after : Ends) (report : Report) → Serves base old before after new report → report.status ≡ status_of report.reason
-status-serves base old new before after report (inl serves) = ap (λ report. report.status) serves.report_is ∙ ap (λ report. status_of report.reason) (sym serves.report_is)
-status-serves base old new before after report (inr wanting) = ap (λ report. report.status) wanting.1 ∙ ap (λ report. status_of report.reason) (sym wanting.1)
+status-serves : (old new : Seen) (before after : Ends) (report : Report) → Serves old before after new report → report.status ≡ status_of report.reason
+status-serves old new before after report (inl serves) = ap (λ report. report.status) serves.report_is ∙ ap (λ report. status_of report.reason) (sym serves.report_is)
+status-serves old new before after report (inr wanting) = ap (λ report. report.status) wanting.1 ∙ ap (λ report. status_of report.reason) (sym wanting.1)
 
 -- the status of a run is that of its reason
 pub status-run : (secret : List ℕ) (before after : Ends) (report : Report) → RunsLink secret before after report → report.status ≡ status_of report.reason
-status-run secret before after report runs = status-serves (fresh_state secret) [] runs.0 before after report runs.1
+status-run secret before after report runs = status-serves (seen_fresh secret) runs.0 before after report runs.1
 
 -- memory was wanting before the link was called
 pub runs-nothing : (secret : List ℕ) (ends : Ends) (report : Report) → report ≡ report_of NoMemory [] → RunsLink secret ends ends report
-runs-nothing secret ends report is = ([], inr (refl, is))
+runs-nothing secret ends report is = (seen_fresh secret, inr (refl, is), ([], refl, tt))
 
 -- what a catalogue that is fresh serves
-pub runs-fresh : (secret : List ℕ) (log : Log) (new : List Entry) (before after : Ends) (report : Report) → log ≡ record { base = fresh_state secret; history = [] }
-    → Serves log.base log.history before after new report → RunsLink secret before after report
-runs-fresh secret log new before after report is serves = (new, subst (λ log. Serves log.base log.history before after new report) is serves)
+pub runs-fresh : (secret : List ℕ) (old new : Seen) (before after : Ends) (report : Report) → old ≡ seen_fresh secret → new.made ≡ 1 → AreOfPasses new.made new.front
+    → Serves old before after new report → RunsLink secret before after report
+runs-fresh secret old new before after report is one made serves =
+    (new, subst (λ old. Serves old before after new report) is serves, alone-founding entry_number [] new.front (new.front, refl) (subst (λ made. AreOfPasses made new.front) one made))
 
 -- a report with a link that was served has one
 pub served-something : (reason : Reason) (report : Report) (link : ServedLink) → report ≡ report_of reason (link ∷ []) → report.served ≢ []

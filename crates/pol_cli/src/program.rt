@@ -12,7 +12,7 @@ use crate::given::words_given;
 use crate::report::{Reason, Report, ServedLink, reason_of};
 use crate::words::{Words, plan_of};
 use pol_server::serve_connection;
-use pol_shared::Kept;
+use pol_shared::Shared;
 use pol_types::OutOfMemory;
 use pol_wire::{Clock, Draw, Link, Sink, Source};
 use std::alloc::Global;
@@ -99,10 +99,10 @@ fn exec_fresh<S: Source, K: Sink, C: Clock, W: Draw>(
         (ends_of S.left S.faults K.given K.faults C.moments W.words W.faults link.new) result }
     ensures untouched { result.served ≡ [] → link.new ≡ link.old }
 {
-    match Kept::fresh(alloc, root_secret) {
+    match Shared::fresh(alloc, root_secret) {
         Ok(mut catalogue) => {
             let report = exec(alloc, &mut catalogue, link);
-            drop(catalogue);
+            drop(catalogue.close());
             report
         }
         Err(OutOfMemory) => Report::of(Reason::NoMemory, Vec::new(alloc)),
@@ -112,12 +112,13 @@ fn exec_fresh<S: Source, K: Sink, C: Clock, W: Draw>(
 /// Serves the link over a catalogue.
 fn exec<S: Source, K: Sink, C: Clock, W: Draw>(
     alloc: Global,
-    catalogue: &mut Kept,
+    catalogue: &mut Shared,
     link: &mut Link<S, K, C, W>,
 ) -> Report
-    ensures serves { Serves catalogue.old.base catalogue.old.history
+    ensures serves { Serves catalogue.old
         (ends_of S.left S.faults K.given K.faults C.moments W.words W.faults link.old)
-        (ends_of S.left S.faults K.given K.faults C.moments W.words W.faults link.new) catalogue.new.history result }
+        (ends_of S.left S.faults K.given K.faults C.moments W.words W.faults link.new) catalogue.new result }
+    ensures made { catalogue.new.made ≡ catalogue.old.made }
     ensures untouched { result.served ≡ [] → link.new ≡ link.old }
 {
     let mut links = Vec::new(alloc);

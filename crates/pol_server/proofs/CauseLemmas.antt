@@ -43,7 +43,7 @@ no-write-fault Spent needs is = needs
 no-write-fault NoMemory needs is = cc
 
 pub faults_have_causes : FaultsHaveCauses
-faults_have_causes base number before after old new served link none few =
+faults_have_causes before after old new served link none few =
     let needs = needs-none served.ending before after link.turns (length link.taken) link.rest link.text none few link.ends in
     let drawn : failed_draws link.turns ≡ 0 = omega (arith, link.draws none.draw.below, none.draw.kept) in
     (needs, each-drawn link.turns drawn, link.complete (no-write-fault served.ending needs))

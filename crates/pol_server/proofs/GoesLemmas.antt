@@ -6,22 +6,23 @@ use Rattle.std.proofs.KnownBytes.{Appends-trans, Appends-nil, Consumes-nil, Cons
 use Rattle.std.proofs.lemmas.Grind.{flat_map-append}
 use Rattle.std.proofs.lemmas.List.{map-append}
 use Rattle.pol_http.specs.Message.{IsMessage, Message, print_message}
-use Rattle.pol_shared.specs.declared.entry.Entry.{Entry}
+use Rattle.pol_shared.specs.Seen.{HasSeen, Seen, entry_number}
+use Rattle.pol_shared.proofs.SeenLemmas.{seen-same, seen-trans}
 use Rattle.pol_wire.proofs.StreamsLemmas.{IsShifted-nil, IsShifted-trans}
 use Rattle.pol_wire.specs.Streams.{IsShifted}
 use Rattle.pol_server.specs.Link.{EndsLastText}
 use Rattle.pol_server.specs.Serving.{Continues, Finishes, FitsEnding, Goes, Handles, Standing, told_text}
-use Rattle.pol_server.specs.Turn.{IsAnswered, NoneCloses, Turn, output_of, place_of}
+use Rattle.pol_server.specs.Turn.{IsAnswered, NoneCloses, Turn, catalogue_place, catalogue_places, output_of, place_of}
 use Rattle.pol_server.specs.declared.served.Ending.{Ending}
 use Rattle.pol_server.specs.declared.served.Ending.TheVariants.{Ended, Cut, Closed, ReadFault, WriteFault, Spent, NoMemory}
 use Rattle.pol_server.specs.declared.served.Place.{Place}
 use Rattle.pol_server.proofs.EndsLemmas.{rises-earlier}
 use Rattle.pol_server.proofs.TurnLemmas.{answered-longer, each-append, failed_draws-append, last-append, ordered-append}
 
--- what a list of lists of two lists of turns is
-both : {A : Type 0} (f : Turn → List A) (before : List A) (turns others : List Turn) → (before ++ flat_map f turns) ++ flat_map f others ≡ before ++ flat_map f (turns ++ others)
-both f before turns others =
-    append_assoc before (flat_map f turns) (flat_map f others) ∙ ap (λ all. before ++ all) (sym (flat_map-append f turns others))
+-- the places of turns and of later ones
+places-both : (turns others : List Turn) → catalogue_places (map place_of (turns ++ others)) ≡ catalogue_places (map place_of turns) ++ catalogue_places (map place_of others)
+places-both turns others =
+    ap catalogue_places (map-append place_of turns others) ∙ flat_map-append catalogue_place (map place_of turns) (map place_of others)
 
 -- an equation of texts, and then one more
 joined : {A : Type 0} (f : Turn → List A) (turns others : List Turn) (first out middle more last : List A)
@@ -32,20 +33,20 @@ joined f turns others first out middle more last one two =
     ∙ ap (λ back. flat_map f turns ++ back) two ∙ sym (append_assoc (flat_map f turns) (flat_map f others) last)
     ∙ ap (λ front. front ++ last) (sym (flat_map-append f turns others))
 
+-- turns are answered in what a pass has seen
+abbrev pub answered-in : Seen → List Turn → Type 0
+answered-in seen turns = AllByRecursion (IsAnswered seen.base seen.number seen.front) turns
+
 module _ (a b c : Standing) (turns others : List Turn) where
-  answered-both : b.log.base ≡ a.log.base → (more : List Entry) → c.log.base ≡ b.log.base → c.log.history ≡ b.log.history ++ more
-      → AllByRecursion (IsAnswered b.log.base 0 b.log.history) turns → AllByRecursion (IsAnswered c.log.base 0 c.log.history) others
-      → AllByRecursion (IsAnswered c.log.base 0 c.log.history) (turns ++ others)
-  answered-both first more second longer answered later =
-      let grown : AllByRecursion (IsAnswered b.log.base 0 (b.log.history ++ more)) turns = answered-longer b.log.base b.log.history more turns answered in
-      let moved : AllByRecursion (IsAnswered b.log.base 0 c.log.history) turns = subst (λ history. AllByRecursion (IsAnswered b.log.base 0 history) turns) (sym longer) grown in
-      let based : AllByRecursion (IsAnswered c.log.base 0 c.log.history) turns = subst (λ base. AllByRecursion (IsAnswered base 0 c.log.history) turns) (sym second) moved in
-      each-append (IsAnswered c.log.base 0 c.log.history) turns others based later
+  answered-both : (places : List ℕ) → HasSeen b.seen c.seen places → answered-in b.seen turns → answered-in c.seen others → answered-in c.seen (turns ++ others)
+  answered-both places more answered later =
+      let grown : answered-in (record b.seen { front = b.seen.front ++ more.front.0 }) turns = answered-longer b.seen.base b.seen.number b.seen.front more.front.0 turns answered in
+      let moved : answered-in (record b.seen { front = c.seen.front }) turns = subst (λ front. answered-in (record b.seen { front = front }) turns) (sym more.front.1) grown in
+      each-append (IsAnswered c.seen.base c.seen.number c.seen.front) turns others (subst (λ seen. answered-in seen turns) (sym more.same) moved) later
 
   -- what went on between a first and a second moment, and between the second and a third
   pub goes-trans : (taken later out more : List ℕ) → Goes a b turns taken out → Goes b c others later more → Goes a c (turns ++ others) (taken ++ later) (out ++ more)
   goes-trans taken later out more first second = record {
-    base = second.base ∙ first.base;
     bytes = Consumes-trans a.ends.left b.ends.left c.ends.left taken later first.bytes second.bytes;
     output = Appends-trans a.ends.given b.ends.given c.ends.given out more first.output second.output;
     moments = subst (IsShifted a.ends.moments c.ends.moments) (sym (flat_map-append (λ turn. turn.moments) turns others)) (IsShifted-trans a.ends.moments b.ends.moments c.ends.moments _ _ first.moments second.moments);
@@ -56,14 +57,14 @@ module _ (a b c : Standing) (turns others : List Turn) where
     draws = λ below.
         let early : b.ends.draw_faults < 2 ^ 64 - 1 = omega (arith, second.draw_faults, below) in
         omega (arith, first.draws early, second.draws below, failed_draws-append turns others);
-    history = second.history ∙ ap (λ front. front ++ flat_map (λ turn. turn.entries) others) first.history ∙ both (λ turn. turn.entries) a.log.history turns others;
+    catalogue = subst (HasSeen a.seen c.seen) (sym (places-both turns others)) (seen-trans entry_number a.seen b.seen c.seen (catalogue_places (map place_of turns)) (catalogue_places (map place_of others)) first.catalogue second.catalogue);
     cut = joined (λ turn. print_message turn.message) turns others a.buffer taken b.buffer later c.buffer first.cut second.cut;
     places = second.places ∙ ap (λ front. front ++ map place_of others) first.places ∙ append_assoc a.places (map place_of turns) (map place_of others)
         ∙ ap (λ back. a.places ++ back) (sym (map-append place_of turns others));
     budget = omega (arith, first.budget, second.budget, length-append taken later);
     whole = each-append _ turns others first.whole second.whole;
-    answered = answered-both first.base (flat_map (λ turn. turn.entries) others) second.base second.history first.answered second.answered;
-    ordered = ordered-append (length a.log.history) turns others (length b.log.history) (length c.log.history) first.ordered second.ordered;
+    answered = answered-both (catalogue_places (map place_of others)) second.catalogue first.answered second.answered;
+    ordered = ordered-append (length a.seen.front) turns others (length b.seen.front) (length c.seen.front) first.ordered second.ordered;
   }
 
 -- a link that goes on twice goes on
@@ -115,23 +116,22 @@ finishes-after ending a b c first second = record {
 
 -- nothing but the ends and what was told has changed
 pub record Stays (a b : Standing) : Type 0 where
-  pub log : b.log ≡ a.log
+  pub seen : b.seen ≡ a.seen
   pub places : b.places ≡ a.places
   pub buffer : b.buffer ≡ a.buffer
   pub budget : b.budget ≡ a.budget
 
 module _ (a b : Standing) where
-  stays-history : b.log ≡ a.log → b.log.history ≡ a.log.history ++ []
-  stays-history same = ap (λ log. log.history) same ∙ sym (append-nil a.log.history)
+  stays-seen : b.seen ≡ a.seen → HasSeen a.seen b.seen []
+  stays-seen same = subst (λ seen. HasSeen a.seen seen []) (sym same) (seen-same entry_number a.seen)
 
-  stays-ordered : b.log ≡ a.log → length a.log.history ≤ length b.log.history
-  stays-ordered same = omega (arith, ap (λ log. length log.history) same)
+  stays-ordered : b.seen ≡ a.seen → length a.seen.front ≤ length b.seen.front
+  stays-ordered same = omega (arith, ap (λ seen. length seen.front) same)
 
   -- giving bytes alone
   pub goes-given : (out : List ℕ) → Stays a b → b.ends ≡ record a.ends { given = b.ends.given; sink_faults = b.ends.sink_faults }
       → Appends a.ends.given b.ends.given out → a.ends.sink_faults ≤ b.ends.sink_faults → Goes a b [] [] out
   goes-given out stays same gives kept = record {
-    base = ap (λ log. log.base) stays.log;
     bytes = subst (λ left. Consumes a.ends.left left []) (sym (ap (λ ends. ends.left) same)) (Consumes-nil a.ends.left);
     output = gives;
     moments = subst (λ moments. IsShifted a.ends.moments moments []) (sym (ap (λ ends. ends.moments) same)) (IsShifted-nil a.ends.moments);
@@ -140,21 +140,20 @@ module _ (a b : Standing) where
     sink_faults = kept;
     draw_faults = omega (arith, ap (λ ends. ends.draw_faults) same);
     draws = λ below. omega (arith, ap (λ ends. ends.draw_faults) same);
-    history = stays-history stays.log;
+    catalogue = stays-seen stays.seen;
     cut = append-nil a.buffer ∙ sym stays.buffer;
     places = stays.places ∙ sym (append-nil a.places);
     budget = omega (arith, stays.budget);
     whole = tt;
     answered = tt;
-    ordered = stays-ordered stays.log;
+    ordered = stays-ordered stays.seen;
   }
 
   -- taking bytes alone
-  pub goes-read : (taken : List ℕ) → b.log ≡ a.log → b.places ≡ a.places → b.ends ≡ record a.ends { left = b.ends.left; source_faults = b.ends.source_faults }
+  pub goes-read : (taken : List ℕ) → b.seen ≡ a.seen → b.places ≡ a.places → b.ends ≡ record a.ends { left = b.ends.left; source_faults = b.ends.source_faults }
       → Consumes a.ends.left b.ends.left taken → a.ends.source_faults ≤ b.ends.source_faults → b.buffer ≡ a.buffer ++ taken → b.budget + length taken ≡ a.budget
       → Goes a b [] taken []
-  goes-read taken log places same takes kept grown spent = record {
-    base = ap (λ log. log.base) log;
+  goes-read taken seen places same takes kept grown spent = record {
     bytes = takes;
     output = subst (λ given. Appends a.ends.given given []) (sym (ap (λ ends. ends.given) same)) (Appends-nil a.ends.given);
     moments = subst (λ moments. IsShifted a.ends.moments moments []) (sym (ap (λ ends. ends.moments) same)) (IsShifted-nil a.ends.moments);
@@ -163,21 +162,20 @@ module _ (a b : Standing) where
     sink_faults = omega (arith, ap (λ ends. ends.sink_faults) same);
     draw_faults = omega (arith, ap (λ ends. ends.draw_faults) same);
     draws = λ below. omega (arith, ap (λ ends. ends.draw_faults) same);
-    history = stays-history log;
+    catalogue = stays-seen seen;
     cut = sym grown;
     places = places ∙ sym (append-nil a.places);
     budget = spent;
     whole = tt;
     answered = tt;
-    ordered = stays-ordered log;
+    ordered = stays-ordered seen;
   }
 
   -- one message that was handled, whose answer is still to be given
-  pub goes-turn : (message : Message) (place : Place) (text : Option (List ℕ)) (handles : Handles a.ends b.ends a.log b.log message place text)
+  pub goes-turn : (message : Message) (place : Place) (text : Option (List ℕ)) (handles : Handles a.ends b.ends a.seen b.seen message place text)
       → IsMessage message → a.buffer ≡ print_message message ++ b.buffer → b.places ≡ a.places ++ place ∷ [] → b.budget ≡ a.budget
       → Goes a b (handles.turn ∷ []) [] []
   goes-turn message place text handles whole front added budget = record {
-    base = handles.base;
     bytes = subst (λ left. Consumes a.ends.left left []) (sym (ap (λ ends. ends.left) handles.same)) (Consumes-nil a.ends.left);
     output = subst (λ given. Appends a.ends.given given []) (sym (ap (λ ends. ends.given) handles.same)) (Appends-nil a.ends.given);
     moments = subst (IsShifted a.ends.moments b.ends.moments) (sym (append-nil handles.turn.moments)) handles.moments;
@@ -186,7 +184,7 @@ module _ (a b : Standing) where
     sink_faults = omega (arith, ap (λ ends. ends.sink_faults) handles.same);
     draw_faults = handles.kept;
     draws = λ below. omega (arith, handles.draws below);
-    history = handles.history ∙ ap (λ entries. a.log.history ++ entries) (sym (append-nil handles.turn.entries));
+    catalogue = subst (HasSeen a.seen b.seen) (sym (append-nil (catalogue_place (place_of handles.turn)))) handles.catalogue;
     cut = append-nil a.buffer ∙ front ∙ ap (λ message. print_message message ++ b.buffer) (sym handles.message_is) ∙ ap (λ bytes. bytes ++ b.buffer) (sym (append-nil (print_message handles.turn.message)));
     places = added ∙ ap (λ place. a.places ++ place ∷ []) handles.place_is;
     budget = omega (arith, budget);

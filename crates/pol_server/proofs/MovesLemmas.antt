@@ -10,7 +10,7 @@ use Rattle.pol_http.specs.declared.head.HeadRefused.{HeadRefused}
 use Rattle.pol_http.proofs.MessageLemmas.{head_of_message, known_not_refused}
 use Rattle.pol_wire.specs.Faults.{Rises}
 use Rattle.std.proofs.KnownBytes.{Appends-nil}
-use Rattle.pol_shared.specs.History.{Log}
+use Rattle.pol_shared.specs.Seen.{Seen}
 use Rattle.pol_server.specs.declared.connection.Connection.{Connection}
 use Rattle.pol_server.specs.Ends.{Ends}
 use Rattle.pol_server.specs.Link.{IsRestWithoutMemory, IsToldBefore, IsUnfinishedRest}
@@ -96,7 +96,7 @@ moves-saying a b text done result says stays other fits faulty = by says.outcome
 
 -- one message: it was handled, and then its answer was given
 module _ (a b : Standing) (now : Ends) (message : Message) (place : Place) (text : Option (List ℕ)) (closing : Bool) (result : Option Ending)
-    (handles : Handles a.ends now a.log b.log message place text) (whole : IsMessage message) (front : a.buffer ≡ print_message message ++ b.buffer)
+    (handles : Handles a.ends now a.seen b.seen message place text) (whole : IsMessage message) (front : a.buffer ≡ print_message message ++ b.buffer)
     (added : b.places ≡ a.places ++ place ∷ []) (budget : b.budget ≡ a.budget) (untold : b.told ≡ false) (told_is : told_text a.told ≡ told_before message)
     (closing_is : closing ≡ closes message.head) (says : Says now b.ends (text_by text) (if closing then Some Closed else None) result) where
   abbrev turn : Turn
@@ -110,7 +110,7 @@ module _ (a b : Standing) (now : Ends) (message : Message) (place : Place) (text
 
   goes-answered : Goes a b (turn ∷ []) [] says.given
   goes-answered = goes-trans a middle b (turn ∷ []) [] [] [] [] says.given goes-handled
-      (goes-given middle b says.given (record { log = refl; places = refl; buffer = refl; budget = refl }) says.same says.gives says.kept)
+      (goes-given middle b says.given (record { seen = refl; places = refl; buffer = refl; budget = refl }) says.same says.gives says.kept)
 
   said-answer : told_text a.told ++ (says.given ++ says.missing) ≡ flat_map output_of (turn ∷ []) ++ []
   said-answer =
@@ -169,12 +169,12 @@ module _ (a b : Standing) (now : Ends) (message : Message) (place : Place) (text
   ]
 
 -- the source gave some bytes, or stopped
-pub reads-on : (before after : Ends) (old new : Connection) (log : Log) → ReadsOn before after old new → Continues (standing before log old) (standing after log new)
-reads-on before after old new log reads = record {
+pub reads-on : (before after : Ends) (old new : Connection) (seen : Seen) → ReadsOn before after old new → Continues (standing before seen old) (standing after seen new)
+reads-on before after old new seen reads = record {
   turns = [];
   taken = reads.taken;
   out = [];
-  goes = goes-read (standing before log old) (standing after log new) reads.taken refl reads.places reads.same reads.bytes reads.kept reads.buffer reads.budget;
+  goes = goes-read (standing before seen old) (standing after seen new) reads.taken refl reads.places reads.same reads.bytes reads.kept reads.buffer reads.budget;
   said = append-nil (told_text old.told) ∙ ap told_text (sym reads.told);
   open_ = tt;
 }
@@ -187,7 +187,7 @@ finishes-quiet a ending fits other = record {
   out = [];
   missing = [];
   text = told_text a.told;
-  goes = goes-given a a [] (record { log = refl; places = refl; buffer = refl; budget = refl }) refl (Appends-nil a.ends.given) (omega arith);
+  goes = goes-given a a [] (record { seen = refl; places = refl; buffer = refl; budget = refl }) refl (Appends-nil a.ends.given) (omega arith);
   said = append-nil (told_text a.told);
   complete = λ _. refl;
   left_out = inl (told_text a.told, sym (append-nil (told_text a.told)));

@@ -1,10 +1,11 @@
 -- One output: two links that were served on the same input, turn by turn.
-use Rattle.std.proofs.Common.{◌≡◌, ◌≢◌, ◌<◌, ◌≤◌, ◌+◌, ◌-◌, ◌⊎◌, ℕ, true, false, List, [], ◌∷◌, ◌++◌, map, length, take, drop, Option, Some, None, Ok, refl, sym, ap, subst, ◌∙◌, inl, inr, arith, append-nil, append_assoc, length-append, take-append-drop}
-use Rattle.std.specs.Prelude.{⊤, IsTrue, slice_index}
+use Rattle.std.proofs.Common.{◌≡◌, ◌≢◌, ◌<◌, ◌≤◌, ◌+◌, ◌-◌, ◌⊎◌, ℕ, true, false, List, [], ◌∷◌, ◌++◌, map, length, get_or, take, drop, Option, Some, None, Result, Ok, Err, refl, sym, ap, subst, ◌∙◌, inl, inr, arith, append-nil, append_assoc, length-append, take-append-drop}
+use Rattle.std.specs.Prelude.{⊤, IsTrue, slice_get, slice_index}
 use Rattle.std.specs.List.{flat_map, AllByRecursion}
 use Rattle.std.specs.Io.KnownBytes.{Consumes, IsAtEnd}
 use Rattle.std.proofs.lemmas.Grind.{same_number_lists}
-use Rattle.std.proofs.lemmas.List.{get_or_append_left, get_or-append_right, take_at, take-append-le}
+use Rattle.std.proofs.lemmas.List.{get_or_append_left, get_or-append_right, take_all, take_at, take_more, take-append-le}
+use Rattle.std.proofs.lemmas.Option.{slice_get_within, slice_get-get_or}
 use Rattle.std.proofs.lemmas.List.Elements.{All-nil, All-cons}
 use Rattle.std.proofs.lemmas.Str.{IsUtf8-from_ascii}
 use Rattle.std.proofs.lemmas.Str.Ascii.{IsAscii-cons, IsAscii-nil}
@@ -15,18 +16,21 @@ use Rattle.pol_http.proofs.HeadLemmas.{length-print_request}
 use Rattle.pol_http.proofs.MessageLemmas.{length-message, message_not_refused, message_unique, refused_stays, refused_unique}
 use Rattle.pol_machine.specs.Machine.{reply_of}
 use Rattle.pol_state.specs.Rows.{Rows}
+use Rattle.pol_requests.specs.declared.refused.RouteRefused.{RouteRefused}
 use Rattle.pol_answers.specs.Texts.{answer_of, refusal_answer}
 use Rattle.pol_routes.specs.Plan.{command_of, plan_of}
 use Rattle.pol_routes.specs.declared.plans.Planned.{Planned}
 use Rattle.pol_commands.specs.declared.reply.Refusal.TheVariants as refusal
 use Rattle.pol_commands.specs.declared.reply.Reply.TheVariants.{Refused}
 use Rattle.pol_shared.specs.History.{state_at}
+use Rattle.pol_shared.specs.Seen.{GoesOnAlone, Seen, entry_number}
+use Rattle.pol_shared.proofs.SeenLemmas.{alone-counted}
 use Rattle.pol_shared.specs.declared.entry.Entry.{Entry}
 use Rattle.pol_wire.specs.Streams.{IsShifted}
 use Rattle.pol_server.specs.Ends.{Ends}
 use Rattle.pol_server.specs.Laws.{IsByInput, IsKnown, IsUnhindered, OneOutput}
 use Rattle.pol_server.specs.Link.{EndsBy, IsRefusedRest, IsToldBefore, IsUnfinishedRest, ServesLink, refused_text, taken_bound}
-use Rattle.pol_server.specs.Turn.{AnsweredAs, Case, IsAnswered, IsFrom, IsFullAt, IsOrdered, IsRead, IsStepped, IsUnplanned, NoneCloses, Turn, full, low_after, output_of, place_of, stepped, text_of, undrawn, unplanned, without_memory, four_words}
+use Rattle.pol_server.specs.Turn.{AnsweredAs, Case, IsAnswered, IsFrom, IsFullAt, IsOrdered, IsRead, IsStepped, IsUnplanned, NoneCloses, Turn, catalogue_place, catalogue_places, full, low_after, output_of, place_by, place_of, stepped, text_of, undrawn, unplanned, without_memory, four_words}
 use Rattle.pol_server.specs.declared.served.Ending.{Ending}
 use Rattle.pol_server.specs.declared.served.Ending.TheVariants.{Ended, Cut, Closed, ReadFault, WriteFault, Spent, NoMemory}
 use Rattle.pol_server.specs.declared.served.Served.{Served}
@@ -65,8 +69,6 @@ front-of a b stream items known shifted = of-known b (subst (λ a. IsShifted a b
 
 -- ---- turns at their places
 
--- ---- turns at their places
-
 -- the place of a case is the end of the history before it
 abbrev pub IsAt : ℕ → Case → Type 0
 IsAt low unplanned = ⊤
@@ -75,31 +77,107 @@ IsAt low (stepped place) = place ≡ low
 IsAt low (full count) = count ≡ low
 IsAt low without_memory = ⊤
 
-module _ (base : Rows) (number : ℕ) (new : List Entry) where
-  -- what a turn entered stands below the later numbers
-  entered-below : (low : ℕ) (case : Case) (turn : Turn) → AnsweredAs base number new case turn → IsFrom low case → low + length turn.entries ≤ low_after low case
-  entered-below low unplanned turn is from = omega (arith, ap length is.entries)
-  entered-below low undrawn turn is from = omega (arith, ap length is.entries)
-  entered-below low (stepped place) turn is from = omega (arith, ap length is.entries, from)
-  entered-below low (full count) turn is from = omega (arith, ap length is.entries, from)
-  entered-below low without_memory turn is from = omega (arith, ap length is.entries)
+-- the entry that a turn's plan makes of what was read for it
+abbrev pub planned-entry : ℕ → Turn → Result Planned RouteRefused → List Entry
+planned-entry number turn (Ok plan) = record { number = number; command = command_of plan (slice_index turn.moments 0) (four_words turn.words) } ∷ []
+planned-entry number turn (Err why) = []
 
-  ordered-room : (low : ℕ) (turns : List Turn) (high : ℕ) → AllByRecursion (IsAnswered base number new) turns → IsOrdered low turns high → low + length (flat_map (λ turn. turn.entries) turns) ≤ high
+-- what a turn entered, by its case
+abbrev pub entered-by : ℕ → Case → Turn → List Entry
+entered-by number unplanned turn = []
+entered-by number undrawn turn = []
+entered-by number (stepped place) turn = planned-entry number turn (plan_of turn.message)
+entered-by number (full count) turn = []
+entered-by number without_memory turn = []
+
+abbrev pub entries-of : ℕ → Turn → List Entry
+entries-of number turn = entered-by number turn.case turn
+
+-- a list up to a place and the item there
+take-one : (entries : List Entry) (place : ℕ) (entry : Entry) → slice_get entries place ≡ Some entry → take (place + 1) entries ≡ take place entries ++ entry ∷ []
+take-one entries place entry there =
+    let within : place < length entries = slice_get_within entries place entry there in
+    let found : Some (get_or entries place entry) ≡ Some entry = sym (slice_get-get_or entries place entry within) ∙ there in
+    let is : get_or entries place entry ≡ entry = cc found in
+    take_more entries place entry within ∙ ap (λ last. take place entries ++ last ∷ []) is
+
+module _ (base : Rows) (number : ℕ) (new : List Entry) where
+  -- the entry of a turn that was stepped
+  stepped-entry : (turn : Turn) (place : ℕ) (is : IsStepped base number new turn place) → entered-by number (stepped place) turn ≡ is.entry ∷ []
+  stepped-entry turn place is =
+      ap (planned-entry number turn) is.read.planned
+      ∙ ap (λ moments. record { number = number; command = command_of is.plan (slice_index moments 0) (four_words turn.words) } ∷ []) is.read.moments
+      ∙ ap (λ entry. entry ∷ []) (sym is.entry_is)
+
+  -- a turn enters as many entries as it has places
+  as-many : (case : Case) (turn : Turn) → AnsweredAs base number new case turn → length (entered-by number case turn) ≡ length (catalogue_place (place_by case))
+  as-many unplanned turn is = refl
+  as-many undrawn turn is = refl
+  as-many (stepped place) turn is = ap length (stepped-entry turn place is)
+  as-many (full count) turn is = refl
+  as-many without_memory turn is = refl
+
+  all-as-many : (turns : List Turn) → AllByRecursion (IsAnswered base number new) turns → length (flat_map (entries-of number) turns) ≡ length (catalogue_places (map place_of turns))
+  all-as-many [] answered = refl
+  all-as-many (turn ∷ turns) answered =
+      omega (
+        arith,
+        as-many turn.case turn answered.0,
+        all-as-many turns answered.1,
+        length-append (entries-of number turn) (flat_map (entries-of number) turns),
+        length-append (catalogue_place (place_of turn)) (catalogue_places (map place_of turns)),
+      )
+
+  -- what a turn entered stands below the later numbers
+  entered-below : (low : ℕ) (case : Case) (turn : Turn) → AnsweredAs base number new case turn → IsFrom low case → low + length (entered-by number case turn) ≤ low_after low case
+  entered-below low unplanned turn is from = omega arith
+  entered-below low undrawn turn is from = omega arith
+  entered-below low (stepped place) turn is from = omega (arith, ap length (stepped-entry turn place is), from)
+  entered-below low (full count) turn is from = omega (arith, from)
+  entered-below low without_memory turn is from = omega arith
+
+  ordered-room : (low : ℕ) (turns : List Turn) (high : ℕ) → AllByRecursion (IsAnswered base number new) turns → IsOrdered low turns high → low + length (flat_map (entries-of number) turns) ≤ high
   ordered-room low [] high answered ordered = omega (arith, ordered)
   ordered-room low (turn ∷ turns) high answered ordered =
       omega (
         arith,
         entered-below low turn.case turn answered.0 ordered.0,
         ordered-room (low_after low turn.case) turns high answered.1 ordered.1,
-        length-append turn.entries (flat_map (λ turn. turn.entries) turns),
+        length-append (entries-of number turn) (flat_map (entries-of number) turns),
       )
 
-  at-end : (low : ℕ) (case : Case) (turn : Turn) → AnsweredAs base number new case turn → IsFrom low case → low_after low case ≤ low + length turn.entries → IsAt low case
+  at-end : (low : ℕ) (case : Case) (turn : Turn) → AnsweredAs base number new case turn → IsFrom low case → low_after low case ≤ low + length (entered-by number case turn) → IsAt low case
   at-end low unplanned turn is from within = tt
   at-end low undrawn turn is from within = tt
-  at-end low (stepped place) turn is from within = omega (arith, ap length is.entries, from, within)
-  at-end low (full count) turn is from within = omega (arith, ap length is.entries, from, within)
+  at-end low (stepped place) turn is from within = omega (arith, ap length (stepped-entry turn place is), from, within)
+  at-end low (full count) turn is from within = omega (arith, from, within)
   at-end low without_memory turn is from within = tt
+
+  -- the history up to a turn's place, and then what it entered
+  taken-more : (low : ℕ) (case : Case) (turn : Turn) → AnsweredAs base number new case turn → IsAt low case → take low new ++ entered-by number case turn ≡ take (low + length (entered-by number case turn)) new
+  taken-more low unplanned turn is at = append-nil (take low new) ∙ ap (λ count. take count new) (omega arith)
+  taken-more low undrawn turn is at = append-nil (take low new) ∙ ap (λ count. take count new) (omega arith)
+  taken-more low (stepped place) turn is at =
+      ap (λ entries. take low new ++ entries) (stepped-entry turn place is)
+      ∙ sym (take-one new low is.entry (ap (slice_get new) (sym at) ∙ is.there))
+      ∙ ap (λ count. take count new) (omega (arith, ap length (stepped-entry turn place is)))
+  taken-more low (full count) turn is at = append-nil (take low new) ∙ ap (λ count. take count new) (omega arith)
+  taken-more low without_memory turn is at = append-nil (take low new) ∙ ap (λ count. take count new) (omega arith)
+
+  -- where the history has no other entries, it is what stood before and what the turns entered
+  history-of : (low : ℕ) (turns : List Turn) → AllByRecursion (IsAnswered base number new) turns → IsOrdered low turns (length new) → length new ≡ low + length (flat_map (entries-of number) turns)
+      → take low new ++ flat_map (entries-of number) turns ≡ new
+  history-of low [] answered ordered counted = append-nil (take low new) ∙ take_all low new (omega (arith, counted))
+  history-of low (turn ∷ turns) answered ordered counted =
+      let below = entered-below low turn.case turn answered.0 ordered.0 in
+      let room = ordered-room (low_after low turn.case) turns (length new) answered.1 ordered.1 in
+      let both = length-append (entries-of number turn) (flat_map (entries-of number) turns) in
+      let after : low_after low turn.case ≡ low + length (entries-of number turn) = omega (arith, below, room, counted, both) in
+      let within : low_after low turn.case ≤ low + length (entries-of number turn) = omega (arith, after) in
+      let at = at-end low turn.case turn answered.0 ordered.0 within in
+      let later = history-of (low + length (entries-of number turn)) turns answered.1 (subst (λ low. IsOrdered low turns (length new)) after ordered.1) (omega (arith, counted, both)) in
+      sym (append_assoc (take low new) (entries-of number turn) (flat_map (entries-of number) turns))
+      ∙ ap (λ front. front ++ flat_map (entries-of number) turns) (taken-more low turn.case turn answered.0 at) ∙ later
 
 -- ---- traces
 
@@ -109,7 +187,7 @@ pub record Trace (base : Rows) (number : ℕ) (new past : List Entry) (bytes : L
   pub whole : AllByRecursion (λ turn. IsMessage turn.message) turns
   pub moments_are : IsFront moments (flat_map (λ turn. turn.moments) turns)
   pub words_are : IsFront words (flat_map (λ turn. turn.words) turns)
-  pub history : new ≡ past ++ flat_map (λ turn. turn.entries) turns
+  pub history : new ≡ past ++ flat_map (entries-of number) turns
   pub answered : AllByRecursion (IsAnswered base number new) turns
   pub ordered : IsOrdered (length past) turns (length new)
   pub unhindered : AllByRecursion (λ turn. IsUnhindered turn.case) turns
@@ -119,19 +197,19 @@ module _ (base : Rows) (number : ℕ) (new past : List Entry) (bytes : List ℕ)
   Begins = Trace base number new past bytes moments words (turn ∷ turns) rest left
 
   later-entries : List Entry
-  later-entries = flat_map (λ turn. turn.entries) turns
+  later-entries = flat_map (entries-of number) turns
 
-  after-first : Begins → low_after (length past) turn.case ≡ length past + length turn.entries
+  after-first : Begins → low_after (length past) turn.case ≡ length past + length (entries-of number turn)
   unfolding later-entries
   after-first trace =
       let below = entered-below base number new (length past) turn.case turn trace.answered.0 trace.ordered.0 in
       let room = ordered-room base number new (low_after (length past) turn.case) turns (length new) trace.answered.1 trace.ordered.1 in
-      omega (arith, below, room, ap length trace.history, length-append past (turn.entries ++ later-entries), length-append turn.entries later-entries)
+      omega (arith, below, room, ap length trace.history, length-append past (entries-of number turn ++ later-entries), length-append (entries-of number turn) later-entries)
 
   first-at : Begins → IsAt (length past) turn.case
   first-at trace =
       let after = after-first trace in
-      let within : low_after (length past) turn.case ≤ length past + length turn.entries = omega (arith, after) in
+      let within : low_after (length past) turn.case ≤ length past + length (entries-of number turn) = omega (arith, after) in
       at-end base number new (length past) turn.case turn trace.answered.0 trace.ordered.0 within
 
   abbrev later-bytes : List ℕ
@@ -150,17 +228,17 @@ module _ (base : Rows) (number : ℕ) (new past : List Entry) (bytes : List ℕ)
   first-words trace = front-first words turn.words (flat_map (λ turn. turn.words) turns) trace.words_are
 
   before-first : Begins → take (length past) new ≡ past
-  before-first trace = ap (take (length past)) trace.history ∙ take_at past (flat_map (λ turn. turn.entries) (turn ∷ turns)) (length past) refl
+  before-first trace = ap (take (length past)) trace.history ∙ take_at past (flat_map (entries-of number) (turn ∷ turns)) (length past) refl
 
-  trace-later : Begins → Trace base number new (past ++ turn.entries) later-bytes (behind moments (length turn.moments)) (behind words (length turn.words)) turns rest left
+  trace-later : Begins → Trace base number new (past ++ entries-of number turn) later-bytes (behind moments (length turn.moments)) (behind words (length turn.words)) turns rest left
   trace-later trace =
-      let after : low_after (length past) turn.case ≡ length (past ++ turn.entries) = after-first trace ∙ sym (length-append past turn.entries) in
+      let after : low_after (length past) turn.case ≡ length (past ++ entries-of number turn) = after-first trace ∙ sym (length-append past (entries-of number turn)) in
       record {
         bytes_are = refl;
         whole = trace.whole.1;
         moments_are = front-later moments turn.moments (flat_map (λ turn. turn.moments) turns) trace.moments_are;
         words_are = front-later words turn.words (flat_map (λ turn. turn.words) turns) trace.words_are;
-        history = trace.history ∙ sym (append_assoc past turn.entries (flat_map (λ turn. turn.entries) turns));
+        history = trace.history ∙ sym (append_assoc past (entries-of number turn) (flat_map (entries-of number) turns));
         answered = trace.answered.1;
         ordered = subst (λ low. IsOrdered low turns (length new)) after trace.ordered.1;
         unhindered = trace.unhindered.1;
@@ -178,9 +256,9 @@ record Alike (past new other : List Entry) (moments words : ℕ → ℕ) (a b : 
   pub first_past : take (length past) new ≡ past
   pub second_past : take (length past) other ≡ past
 
-same-parts : (a b : Turn) → a.message ≡ b.message → a.moments ≡ b.moments → a.words ≡ b.words → a.entries ≡ b.entries → a.case ≡ b.case → a.answer ≡ b.answer → a ≡ b
-same-parts a b message moments words entries case answer =
-    λ i. record { message = message i; moments = moments i; words = words i; entries = entries i; case = case i; answer = answer i }
+same-parts : (a b : Turn) → a.message ≡ b.message → a.moments ≡ b.moments → a.words ≡ b.words → a.case ≡ b.case → a.answer ≡ b.answer → a ≡ b
+same-parts a b message moments words case answer =
+    λ i. record { message = message i; moments = moments i; words = words i; case = case i; answer = answer i }
 
 module _ (base : Rows) (number : ℕ) (past new other : List Entry) (moments words : ℕ → ℕ) (a b : Turn) (alike : Alike past new other moments words a b) where
   same-plan : (p q : Planned) → plan_of a.message ≡ Ok p → plan_of b.message ≡ Ok q → p ≡ q
@@ -194,7 +272,7 @@ module _ (base : Rows) (number : ℕ) (past new other : List Entry) (moments wor
       let first = x.refused in
       let second = y.refused in
       let why : x.why ≡ y.why = cc (first, second, plans) in
-      same-parts a b alike.message (x.moments ∙ sym y.moments) (x.words ∙ sym y.words) (x.entries ∙ sym y.entries) case
+      same-parts a b alike.message (x.moments ∙ sym y.moments) (x.words ∙ sym y.words) case
       (x.answer ∙ (λ i. text_of (alike.message i) (refusal_answer (why i))) ∙ sym y.answer)
 
   planned-refused : (p : Planned) → plan_of a.message ≡ Ok p → IsUnplanned b → ⊥
@@ -237,7 +315,7 @@ module _ (base : Rows) (number : ℕ) (past new other : List Entry) (moments wor
       let entry : x.entry ≡ y.entry =
       x.entry_is ∙ (λ i. record { number = number; command = command_of (plans i) (moment i) (four_words (drawn i)) }) ∙ sym y.entry_is in
       same-parts a b alike.message (same-moments x.plan y.plan x.moment y.moment x.read y.read) drawn
-      (x.entries ∙ ap (λ entry. entry ∷ []) entry ∙ sym y.entries) (case_a ∙ ap stepped (at_m ∙ sym at_n) ∙ sym case_b)
+      (case_a ∙ ap stepped (at_m ∙ sym at_n) ∙ sym case_b)
       (x.answer ∙ (λ i. text_of (alike.message i) (answer_of (reply_of (state_at base (fronts i)) (entry i).command))) ∙ sym y.answer)
 
   full-twice : (m n : ℕ) → m ≡ length past → n ≡ length past → a.case ≡ full m → b.case ≡ full n → IsFullAt base number new a m → IsFullAt base number other b n → a ≡ b
@@ -246,7 +324,7 @@ module _ (base : Rows) (number : ℕ) (past new other : List Entry) (moments wor
       let drawn = same-words x.plan y.plan x.moment y.moment plans x.read y.read in
       let charged : x.charged ≡ y.charged = x.charged_is ∙ ap (λ front. (state_at base front).charged) (same-front m n at_m at_n) ∙ sym y.charged_is in
       same-parts a b alike.message (same-moments x.plan y.plan x.moment y.moment x.read y.read) drawn
-      (x.entries ∙ sym y.entries) (case_a ∙ ap full (at_m ∙ sym at_n) ∙ sym case_b)
+      (case_a ∙ ap full (at_m ∙ sym at_n) ∙ sym case_b)
       (x.answer ∙ (λ i. text_of (alike.message i) (answer_of (Refused (refusal.RunFull (charged i) ((plans i).charge))))) ∙ sym y.answer)
 
   room-or-full : (m n : ℕ) → m ≡ length past → n ≡ length past → IsStepped base number new a m → IsFullAt base number other b n → ⊥
@@ -485,11 +563,11 @@ module _ (base : Rows) (number : ℕ) (new other : List Entry) (total : ℕ) (re
 
   -- the second link behind its first turn, told by the first link's
   later-alike : (past : List Entry) (moments words : ℕ → ℕ) (bytes bytes' : List ℕ) (a b : Turn) (b_later : List Turn) → a ≡ b → bytes ≡ bytes'
-      → Trace base number other (past ++ b.entries) bytes' (behind moments (length b.moments)) (behind words (length b.words)) b_later rest' left'
-      → Trace base number other (past ++ a.entries) bytes (behind moments (length a.moments)) (behind words (length a.words)) b_later rest' left'
+      → Trace base number other (past ++ entries-of number b) bytes' (behind moments (length b.moments)) (behind words (length b.words)) b_later rest' left'
+      → Trace base number other (past ++ entries-of number a) bytes (behind moments (length a.moments)) (behind words (length a.words)) b_later rest' left'
   later-alike past moments words bytes bytes' a b b_later turn is trace =
-      subst (λ turn. Trace base number other (past ++ turn.entries) bytes (behind moments (length turn.moments)) (behind words (length turn.words)) b_later rest' left') (sym turn)
-      (subst (λ bytes. Trace base number other (past ++ b.entries) bytes (behind moments (length b.moments)) (behind words (length b.words)) b_later rest' left') (sym is) trace)
+      subst (λ turn. Trace base number other (past ++ entries-of number turn) bytes (behind moments (length turn.moments)) (behind words (length turn.words)) b_later rest' left') (sym turn)
+      (subst (λ bytes. Trace base number other (past ++ entries-of number b) bytes (behind moments (length b.moments)) (behind words (length b.words)) b_later rest' left') (sym is) trace)
 
   closes-alike : (a b : Turn) → a ≡ b → closes a.message.head ≡ true → closes b.message.head ≡ false → ⊥
   closes-alike a b is closing open_ =
@@ -517,7 +595,7 @@ module _ (base : Rows) (number : ℕ) (new other : List Entry) (total : ℕ) (re
       absurd (closes-alike b a (sym (first-same past bytes moments words a b a_later b_later x y).0) second.0 first.0)
   same-link past bytes moments words (a ∷ a_later) (b ∷ b_later) x y near near' (inr first) (inr second) =
       let same = first-same past bytes moments words a b a_later b_later x y in
-      let later = same-link (past ++ a.entries) _ (behind moments (length a.moments)) (behind words (length a.words)) a_later b_later
+      let later = same-link (past ++ entries-of number a) _ (behind moments (length a.moments)) (behind words (length a.words)) a_later b_later
       (trace-later base number new past bytes moments words a a_later rest left x)
       (later-alike past moments words _ _ a b b_later same.0 same.1 (trace-later base number other past bytes moments words b b_later rest' left' y))
       near near' first.1 second.1 in
@@ -531,17 +609,32 @@ left-of (Some all) (Some left) bytes taken known takes =
     let is : all ≡ bytes = cc known in
     (left, refl, sym is ∙ takes)
 
+-- the turns are answered in the history that goes on from what the pass had seen
+answered-first : (before after : Ends) (old new : Seen) (served : Served) (link : ServesLink before after old new served) → AllByRecursion (IsAnswered old.base old.number new.front) link.turns
+answered-first before after old new served link =
+    subst (λ seen. AllByRecursion (IsAnswered seen.base seen.number seen.front) link.turns) link.catalogue.same link.answered
+
+-- where nobody else entered anything, the history is what the pass had seen and what the turns entered
+history-is : (before after : Ends) (old new : Seen) (served : Served) (link : ServesLink before after old new served) → GoesOnAlone old.number old.front new.front → new.front ≡ old.front ++ flat_map (entries-of old.number) link.turns
+history-is before after old new served link alone =
+    let answered = answered-first before after old new served link in
+    let counted : length new.front ≡ length old.front + length (catalogue_places served.places) = alone-counted entry_number old.number old.front new.front (catalogue_places served.places) alone link.catalogue.own in
+    let many = all-as-many old.base old.number new.front link.turns answered in
+    let front : take (length old.front) new.front ≡ old.front = ap (take (length old.front)) link.catalogue.front.1 ∙ take_at old.front link.catalogue.front.0 (length old.front) refl in
+    sym (history-of old.base old.number new.front (length old.front) link.turns answered link.ordered (omega (arith, counted, many, ap (λ places. length (catalogue_places places)) link.places)))
+    ∙ ap (λ past. past ++ flat_map (entries-of old.number) link.turns) front
+
 -- a served link as a trace
-link-trace : (base : Rows) (number : ℕ) (before after : Ends) (old new : List Entry) (served : Served) (link : ServesLink base number before after old new served) (known : IsKnown before) (left : List ℕ)
+link-trace : (before after : Ends) (old new : Seen) (served : Served) (link : ServesLink before after old new served) → GoesOnAlone old.number old.front new.front → (known : IsKnown before) (left : List ℕ)
     → known.bytes ≡ link.taken ++ left → AllByRecursion (λ turn. IsUnhindered turn.case) link.turns
-    → Trace base number new old known.bytes known.moments known.words link.turns link.rest left
-link-trace base number before after old new served link known left bytes unhindered = record {
+    → Trace old.base old.number new.front old.front known.bytes known.moments known.words link.turns link.rest left
+link-trace before after old new served link alone known left bytes unhindered = record {
   bytes_are = bytes ∙ ap (λ taken. taken ++ left) link.cut ∙ append_assoc (flat_map (λ turn. print_message turn.message) link.turns) link.rest left;
   whole = link.whole;
   moments_are = front-of before.moments after.moments known.moments _ known.moments_are link.moments;
   words_are = front-of before.words after.words known.words _ known.words_are link.words;
-  history = link.history;
-  answered = link.answered;
+  history = history-is before after old new served link alone;
+  answered = answered-first before after old new served link;
   ordered = link.ordered;
   unhindered = unhindered;
 }
@@ -557,26 +650,28 @@ by-input Spent by_input is = cc
 by-input NoMemory by_input is = by_input
 
 -- all that was to be written was given
-given-whole : (base : Rows) (number : ℕ) (before after : Ends) (old new : List Entry) (served : Served) (link : ServesLink base number before after old new served) → IsByInput served.ending
+given-whole : (before after : Ends) (old new : Seen) (served : Served) (link : ServesLink before after old new served) → IsByInput served.ending
     → link.given ≡ flat_map output_of link.turns ++ link.text
-given-whole base number before after old new served link by_input =
+given-whole before after old new served link by_input =
     sym (append-nil link.given) ∙ ap (λ missing. link.given ++ missing) (sym (link.complete (by-input served.ending by_input))) ∙ link.output
 
 pub one_output : OneOutput
-one_output base number before after other_after old new other_new served other_served link other known first second =
+one_output before after other_after old new other_new served other_served link other alone other_alone known first second =
     let left = left-of before.left after.left known.bytes link.taken known.left_is link.takes in
     let left' = left-of before.left other_after.left known.bytes other.taken known.left_is other.takes in
     let total = length known.bytes in
     let all : length link.taken + length left.0 ≡ total = omega (arith, ap length left.2, length-append link.taken left.0) in
     let all' : length other.taken + length left'.0 ≡ total = omega (arith, ap length left'.2, length-append other.taken left'.0) in
-    let same = same-link base number new other_new total link.rest left.0 link.text other.rest left'.0 other.text served.ending other_served.ending old known.bytes known.moments known.words link.turns other.turns
-    (link-trace base number before after old new served link known left.0 left.2 first.unhindered)
-    (link-trace base number before other_after old other_new other_served other known left'.0 left'.2 second.unhindered)
+    let same = same-link old.base old.number new.front other_new.front total link.rest left.0 link.text other.rest left'.0 other.text served.ending other_served.ending old.front known.bytes known.moments known.words link.turns other.turns
+    (link-trace before after old new served link alone known left.0 left.2 first.unhindered)
+    (link-trace before other_after old other_new other_served other other_alone known left'.0 left'.2 second.unhindered)
     (omega (arith, all, link.within)) (omega (arith, all', other.within))
     (ends-after total link.rest left.0 link.text served.ending before after link.turns (length link.taken) first.by_input left.1 all link.ends)
     (ends-after total other.rest left'.0 other.text other_served.ending before other_after other.turns (length other.taken) second.by_input left'.1 all' other.ends) in (
-      given-whole base number before after old new served link first.by_input ∙ (λ i. flat_map output_of (same.0 i) ++ same.2 i) ∙ sym (given-whole base number before other_after old other_new other_served other second.by_input),
+      given-whole before after old new served link first.by_input ∙ (λ i. flat_map output_of (same.0 i) ++ same.2 i) ∙ sym (given-whole before other_after old other_new other_served other second.by_input),
       link.places ∙ ap (map place_of) same.0 ∙ sym other.places,
       same.1,
-      link.history ∙ ap (λ turns. old ++ flat_map (λ turn. turn.entries) turns) same.0 ∙ sym other.history,
+      link.catalogue.same
+          ∙ ap (λ front. record old { front = front }) (history-is before after old new served link alone ∙ ap (λ turns. old.front ++ flat_map (entries-of old.number) turns) same.0 ∙ sym (history-is before other_after old other_new other_served other other_alone))
+          ∙ sym other.catalogue.same,
     )

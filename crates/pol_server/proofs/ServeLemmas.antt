@@ -1,13 +1,12 @@
 -- A link from its start to its end.
 use Rattle.std.proofs.Common.{◌≡◌, ◌<◌, ◌≤◌, ◌+◌, ℕ, true, false, List, [], ◌++◌, map, length, Some, None, Option, refl, sym, ap, subst, ◌∙◌, inl, inr, arith, append-nil}
-use Rattle.std.specs.List.{AllByRecursion}
 use Rattle.std.specs.Io.KnownBytes.{IsAtEnd}
 use Rattle.std.proofs.KnownBytes.{Appends-nil}
-use Rattle.pol_shared.specs.History.{Log}
+use Rattle.pol_shared.specs.Seen.{HasSeen, Seen}
 use Rattle.pol_wire.specs.Faults.{Rises}
 use Rattle.pol_server.specs.Ends.{Ends}
 use Rattle.pol_server.specs.Link.{EndsBy, ServesLink, taken_bound}
-use Rattle.pol_server.specs.Turn.{IsAnswered, Turn, place_of}
+use Rattle.pol_server.specs.Turn.{Turn, catalogue_places, place_of}
 use Rattle.pol_server.specs.declared.served.Served.{Served}
 use Rattle.pol_server.specs.declared.served.Ending.TheVariants.{Ended, Cut, Closed, ReadFault, WriteFault, Spent, NoMemory}
 use Rattle.pol_server.specs.Serving.{FitsEnding, told_text, Continues, Finishes, IsEndingOf, IsStopped, IsToldAsked, KeepsStop, Standing, standing}
@@ -19,8 +18,8 @@ use Rattle.pol_server.proofs.EndsLemmas.{rises-earlier}
 use Rattle.pol_server.proofs.GoesLemmas.{continues-trans, goes-given}
 
 -- what holds between two calls of the source or two messages, since the start
-pub record IsServed (before now : Ends) (first log : Log) (start connection : Connection) : Type 0 where
-  pub goes : Continues (standing before first start) (standing now log connection)
+pub record IsServed (before now : Ends) (first seen : Seen) (start connection : Connection) : Type 0 where
+  pub goes : Continues (standing before first start) (standing now seen connection)
   pub told : IsToldAsked connection.told connection.buffer.items
   pub stopped : IsStopped connection.stop before now connection.budget
 
@@ -56,12 +55,12 @@ continues-start a = record {
   turns = [];
   taken = [];
   out = [];
-  goes = goes-given a a [] (record { log = refl; places = refl; buffer = refl; budget = refl }) refl (Appends-nil a.ends.given) (omega arith);
+  goes = goes-given a a [] (record { seen = refl; places = refl; buffer = refl; budget = refl }) refl (Appends-nil a.ends.given) (omega arith);
   said = append-nil (told_text a.told);
   open_ = tt;
 }
 
-pub served-start : (before : Ends) (first : Log) (start : Connection) → start.stop ≡ None → start.told ≡ false → IsServed before before first first start start
+pub served-start : (before : Ends) (first : Seen) (start : Connection) → start.stop ≡ None → start.told ≡ false → IsServed before before first first start start
 served-start before first start none untold = record {
   goes = continues-start (standing before first start);
   told = λ told. let contrary : false ≡ true = sym untold ∙ told in cc;
@@ -69,11 +68,11 @@ served-start before first start none untold = record {
 }
 
 -- one call of the source or one message more
-pub served-on : (before now new : Ends) (first log after : Log) (start connection next : Connection) → IsServed before now first log start connection
-    → Continues (standing now log connection) (standing new after next) → IsToldAsked next.told next.buffer.items → KeepsStop now new connection next
+pub served-on : (before now new : Ends) (first seen after : Seen) (start connection next : Connection) → IsServed before now first seen start connection
+    → Continues (standing now seen connection) (standing new after next) → IsToldAsked next.told next.buffer.items → KeepsStop now new connection next
     → IsServed before new first after start next
-served-on before now new first log after start connection next served goes told stops = record {
-  goes = continues-trans (standing before first start) (standing now log connection) (standing new after next) served.goes goes;
+served-on before now new first seen after start connection next served goes told stops = record {
+  goes = continues-trans (standing before first start) (standing now seen connection) (standing new after next) served.goes goes;
   told = told;
   stopped = stopped-on before now new connection next served.goes.goes.source_faults served.stopped stops;
 }
@@ -99,13 +98,14 @@ ends-by Spent why before after turns budget taken rest text fits is stopped spen
 ends-by NoMemory why before after turns budget taken rest text fits is stopped spent caused = fits
 
 -- the whole link
-pub serves : (before after : Ends) (first last : Log) (start connection : Connection) (served : Served)
+pub serves : (before after : Ends) (first last : Seen) (start connection : Connection) (served : Served)
     → Finishes served.ending (standing before first start) (standing after last connection)
     → start.buffer.items ≡ [] → start.places.items ≡ [] → start.budget ≡ taken_bound → start.told ≡ false
     → IsEndingOf connection.stop served.ending → IsStopped connection.stop before after connection.budget → served.places ≡ connection.places.items
-    → ServesLink first.base 0 before after first.history last.history served
+    → ServesLink before after first last served
 serves before after first last start connection served finishes empty unplaced whole_budget untold ending stopped places_are =
     let goes = finishes.goes in
+    let places : served.places ≡ map place_of finishes.turns = places_are ∙ goes.places ∙ ap (λ front. front ++ map place_of finishes.turns) unplaced in
     record {
       turns = finishes.turns;
       taken = finishes.taken;
@@ -120,9 +120,9 @@ serves before after first last start connection served finishes empty unplaced w
       moments = goes.moments;
       words = goes.words;
       draws = goes.draws;
-      places = places_are ∙ goes.places ∙ ap (λ front. front ++ map place_of finishes.turns) unplaced;
-      history = goes.history;
-      answered = subst (λ base. AllByRecursion (IsAnswered base 0 last.history) finishes.turns) goes.base goes.answered;
+      places = places;
+      catalogue = subst (λ places. HasSeen first last (catalogue_places places)) (sym places) goes.catalogue;
+      answered = goes.answered;
       ordered = goes.ordered;
       gives = goes.output;
       output = sym (ap (λ told. told_text told ++ (finishes.out ++ finishes.missing)) untold) ∙ finishes.said;

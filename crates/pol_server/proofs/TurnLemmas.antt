@@ -20,7 +20,7 @@ pub each-weaken : {X : Type 0} (P Q : X → Type 0) (xs : List X) → ((x : X) �
 each-weaken P Q [] weaker each = tt
 each-weaken P Q (x ∷ xs) weaker each = (weaker x each.0, each-weaken P Q xs weaker each.1)
 
-module _ (base : Rows) (history more : List Entry) where
+module _ (base : Rows) (number : ℕ) (history more : List Entry) where
   -- an entry stays where it is, and so does what stands before it
   there-longer : (place : ℕ) (entry : Entry) → slice_get history place ≡ Some entry → slice_get (history ++ more) place ≡ Some entry
   there-longer place entry there =
@@ -33,7 +33,7 @@ module _ (base : Rows) (history more : List Entry) where
   before-longer : (count : ℕ) → count ≤ length history → take count (history ++ more) ≡ take count history
   before-longer count within = take-append-le count history more within
 
-  stepped-longer : (turn : Turn) (place : ℕ) → IsStepped base 0 history turn place → IsStepped base 0 (history ++ more) turn place
+  stepped-longer : (turn : Turn) (place : ℕ) → IsStepped base number history turn place → IsStepped base number (history ++ more) turn place
   stepped-longer turn place is =
       let within : place < length history = slice_get_within history place is.entry is.there in
       let same : take place (history ++ more) ≡ take place history = before-longer place (omega arith) in
@@ -43,13 +43,12 @@ module _ (base : Rows) (history more : List Entry) where
         entry = is.entry;
         read = is.read;
         entry_is = is.entry_is;
-        entries = is.entries;
         there = there-longer place is.entry is.there;
         has_room = subst (λ front. (state_at base front).charged + is.plan.charge ≤ 2 ^ 30) (sym same) is.has_room;
         answer = is.answer ∙ ap (λ front. text_of turn.message (answer_of (reply_of (state_at base front) is.entry.command))) (sym same);
       }
 
-  full-longer : (turn : Turn) (count : ℕ) → IsFullAt base 0 history turn count → IsFullAt base 0 (history ++ more) turn count
+  full-longer : (turn : Turn) (count : ℕ) → IsFullAt base number history turn count → IsFullAt base number (history ++ more) turn count
   full-longer turn count is =
       let same : take count (history ++ more) ≡ take count history = before-longer count is.within in
       record {
@@ -57,14 +56,13 @@ module _ (base : Rows) (history more : List Entry) where
         moment = is.moment;
         charged = is.charged;
         read = is.read;
-        entries = is.entries;
         within = omega (arith, is.within, length-append history more);
         charged_is = is.charged_is ∙ ap (λ front. (state_at base front).charged) (sym same);
         full = is.full;
         answer = is.answer;
       }
 
-  answered-by : (case : Case) (turn : Turn) → AnsweredAs base 0 history case turn → AnsweredAs base 0 (history ++ more) case turn
+  answered-by : (case : Case) (turn : Turn) → AnsweredAs base number history case turn → AnsweredAs base number (history ++ more) case turn
   answered-by unplanned turn is = is
   answered-by undrawn turn is = is
   answered-by (stepped place) turn is = stepped-longer turn place is
@@ -72,9 +70,9 @@ module _ (base : Rows) (history more : List Entry) where
   answered-by without_memory turn is = is
 
   -- a turn that was answered stays so while the history goes on
-  pub answered-longer : (turns : List Turn) → AllByRecursion (IsAnswered base 0 history) turns → AllByRecursion (IsAnswered base 0 (history ++ more)) turns
+  pub answered-longer : (turns : List Turn) → AllByRecursion (IsAnswered base number history) turns → AllByRecursion (IsAnswered base number (history ++ more)) turns
   answered-longer turns answered =
-      each-weaken (IsAnswered base 0 history) (IsAnswered base 0 (history ++ more)) turns (λ turn is. answered-by turn.case turn is) answered
+      each-weaken (IsAnswered base number history) (IsAnswered base number (history ++ more)) turns (λ turn is. answered-by turn.case turn is) answered
 
 -- turns that follow others
 low_after-later : (low high : ℕ) (case : Case) → low ≤ high → low_after low case ≤ low_after high case

@@ -1,8 +1,7 @@
 -- Laws of served links.
 use Rattle.std.specs.Prelude.{◌≡◌, ◌≢◌, ◌<◌, ◌≤◌, ◌-◌, ◌^◌, ⊤, ℕ, List, [], length, Some}
 use Rattle.std.specs.List.{AllByRecursion}
-use Rattle.pol_state.specs.Rows.{Rows}
-use Rattle.pol_shared.specs.declared.entry.Entry.{Entry}
+use Rattle.pol_shared.specs.Seen.{GoesOnAlone, Seen}
 use Rattle.pol_server.specs.Ends.{Ends}
 use Rattle.pol_server.specs.Link.{ServesLink, taken_bound}
 use Rattle.pol_server.specs.Turn.{Case, Turn, full, stepped, undrawn, unplanned, without_memory}
@@ -35,8 +34,8 @@ NeedsNoFault NoMemory = ⊤
 -- message has its words, and all that was to be written was given
 abbrev pub FaultsHaveCauses : Type 0
 FaultsHaveCauses =
-    (base : Rows) (number : ℕ) (before after : Ends) (old new : List Entry) (served : Served)
-    → (link : ServesLink base number before after old new served) → NoEndFails before after → length link.taken < taken_bound
+    (before after : Ends) (old new : Seen) (served : Served)
+    → (link : ServesLink before after old new served) → NoEndFails before after → length link.taken < taken_bound
     → NeedsNoFault served.ending × AllByRecursion (λ turn. turn.case ≢ undrawn) link.turns × (link.missing ≡ [])
 
 -- what an end tells before the link is served
@@ -71,12 +70,13 @@ pub record IsServedByInput (ending : Ending) (turns : List Turn) : Type 0 where
   pub by_input : IsByInput ending
   pub unhindered : AllByRecursion (λ turn. IsUnhindered turn.case) turns
 
--- what is given, the places, the ending and the history follow from the first state, the history before, and the
--- bytes, moments and words that come
+-- where nobody else enters anything, what is given, the places, the ending and the history follow from what the pass has
+-- seen before, and from the bytes, moments and words that come
 abbrev pub OneOutput : Type 0
 OneOutput =
-    (base : Rows) (number : ℕ) (before after other_after : Ends) (old new other_new : List Entry) (served other_served : Served)
-    → (link : ServesLink base number before after old new served)
-    → (other : ServesLink base number before other_after old other_new other_served)
+    (before after other_after : Ends) (old new other_new : Seen) (served other_served : Served)
+    → (link : ServesLink before after old new served)
+    → (other : ServesLink before other_after old other_new other_served)
+    → GoesOnAlone old.number old.front new.front → GoesOnAlone old.number old.front other_new.front
     → IsKnown before → IsServedByInput served.ending link.turns → IsServedByInput other_served.ending other.turns
     → (link.given ≡ other.given) × (served.places ≡ other_served.places) × (served.ending ≡ other_served.ending) × (new ≡ other_new)

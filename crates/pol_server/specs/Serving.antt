@@ -5,18 +5,16 @@ use Rattle.std.specs.Io.KnownBytes.{Appends, Consumes, IsAtEnd}
 use Rattle.pol_http.specs.Answer.{answer_text}
 use Rattle.pol_http.specs.Message.{HasAskingHead, IsMessage, Message, print_message}
 use Rattle.pol_http.specs.declared.answer.TheConstants.{CONTINUE, INSUFFICIENT_STORAGE}
-use Rattle.pol_machine.specs.Machine.{reply_of}
 use Rattle.pol_commands.specs.declared.command.Command.{Command}
 use Rattle.pol_commands.specs.declared.command.Words4.{Words4}
-use Rattle.pol_commands.specs.declared.reply.Refusal.TheVariants as refusal
-use Rattle.pol_commands.specs.declared.reply.Reply.TheVariants.{Refused}
 use Rattle.pol_answers.specs.Texts.{answer_of}
-use Rattle.pol_shared.specs.History.{Log, entered, state_of}
+use Rattle.pol_shared.specs.Seen.{HasSeen, Seen}
+use Rattle.pol_shared.specs.Stepped.{IsDoneIn, IsFullIn}
 use Rattle.pol_wire.specs.Faults.{Rises}
 use Rattle.pol_wire.specs.Streams.{IsShifted}
 use Rattle.pol_server.specs.Ends.{Ends}
 use Rattle.pol_server.specs.Link.{EndsLastText, IsRefusedRest, IsRestWithoutMemory, IsUnfinishedRest, MayBeGiven}
-use Rattle.pol_server.specs.Turn.{framed, IsAnswered, IsFrom, IsOrdered, LastCloses, NoneCloses, Turn, failed_draws, failed_in, low_after, output_of, place_of, four_words}
+use Rattle.pol_server.specs.Turn.{framed, IsAnswered, IsFrom, IsOrdered, LastCloses, NoneCloses, Turn, catalogue_place, catalogue_places, failed_draws, failed_in, low_after, output_of, place_of, four_words}
 use Rattle.pol_server.specs.declared.connection.Connection.{Connection}
 use Rattle.pol_server.specs.declared.connection.Stop.{Stop}
 use Rattle.pol_server.specs.declared.connection.Stop.TheVariants as stop
@@ -51,7 +49,7 @@ text_by (Some text) = text
 text_by None = INSUFFICIENT_STORAGE.now
 
 -- a message was handled
-pub record Handles (old new : Ends) (before after : Log) (message : Message) (place : Place) (text : Option (List ℕ)) : Type 0 where
+pub record Handles (old new : Ends) (before after : Seen) (message : Message) (place : Place) (text : Option (List ℕ)) : Type 0 where
   pub turn : Turn
   pub message_is : turn.message ≡ message
   pub same : new ≡ record old { moments = new.moments; words = new.words; draw_faults = new.draw_faults }
@@ -59,39 +57,35 @@ pub record Handles (old new : Ends) (before after : Log) (message : Message) (pl
   pub words : IsShifted old.words new.words turn.words
   pub kept : old.draw_faults ≤ new.draw_faults
   pub draws : new.draw_faults < 2 ^ 64 - 1 → old.draw_faults + failed_in turn.case ≤ new.draw_faults
-  pub base : after.base ≡ before.base
-  pub history : after.history ≡ before.history ++ turn.entries
-  pub answered : IsAnswered after.base 0 after.history turn
-  pub from : IsFrom (length before.history) turn.case
-  pub below : low_after (length before.history) turn.case ≤ length after.history
+  pub catalogue : HasSeen before after (catalogue_place (place_of turn))
+  pub answered : IsAnswered after.base after.number after.front turn
+  pub from : IsFrom (length before.front) turn.case
+  pub below : low_after (length before.front) turn.case ≤ length after.front
   pub place_is : place ≡ place_of turn
   pub text_is : text_by text ≡ turn.answer
 
 -- what came of a command: it was entered and its reply rendered, or the run was full, or memory was wanting
-abbrev pub IsEntered : Log → Log → Command → Bool → Bool → Place → Option (List ℕ) → Type 0
+abbrev pub IsEntered : Seen → Seen → Command → Bool → Bool → Place → Option (List ℕ) → Type 0
 IsEntered before after command close head_only (Catalogue place) (Some text) =
-    (place ≡ length before.history) × (after ≡ entered before (record { number = 0; command = command }))
-    × ((state_of before).charged + command.charge ≤ 2 ^ 30)
-    × (text ≡ answer_text (framed close head_only (answer_of (reply_of (state_of before) command))))
+    IsDoneIn (λ reply text. text ≡ answer_text (framed close head_only (answer_of reply))) before after command place text
 IsEntered before after command close head_only (Catalogue place) None = ⊥
 IsEntered before after command close head_only NoEntry (Some text) =
-    (after ≡ before) × (2 ^ 30 < (state_of before).charged + command.charge)
-    × (text ≡ answer_text (framed close head_only (answer_of (Refused (refusal.RunFull (state_of before).charged command.charge)))))
-IsEntered before after command close head_only NoEntry None = after ≡ before
+    (charged charge : ℕ) × IsFullIn (λ reply text. text ≡ answer_text (framed close head_only (answer_of reply))) before after command charged charge text
+IsEntered before after command close head_only NoEntry None = HasSeen before after []
 
 -- what is seen while a link is served
 pub record Standing : Type 0 where
   pub ends : Ends
-  pub log : Log
+  pub seen : Seen
   pub places : List Place
   pub buffer : List ℕ
   pub budget : ℕ
   pub told : Bool
 
-abbrev pub standing : Ends → Log → Connection → Standing
-standing ends log connection = record {
+abbrev pub standing : Ends → Seen → Connection → Standing
+standing ends seen connection = record {
   ends = ends;
-  log = log;
+  seen = seen;
   places = connection.places.items;
   buffer = connection.buffer.items;
   budget = connection.budget;
@@ -108,7 +102,6 @@ IsToldAsked told buffer = told ≡ true → HasAskingHead buffer
 
 -- from one moment to another these turns were taken, these bytes taken, and these given
 pub record Goes (a b : Standing) (turns : List Turn) (taken out : List ℕ) : Type 0 where
-  pub base : b.log.base ≡ a.log.base
   pub bytes : Consumes a.ends.left b.ends.left taken
   pub output : Appends a.ends.given b.ends.given out
   pub moments : IsShifted a.ends.moments b.ends.moments (flat_map (λ turn. turn.moments) turns)
@@ -117,13 +110,13 @@ pub record Goes (a b : Standing) (turns : List Turn) (taken out : List ℕ) : Ty
   pub sink_faults : a.ends.sink_faults ≤ b.ends.sink_faults
   pub draw_faults : a.ends.draw_faults ≤ b.ends.draw_faults
   pub draws : b.ends.draw_faults < 2 ^ 64 - 1 → a.ends.draw_faults + failed_draws turns ≤ b.ends.draw_faults
-  pub history : b.log.history ≡ a.log.history ++ flat_map (λ turn. turn.entries) turns
+  pub catalogue : HasSeen a.seen b.seen (catalogue_places (map place_of turns))
   pub cut : a.buffer ++ taken ≡ flat_map (λ turn. print_message turn.message) turns ++ b.buffer
   pub places : b.places ≡ a.places ++ map place_of turns
   pub budget : b.budget + length taken ≡ a.budget
   pub whole : AllByRecursion (λ turn. IsMessage turn.message) turns
-  pub answered : AllByRecursion (IsAnswered b.log.base 0 b.log.history) turns
-  pub ordered : IsOrdered (length a.log.history) turns (length b.log.history)
+  pub answered : AllByRecursion (IsAnswered b.seen.base b.seen.number b.seen.front) turns
+  pub ordered : IsOrdered (length a.seen.front) turns (length b.seen.front)
 
 -- the link goes on
 pub record Continues (a b : Standing) : Type 0 where

@@ -1,6 +1,6 @@
 -- Turns of a served link: one for each message that was handled, with what was read for it and how it was answered.
 use Rattle.std.specs.Prelude.{◌≡◌, ◌<◌, ◌≤◌, ◌+◌, ◌^◌, ◌⊎◌, ⊤, ℕ, Bool, true, false, List, [], ◌∷◌, ◌++◌, length, take, slice_get, slice_index, Some, Ok, Err, codes, if◌then◌else◌}
-use Rattle.std.specs.List.{AllByRecursion}
+use Rattle.std.specs.List.{AllByRecursion, flat_map}
 use Rattle.std.specs.Str.{bytes_eq}
 use Rattle.pol_http.specs.Answer.{answer_text}
 use Rattle.pol_http.specs.Head.{asks, closes}
@@ -34,13 +34,11 @@ pub data Case : Type 0 where
   -- memory was wanting
   without_memory : Case
 
--- a message with the moments and words that were read for it, what it entered into the history, and the bytes of
--- its answer
+-- a message with the moments and words that were read for it, how it was answered, and the bytes of its answer
 pub record Turn : Type 0 where
   pub message : Message
   pub moments : List ℕ
   pub words : List ℕ
-  pub entries : List Entry
   pub case : Case
   pub answer : List ℕ
 
@@ -66,7 +64,6 @@ pub record IsUnplanned (turn : Turn) : Type 0 where
   pub refused : plan_of turn.message ≡ Err why
   pub moments : turn.moments ≡ []
   pub words : turn.words ≡ []
-  pub entries : turn.entries ≡ []
   pub answer : turn.answer ≡ text_of turn.message (refusal_answer why)
 
 -- one moment was read, and then fewer words than the plan asks for, since a draw failed; the answer says so, unless memory
@@ -76,7 +73,6 @@ pub record IsUndrawn (turn : Turn) : Type 0 where
   pub planned : plan_of turn.message ≡ Ok plan
   pub moments : length turn.moments ≡ 1
   pub words : length turn.words < plan.words
-  pub entries : turn.entries ≡ []
   pub answer : (turn.answer ≡ text_of turn.message draw_fault_answer) ⊎ (turn.answer ≡ INSUFFICIENT_STORAGE.now)
 
 -- the message's plan, with the moment and the words that were read for its command
@@ -85,11 +81,10 @@ pub record IsRead (turn : Turn) (plan : Planned) (moment : ℕ) : Type 0 where
   pub moments : turn.moments ≡ moment ∷ []
   pub words : length turn.words ≡ plan.words
 
--- nothing was entered, and what was read is nothing, or one moment and the words that the plan asks for
+-- what was read is nothing, or one moment and the words that the plan asks for
 pub record IsWithoutMemory (turn : Turn) : Type 0 where
   pub reads : ((turn.moments ≡ []) × (turn.words ≡ []))
       ⊎ ((plan : Planned) × (moment : ℕ) × IsRead turn plan moment)
-  pub entries : turn.entries ≡ []
   pub answer : turn.answer ≡ INSUFFICIENT_STORAGE.now
 
 -- in a history from a first state, where the pass of this number serves the link
@@ -101,7 +96,6 @@ module _ (base : Rows) (number : ℕ) (history : List Entry) where
     pub entry : Entry
     pub read : IsRead turn plan moment
     pub entry_is : entry ≡ record { number = number; command = command_of plan moment (four_words turn.words) }
-    pub entries : turn.entries ≡ entry ∷ []
     pub there : slice_get history place ≡ Some entry
     pub has_room : (state_at base (take place history)).charged + plan.charge ≤ 2 ^ 30
     pub answer : turn.answer ≡ text_of turn.message (answer_of (reply_of (state_at base (take place history)) entry.command))
@@ -112,7 +106,6 @@ module _ (base : Rows) (number : ℕ) (history : List Entry) where
     pub moment : ℕ
     pub charged : ℕ
     pub read : IsRead turn plan moment
-    pub entries : turn.entries ≡ []
     pub within : count ≤ length history
     pub charged_is : charged ≡ (state_at base (take count history)).charged
     pub full : 2 ^ 30 < charged + plan.charge
@@ -139,6 +132,14 @@ place_by without_memory = NoEntry
 
 abbrev pub place_of : Turn → Place
 place_of turn = place_by turn.case
+
+-- the places of the catalogue's history among these
+abbrev pub catalogue_place : Place → List ℕ
+catalogue_place (Catalogue place) = place ∷ []
+catalogue_place NoEntry = []
+
+abbrev pub catalogue_places : List Place → List ℕ
+catalogue_places places = flat_map catalogue_place places
 
 -- the number of a case is not below the earlier ones
 abbrev pub IsFrom : ℕ → Case → Type 0

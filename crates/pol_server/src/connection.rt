@@ -4,7 +4,7 @@ ghost use Rattle.std.specs.Option.{option_map};
 ghost use Rattle.pol_http.specs.Head.{asks};
 ghost use Rattle.pol_http.specs.Message.{HasAskingHead, HasNoMessage, IsRefusedAs, Message};
 ghost use Rattle.pol_http.specs.Next.{Awaits, IsMessageAt, IsUnfinished, LiesWithin};
-ghost use Rattle.pol_shared.specs.History.{Log};
+ghost use Rattle.pol_shared.specs.Seen.{Seen};
 ghost use Rattle.pol_server.specs.Link.{IsToldBefore, IsUnfinishedRest};
 ghost use Rattle.pol_server.specs.Serving.{Finishes, GivesAll, IsEndingOf, IsOwnEnding, IsStopped, IsToldAsked, IsUnread, KeepsStop, Moves, ReadsOn, Says, standing, text_by, told_text, work_of};
 
@@ -17,7 +17,7 @@ use pol_http::{
     CONTINUE, Head, HeadRefused, INSUFFICIENT_STORAGE, Next, missing_bytes, next_message,
 };
 use pol_routes::Routes;
-use pol_shared::Kept;
+use pol_shared::Shared;
 use pol_types::OutOfMemory;
 use pol_wire::Failed;
 use std::alloc::Global;
@@ -155,8 +155,8 @@ impl Connection {
     fn refuse<L: Linked>(&self, alloc: Global, link: &mut L, why: HeadRefused) -> Option<Ending>
         requires refused { IsRefusedAs self.now.buffer.items why }
         requires told { IsToldAsked self.now.told self.now.buffer.items }
-        ensures moves { (log : Log) → Moves result (standing (L.ends link.old) log self.now)
-            (standing (L.ends link.new) log self.now) }
+        ensures moves { (seen : Seen) → Moves result (standing (L.ends link.old) seen self.now)
+            (standing (L.ends link.new) seen self.now) }
         ensures unread { IsUnread (L.ends link.old) (L.ends link.new) self.now self.now }
         ensures ended { IsSomeAnd result IsOwnEnding }
     {
@@ -173,8 +173,8 @@ impl Connection {
         requires told { IsToldAsked self.old.told self.old.buffer.items }
         requires at_end { ((at_end ≡ Ending.Ended) × (self.old.buffer.items ≡ []) × (self.old.told ≡ false))
             ⊎ ((at_end ≡ Ending.Cut) × (self.old.buffer.items ≢ [])) }
-        ensures moves { (log : Log) → Moves result (standing (L.ends link.old) log self.old)
-            (standing (L.ends link.new) log self.new) }
+        ensures moves { (seen : Seen) → Moves result (standing (L.ends link.old) seen self.old)
+            (standing (L.ends link.new) seen self.new) }
         ensures told { IsToldAsked self.new.told self.new.buffer.items }
         ensures stops { KeepsStop (L.ends link.old) (L.ends link.new) self.old self.new }
         ensures ending { IfSome result (IsEndingOf self.new.stop) }
@@ -198,7 +198,7 @@ impl Connection {
         &mut self,
         alloc: Global,
         routes: &Routes,
-        catalogue: &mut Kept,
+        catalogue: &mut Shared,
         link: &mut L,
         head: &Head,
         body: Span,
@@ -236,7 +236,7 @@ impl Connection {
         &mut self,
         alloc: Global,
         routes: &Routes,
-        catalogue: &mut Kept,
+        catalogue: &mut Shared,
         link: &mut L,
         head: &Head,
         body: Span,
@@ -262,7 +262,7 @@ impl Connection {
         &mut self,
         alloc: Global,
         routes: &Routes,
-        catalogue: &mut Kept,
+        catalogue: &mut Shared,
         link: &mut L,
         head: &Head,
         body: Span,
@@ -286,8 +286,8 @@ impl Connection {
     /// Tells the message at the front to go on, and waits for its body.
     fn go_on<L: Linked>(&mut self, link: &mut L) -> Option<Ending>
         requires awaits { Awaits self.old.buffer.items }
-        ensures moves { (log : Log) → Moves result (standing (L.ends link.old) log self.old)
-            (standing (L.ends link.new) log self.new) }
+        ensures moves { (seen : Seen) → Moves result (standing (L.ends link.old) seen self.old)
+            (standing (L.ends link.new) seen self.new) }
         ensures told { result ≡ None → IsToldAsked self.new.told self.new.buffer.items }
         ensures stops { KeepsStop (L.ends link.old) (L.ends link.new) self.old self.new }
         ensures ending { IfSome result (IsEndingOf self.new.stop) }
@@ -303,8 +303,8 @@ impl Connection {
     fn await_more<L: Linked>(&mut self, link: &mut L) -> Option<Ending>
         requires unfinished { IsUnfinished self.old.buffer.items }
         requires told { IsToldAsked self.old.told self.old.buffer.items }
-        ensures moves { (log : Log) → Moves result (standing (L.ends link.old) log self.old)
-            (standing (L.ends link.new) log self.new) }
+        ensures moves { (seen : Seen) → Moves result (standing (L.ends link.old) seen self.old)
+            (standing (L.ends link.new) seen self.new) }
         ensures told { result ≡ None → IsToldAsked self.new.told self.new.buffer.items }
         ensures stops { KeepsStop (L.ends link.old) (L.ends link.new) self.old self.new }
         ensures ending { IfSome result (IsEndingOf self.new.stop) }
@@ -333,7 +333,7 @@ impl Connection {
         &mut self,
         alloc: Global,
         routes: &Routes,
-        catalogue: &mut Kept,
+        catalogue: &mut Shared,
         link: &mut L,
     ) -> Option<Ending>
         requires told { IsToldAsked self.old.told self.old.buffer.items }
@@ -359,7 +359,12 @@ impl Connection {
     }
 
     /// Serves the link until it ends. Where there is no memory for the routes, it ends at once.
-    pub fn serve<L: Linked>(&mut self, alloc: Global, catalogue: &mut Kept, link: &mut L) -> Ending
+    pub fn serve<L: Linked>(
+        &mut self,
+        alloc: Global,
+        catalogue: &mut Shared,
+        link: &mut L,
+    ) -> Ending
         requires empty { self.old.buffer.items ≡ [] }
         requires stop { self.old.stop ≡ None }
         requires told { self.old.told ≡ false }
@@ -379,7 +384,7 @@ impl Connection {
         &mut self,
         alloc: Global,
         routes: &Routes,
-        catalogue: &mut Kept,
+        catalogue: &mut Shared,
         link: &mut L,
     ) -> Ending
         requires stop { self.old.stop ≡ None }
@@ -400,8 +405,8 @@ impl Connection {
     fn end_without_memory<L: Linked>(&self, link: &mut L) -> Ending
         requires empty { self.now.buffer.items ≡ [] }
         requires told { self.now.told ≡ false }
-        ensures finishes { (log : Log) → Finishes result (standing (L.ends link.old) log self.now)
-            (standing (L.ends link.new) log self.now) }
+        ensures finishes { (seen : Seen) → Finishes result (standing (L.ends link.old) seen self.now)
+            (standing (L.ends link.new) seen self.now) }
         ensures ending { IsOwnEnding result }
     {
         match give_all(link, INSUFFICIENT_STORAGE) {

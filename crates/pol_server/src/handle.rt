@@ -21,12 +21,9 @@ use pol_http::{Answer, Head, HeadRefused, write_answer};
 use pol_machine::{Command, Reply};
 use pol_requests::{RouteRefused, Unplanned};
 use pol_routes::{Planned, Routes, command_of, plan};
-use pol_shared::{Kept, Render, Stepped};
+use pol_shared::{Render, Shared, Stepped};
 use pol_types::OutOfMemory;
 use std::alloc::Global;
-
-/// The number of the founding pass, which serves the one link.
-const FOUNDING: u64 = 0;
 
 /// How a message was answered: its place in the history, and the bytes of its answer, unless memory was wanting.
 #[derive(Debug, Drop)]
@@ -85,7 +82,7 @@ fn framing_of(bytes: &[u8], head: &Head) -> Framing
 pub(crate) fn handle<L: Linked>(
     alloc: Global,
     routes: &Routes,
-    catalogue: &mut Kept,
+    catalogue: &mut Shared,
     link: &mut L,
     bytes: &[u8],
     head: &Head,
@@ -143,7 +140,7 @@ fn draw_fault_text(alloc: Global, framing: Framing) -> Result<Vec<u8>, OutOfMemo
 /// Answers a message by its plan.
 fn answer_plan<L: Linked>(
     alloc: Global,
-    catalogue: &mut Kept,
+    catalogue: &mut Shared,
     link: &mut L,
     planned: Planned,
     framing: Framing,
@@ -169,12 +166,12 @@ fn answer_plan<L: Linked>(
 }
 
 /// Steps a command.
-fn step(alloc: Global, catalogue: &mut Kept, command: Command, framing: Framing) -> Handled
+fn step(alloc: Global, catalogue: &mut Shared, command: Command, framing: Framing) -> Handled
     requires { command.moment ≤ 2 ^ 62 }
     ensures { IsEntered catalogue.old catalogue.new command framing.close framing.head_only result.place
         (option_map (λ text. text.items) result.text) }
 {
-    match catalogue.step(alloc, FOUNDING, command, &framing) {
+    match catalogue.step(alloc, command, &framing) {
         Stepped::Done { place, out } => Handled {
             place: Place::Catalogue(place),
             text: Some(out),

@@ -5,7 +5,7 @@ ghost use Rattle.pol_server.specs.Link.{ServesLink};
 
 use crate::Served;
 use crate::connection::Connection;
-use pol_shared::Kept;
+use pol_shared::Shared;
 use pol_types::Listed;
 use pol_wire::{Clock, Draw, Link, Sink, Source};
 use std::alloc::Global;
@@ -15,14 +15,13 @@ use std::alloc::Global;
 /// more bytes are taken for another is not in the contract.
 pub fn serve_connection<S: Source, K: Sink, C: Clock, W: Draw>(
     alloc: Global,
-    catalogue: &mut Kept,
+    catalogue: &mut Shared,
     link: &mut Link<S, K, C, W>,
 ) -> Served
-    ensures link { ServesLink catalogue.old.base 0
+    ensures { ServesLink
         (ends_of S.left S.faults K.given K.faults C.moments W.words W.faults link.old)
         (ends_of S.left S.faults K.given K.faults C.moments W.words W.faults link.new)
-        catalogue.old.history catalogue.new.history result }
-    ensures base { catalogue.new.base ≡ catalogue.old.base }
+        catalogue.old catalogue.new result }
 {
     let mut connection = Connection::new(alloc);
     let ending = connection.serve(alloc, catalogue, link);

@@ -1,3 +1,4 @@
 pub mod EntryLemmas
 pub mod FullLemmas
+pub mod SeenLemmas
 pub mod SteppedLemmas

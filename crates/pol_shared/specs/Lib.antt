@@ -1,2 +1,4 @@
 pub mod History
+pub mod Passes
+pub mod Seen
 pub mod Stepped

@@ -5,6 +5,7 @@ mod closed;
 mod entry;
 mod kept;
 mod render;
+mod shared;
 mod stages;
 mod stepped;
 
@@ -12,4 +13,5 @@ pub use closed::Closed;
 pub use entry::Entry;
 pub use kept::Kept;
 pub use render::Render;
+pub use shared::Shared;
 pub use stepped::Stepped;

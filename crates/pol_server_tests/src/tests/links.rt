@@ -1,5 +1,5 @@
 use pol_server::{Ending, Place, serve_connection};
-use pol_shared::Kept;
+use pol_shared::Shared;
 use pol_wire::{CountingDraw, Link, MemoryClock, MemorySink, MemorySource};
 use std::alloc::{AllocError, Global};
 use std::test::Fail;
@@ -65,7 +65,7 @@ fn linked(alloc: Global, case: &Case<'_>) -> Result<MemoryLink, AllocError> {
 }
 
 /// Whether a link ends so, with these places.
-fn is_served(alloc: Global, catalogue: &mut Kept, case: &Case<'_>) -> Option<bool> {
+fn is_served(alloc: Global, catalogue: &mut Shared, case: &Case<'_>) -> Option<bool> {
     let mut link = linked(alloc, case).ok()?;
     let served = serve_connection(alloc, catalogue, &mut link);
     let is_right = served.ending == case.2 && served.places.as_slice() == case.3;
@@ -75,7 +75,7 @@ fn is_served(alloc: Global, catalogue: &mut Kept, case: &Case<'_>) -> Option<boo
 }
 
 /// Whether these links are served so, one after the other.
-fn are_served(alloc: Global, catalogue: &mut Kept, cases: &[Case<'_>]) -> bool {
+fn are_served(alloc: Global, catalogue: &mut Shared, cases: &[Case<'_>]) -> bool {
     for case in cases {
         if is_served(alloc, catalogue, case) != Some(true) {
             return false;
@@ -86,7 +86,7 @@ fn are_served(alloc: Global, catalogue: &mut Kept, cases: &[Case<'_>]) -> bool {
 
 #[test]
 fn links_share_one_history(rt: HostRuntime) -> Result<(), Fail> {
-    let mut catalogue = Kept::fresh(rt.alloc(), "s3cret")?;
+    let mut catalogue = Shared::fresh(rt.alloc(), "s3cret")?;
     let served = are_served(rt.alloc(), &mut catalogue, &LINKS);
     drop(catalogue);
     assert!(rt; served);

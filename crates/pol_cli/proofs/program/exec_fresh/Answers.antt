@@ -6,7 +6,8 @@ use Rattle.pol_cli.proofs.program.exec_fresh.Goals as goal
 
 pub returns-in-Ok : goal.returns-in-Ok
 returns-in-Ok g c = record {
-  runs = runs-fresh c.args.root_secret.now c.in-Ok.catalogue _ _ _ c.exec-report.result c.in-Ok.ensures c.exec-report.ensures.serves;
+  runs = runs-fresh c.args.root_secret.now c.in-Ok.catalogue c.exec-report.new.catalogue _ _ c.exec-report.result c.in-Ok.ensures
+      (c.exec-report.ensures.made ∙ ap (λ seen. seen.made) c.in-Ok.ensures) c.close.ensures.passes c.exec-report.ensures.serves;
   untouched = c.exec-report.ensures.untouched;
 }
 

@@ -2,8 +2,8 @@ use Rattle.std.proofs.Common.{◌∙◌}
 use Rattle.pol_server.proofs.ServeLemmas.{serves}
 use Rattle.pol_server.proofs.serve.serve_connection.Goals as goal
 
-pub returns-clause-link : goal.returns-clause-link
-returns-clause-link g c =
+pub returns : goal.returns
+returns g c =
     serves _ _ c.args.catalogue.now c.serve-ending.new.catalogue c.new-connection.result c.serve-ending.new.self _
     c.serve-ending.ensures.finishes c.new-connection.ensures.buffer c.new-connection.ensures.places c.new-connection.ensures.budget c.new-connection.ensures.told
     c.serve-ending.ensures.ending c.serve-ending.ensures.stopped (c.from-places.ensures ∙ c.into_places.ensures)

@@ -14,7 +14,7 @@ returns-in_default-clause-moves g c =
     let kept = c.in_default.ensures.kept in
     let asking : HasAskingHead c.args.self.now.buffer.items = message-asks c.args.self.now.buffer.items message (drop c.args.body.end c.args.self.now.buffer.items) at.reads (sym at.head_is.asks ∙ failed.1) in
     finishes-telling (standing (ends c.args.link.now) c.args.catalogue.now c.args.self.now) (standing (ends c.tell.new.link) c.args.catalogue.now c.tell.new.self) (Err c.in_default.field-0) failed.2 refl
-    (record { log = refl; places = ap (λ self. self.places.items) kept; buffer = ap (λ self. self.buffer.items) kept; budget = ap (λ self. self.budget) kept })
+    (record { seen = refl; places = ap (λ self. self.places.items) kept; buffer = ap (λ self. self.buffer.items) kept; budget = ap (λ self. self.budget) kept })
     failed.0 (subst (λ self. HasAskingHead self.buffer.items) (sym kept) asking)
 
 pub answer_told-requires-clause-parts : goal.answer_told-requires-clause-parts
@@ -33,6 +33,6 @@ returns-clause-moves g c =
     let told = c.in-Ok.ensures.told in
     moves-after c.answer_told.result (standing (ends c.args.link.now) c.args.catalogue.now c.args.self.now) (standing (ends c.tell.new.link) c.args.catalogue.now c.tell.new.self) (standing (ends c.answer_told.new.link) c.answer_told.new.catalogue c.answer_told.new.self)
     (continues-telling (standing (ends c.args.link.now) c.args.catalogue.now c.args.self.now) (standing (ends c.tell.new.link) c.args.catalogue.now c.tell.new.self) c.args.head.now.asks (Ok c.in-Ok.field-0) c.in-Ok.ensures.given refl
-    (record { log = refl; places = ap (λ self. self.places.items) told; buffer = ap (λ self. self.buffer.items) told; budget = ap (λ self. self.budget) told })
+    (record { seen = refl; places = ap (λ self. self.places.items) told; buffer = ap (λ self. self.buffer.items) told; budget = ap (λ self. self.budget) told })
     (ap (λ self. self.told) told))
     c.answer_told.ensures.moves

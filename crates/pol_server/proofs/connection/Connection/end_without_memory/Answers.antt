@@ -14,7 +14,7 @@ finishes a b ending says stays empty untold =
     moves-wanting a b (Some ending) says stays (inr ((λ asking. asking-some b.buffer asking empty), ap told_text untold))
 
 pub returns-in-Ok-clause-finishes : goal.returns-in-Ok-clause-finishes
-returns-in-Ok-clause-finishes g c = λ log.
+returns-in-Ok-clause-finishes g c = λ seen.
     let ends = g.L.Linked.ends in
     let gives = c.in-Ok.ensures in
     let says : Says (ends c.args.link.now) (ends c.give_all.new.link) INSUFFICIENT_STORAGE.now (Some NoMemory) (Some NoMemory) = record {
@@ -26,11 +26,11 @@ returns-in-Ok-clause-finishes g c = λ log.
       gives = gives.gives;
       outcome = inl (refl, gives.complete);
     } in
-    finishes (standing (ends c.args.link.now) log c.args.self.now) (standing (ends c.give_all.new.link) log c.args.self.now) NoMemory
-    says (record { log = refl; places = refl; buffer = refl; budget = refl }) c.requires.empty c.requires.told
+    finishes (standing (ends c.args.link.now) seen c.args.self.now) (standing (ends c.give_all.new.link) seen c.args.self.now) NoMemory
+    says (record { seen = refl; places = refl; buffer = refl; budget = refl }) c.requires.empty c.requires.told
 
 pub returns-in-Err-clause-finishes : goal.returns-in-Err-clause-finishes
-returns-in-Err-clause-finishes g c = λ log.
+returns-in-Err-clause-finishes g c = λ seen.
     let ends = g.L.Linked.ends in
     let gives = c.in-Err.ensures in
     let says : Says (ends c.args.link.now) (ends c.give_all.new.link) INSUFFICIENT_STORAGE.now (Some NoMemory) (Some WriteFault) = record {
@@ -42,5 +42,5 @@ returns-in-Err-clause-finishes g c = λ log.
       gives = gives.gives;
       outcome = inr (refl, gives.caused);
     } in
-    finishes (standing (ends c.args.link.now) log c.args.self.now) (standing (ends c.give_all.new.link) log c.args.self.now) WriteFault
-    says (record { log = refl; places = refl; buffer = refl; budget = refl }) c.requires.empty c.requires.told
+    finishes (standing (ends c.args.link.now) seen c.args.self.now) (standing (ends c.give_all.new.link) seen c.args.self.now) WriteFault
+    says (record { seen = refl; places = refl; buffer = refl; budget = refl }) c.requires.empty c.requires.told

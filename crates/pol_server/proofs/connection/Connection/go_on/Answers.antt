@@ -6,12 +6,12 @@ use Rattle.pol_server.proofs.MovesLemmas.{asking-some, continues-telling, finish
 use Rattle.pol_server.proofs.connection.Connection.go_on.Goals as goal
 
 pub returns-in_default-clause-moves : goal.returns-in_default-clause-moves
-returns-in_default-clause-moves g c = λ log.
+returns-in_default-clause-moves g c = λ seen.
     let ends = g.L.Linked.ends in
     let failed = c.in_default.ensures.failed in
     let kept = c.in_default.ensures.kept in
-    finishes-telling (standing (ends c.args.link.now) log c.args.self.now) (standing (ends c.tell.new.link) log c.tell.new.self) (Err c.in_default.field-0) failed.2 refl
-    (record { log = refl; places = ap (λ self. self.places.items) kept; buffer = ap (λ self. self.buffer.items) kept; budget = ap (λ self. self.budget) kept })
+    finishes-telling (standing (ends c.args.link.now) seen c.args.self.now) (standing (ends c.tell.new.link) seen c.tell.new.self) (Err c.in_default.field-0) failed.2 refl
+    (record { seen = refl; places = ap (λ self. self.places.items) kept; buffer = ap (λ self. self.buffer.items) kept; budget = ap (λ self. self.budget) kept })
     failed.0 (subst (λ self. HasAskingHead self.buffer.items) (sym kept) c.requires.awaits.asking)
 
 pub wait-requires-clause-unfinished : goal.wait-requires-clause-unfinished
@@ -27,11 +27,11 @@ wait-requires-clause-at_end g c =
     inr (refl, subst (λ self. self.buffer.items ≢ []) (sym c.in-Ok.ensures.told) (asking-some c.args.self.now.buffer.items c.requires.awaits.asking))
 
 pub returns-clause-moves : goal.returns-clause-moves
-returns-clause-moves g c = λ log.
+returns-clause-moves g c = λ seen.
     let ends = g.L.Linked.ends in
     let told = c.in-Ok.ensures.told in
-    moves-after c.wait.result (standing (ends c.args.link.now) log c.args.self.now) (standing (ends c.tell.new.link) log c.tell.new.self) (standing (ends c.wait.new.link) log c.wait.new.self)
-    (continues-telling (standing (ends c.args.link.now) log c.args.self.now) (standing (ends c.tell.new.link) log c.tell.new.self) true (Ok c.in-Ok.field-0) c.in-Ok.ensures.given refl
-    (record { log = refl; places = ap (λ self. self.places.items) told; buffer = ap (λ self. self.buffer.items) told; budget = ap (λ self. self.budget) told })
+    moves-after c.wait.result (standing (ends c.args.link.now) seen c.args.self.now) (standing (ends c.tell.new.link) seen c.tell.new.self) (standing (ends c.wait.new.link) seen c.wait.new.self)
+    (continues-telling (standing (ends c.args.link.now) seen c.args.self.now) (standing (ends c.tell.new.link) seen c.tell.new.self) true (Ok c.in-Ok.field-0) c.in-Ok.ensures.given refl
+    (record { seen = refl; places = ap (λ self. self.places.items) told; buffer = ap (λ self. self.buffer.items) told; budget = ap (λ self. self.budget) told })
     (ap (λ self. self.told) told))
-    (c.wait.ensures.moves log)
+    (c.wait.ensures.moves seen)
