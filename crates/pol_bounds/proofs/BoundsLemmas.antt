@@ -34,7 +34,7 @@ use Rattle.pol_commands.specs.declared.reply.Quantity.TheVariants as quantity
 use Rattle.pol_commands.specs.declared.reply.Refusal.{Refusal}
 use Rattle.pol_commands.specs.declared.reply.Refusal.TheVariants.{Limit}
 use Rattle.pol_state.specs.Applied.{applied}
-use Rattle.pol_state.specs.Bounds.{above, allowed_count, any_above, catalog_properties, first_refusal, namespace_properties, order_count, over_limit, ref_count, refuse_if, schema_count, snapshot_count, spec_count, table_properties, table_version, table_weight, view_properties, view_schemas, view_version, view_weight}
+use Rattle.pol_state.specs.Bounds.{above, allowed_count, any_above, bound_of, catalog_properties, first_refusal, namespace_properties, order_count, over_limit, ref_count, refuse_if, schema_count, snapshot_count, spec_count, table_properties, table_version, table_weight, view_properties, view_schemas, view_version, view_weight}
 use Rattle.pol_state.specs.Changes.{changes_between, headed, id_change, in_turn, row_changes, serial_change}
 use Rattle.pol_state.specs.Rows.{Rows}
 use Rattle.pol_state.specs.Sound.{IsOrderly, IsSound}
@@ -351,21 +351,21 @@ pub record IsFew (s : Rows) : Type 0 where
 pub few_rows : (s : Rows) → IsSound s → IsFew s
 few_rows s sound =
     let passes = each-within s sound in
-    let catalogs = above-within quantity.Catalogs 1000 (length s.content.catalogs) passes.0 in
-    let principals = above-within quantity.Principals 10000 (length s.access.principals) passes.1.0 in
-    let principal_roles = above-within quantity.PrincipalRoles 10000 (length s.access.principal_roles) passes.1.1.0 in
-    let catalog_roles = above-within quantity.CatalogRoles 10000 (length s.access.catalog_roles) passes.1.1.1.0 in
+    let catalogs = above-within quantity.Catalogs (length s.content.catalogs) passes.0 in
+    let principals = above-within quantity.Principals (length s.access.principals) passes.1.0 in
+    let principal_roles = above-within quantity.PrincipalRoles (length s.access.principal_roles) passes.1.1.0 in
+    let catalog_roles = above-within quantity.CatalogRoles (length s.access.catalog_roles) passes.1.1.1.0 in
     record {
       catalogs = omega (arith, catalogs);
       principals = omega (arith, principals);
       principal_roles = omega (arith, principal_roles);
       catalog_roles = omega (arith, catalog_roles);
-      members = above-within quantity.Members 100000 (length s.access.members) passes.1.1.1.1.0;
-      joins = above-within quantity.Joins 100000 (length s.access.joins) passes.1.1.1.1.1.0;
-      grants = above-within quantity.Grants 100000 (length s.access.grants) passes.1.1.1.1.1.1.0;
-      namespaces = above-within quantity.Namespaces 100000 (length s.content.namespaces) passes.1.1.1.1.1.1.1.0;
-      tables = above-within quantity.Tables 100000 (length s.content.tables) passes.1.1.1.1.1.1.1.1.0;
-      views = above-within quantity.Views 100000 (length s.content.views) passes.1.1.1.1.1.1.1.1.1.0;
+      members = above-within quantity.Members (length s.access.members) passes.1.1.1.1.0;
+      joins = above-within quantity.Joins (length s.access.joins) passes.1.1.1.1.1.0;
+      grants = above-within quantity.Grants (length s.access.grants) passes.1.1.1.1.1.1.0;
+      namespaces = above-within quantity.Namespaces (length s.content.namespaces) passes.1.1.1.1.1.1.1.0;
+      tables = above-within quantity.Tables (length s.content.tables) passes.1.1.1.1.1.1.1.1.0;
+      views = above-within quantity.Views (length s.content.views) passes.1.1.1.1.1.1.1.1.1.0;
     }
 
 -- the first of some rules stands for them, whatever is behind, and whatever is before
@@ -382,40 +382,40 @@ nested (Some why ∷ before) rules rest = refl
 -- the bounds of the numbers that changes put, each by itself: of a table's parts, of properties, and of all
 abbrev parts_put : List Change → List (Option Refusal)
 parts_put changes =
-    any_above quantity.Schemas 1000 schemas_put changes
-    ∷ any_above quantity.PartitionSpecs 1000 specs_put changes
-    ∷ any_above quantity.SortOrders 1000 orders_put changes
-    ∷ any_above quantity.Refs 1000 refs_put changes
-    ∷ any_above quantity.Schemas 1000 view_schemas_put changes
-    ∷ any_above quantity.Snapshots 10000 snapshots_put changes
+    any_above quantity.Schemas schemas_put changes
+    ∷ any_above quantity.PartitionSpecs specs_put changes
+    ∷ any_above quantity.SortOrders orders_put changes
+    ∷ any_above quantity.Refs refs_put changes
+    ∷ any_above quantity.Schemas view_schemas_put changes
+    ∷ any_above quantity.Snapshots snapshots_put changes
     ∷ []
 
 abbrev properties_put : List Change → List (Option Refusal)
 properties_put changes =
-    any_above quantity.Properties 1000 catalog_properties_put changes
-    ∷ any_above quantity.Properties 1000 namespace_properties_put changes
-    ∷ any_above quantity.Properties 1000 table_properties_put changes
-    ∷ any_above quantity.Properties 1000 view_properties_put changes
+    any_above quantity.Properties catalog_properties_put changes
+    ∷ any_above quantity.Properties namespace_properties_put changes
+    ∷ any_above quantity.Properties table_properties_put changes
+    ∷ any_above quantity.Properties view_properties_put changes
     ∷ []
 
 abbrev others_put : List Change → List (Option Refusal)
 others_put changes =
-    any_above quantity.Weight 16777216 weight_put changes
-    ∷ any_above quantity.Weight 16777216 view_weight_put changes
-    ∷ any_above quantity.NextId (2 ^ 62) id_set changes
-    ∷ any_above quantity.NextSerial (2 ^ 62) serial_set changes
-    ∷ any_above quantity.Version (2 ^ 62) version_put changes
-    ∷ any_above quantity.Version (2 ^ 62) view_version_put changes
+    any_above quantity.Weight weight_put changes
+    ∷ any_above quantity.Weight view_weight_put changes
+    ∷ any_above quantity.NextId id_set changes
+    ∷ any_above quantity.NextSerial serial_set changes
+    ∷ any_above quantity.Version version_put changes
+    ∷ any_above quantity.Version view_version_put changes
     ∷ []
 
 abbrev each_put : List Change → List (Option Refusal)
-each_put changes = any_above quantity.AllowedLocations 100 allowed_put changes ∷ (parts_put changes ++ (properties_put changes ++ others_put changes))
+each_put changes = any_above quantity.AllowedLocations allowed_put changes ∷ (parts_put changes ++ (properties_put changes ++ others_put changes))
 
 -- they refuse as they do where parts stand for one, and properties
 put-together : (changes : List Change) → first_refusal (limits_put changes) ≡ first_refusal (each_put changes)
 unfolding part_limits property_limits
 put-together changes =
-    let allowed = any_above quantity.AllowedLocations 100 allowed_put changes in
+    let allowed = any_above quantity.AllowedLocations allowed_put changes in
     nested (allowed ∷ []) (parts_put changes) (first_refusal (properties_put changes) ∷ others_put changes)
     ∙ nested (allowed ∷ parts_put changes) (properties_put changes) (others_put changes)
 
@@ -427,21 +427,21 @@ module _ (s t : Rows) (sound : IsSound s) (new : IsOrderly t) (charge : ℕ) (le
   kept none = sym leads ∙ ap (λ changes. applied changes t.time charge s) none
 
   -- a bound of catalogues, of namespaces, of tables and of views, none of which was passed before
-  catalogs-between : (bounded : Quantity) (bound : ℕ) (number : CatalogRow → ℕ) → any_above bounded bound number s.content.catalogs ≡ None → any_above bounded bound number t.content.catalogs ≡ any_above bounded bound (λ change. number_of number (catalogs_put change)) (changes_between s t)
-  catalogs-between bounded bound number passes =
-      ap (λ is. refuse_if is (Limit bounded bound)) (sym (any-catalogs bound number s t (refused-not (list_any (λ row. nat_lt bound (number row)) s.content.catalogs) (Limit bounded bound) passes)))
+  catalogs-between : (bounded : Quantity) (number : CatalogRow → ℕ) → any_above bounded number s.content.catalogs ≡ None → any_above bounded number t.content.catalogs ≡ any_above bounded (λ change. number_of number (catalogs_put change)) (changes_between s t)
+  catalogs-between bounded number passes =
+      ap (λ is. refuse_if is (Limit bounded (bound_of bounded))) (sym (any-catalogs (bound_of bounded) number s t (refused-not (list_any (λ row. nat_lt (bound_of bounded) (number row)) s.content.catalogs) (Limit bounded (bound_of bounded)) passes)))
 
-  namespaces-between : (bounded : Quantity) (bound : ℕ) (number : NamespaceRow → ℕ) → any_above bounded bound number s.content.namespaces ≡ None → any_above bounded bound number t.content.namespaces ≡ any_above bounded bound (λ change. number_of number (namespaces_put change)) (changes_between s t)
-  namespaces-between bounded bound number passes =
-      ap (λ is. refuse_if is (Limit bounded bound)) (sym (any-namespaces bound number s t (refused-not (list_any (λ row. nat_lt bound (number row)) s.content.namespaces) (Limit bounded bound) passes)))
+  namespaces-between : (bounded : Quantity) (number : NamespaceRow → ℕ) → any_above bounded number s.content.namespaces ≡ None → any_above bounded number t.content.namespaces ≡ any_above bounded (λ change. number_of number (namespaces_put change)) (changes_between s t)
+  namespaces-between bounded number passes =
+      ap (λ is. refuse_if is (Limit bounded (bound_of bounded))) (sym (any-namespaces (bound_of bounded) number s t (refused-not (list_any (λ row. nat_lt (bound_of bounded) (number row)) s.content.namespaces) (Limit bounded (bound_of bounded)) passes)))
 
-  tables-between : (bounded : Quantity) (bound : ℕ) (number : TableRow → ℕ) → any_above bounded bound number s.content.tables ≡ None → any_above bounded bound number t.content.tables ≡ any_above bounded bound (λ change. number_of number (tables_put change)) (changes_between s t)
-  tables-between bounded bound number passes =
-      ap (λ is. refuse_if is (Limit bounded bound)) (sym (any-tables bound number s t (refused-not (list_any (λ row. nat_lt bound (number row)) s.content.tables) (Limit bounded bound) passes)))
+  tables-between : (bounded : Quantity) (number : TableRow → ℕ) → any_above bounded number s.content.tables ≡ None → any_above bounded number t.content.tables ≡ any_above bounded (λ change. number_of number (tables_put change)) (changes_between s t)
+  tables-between bounded number passes =
+      ap (λ is. refuse_if is (Limit bounded (bound_of bounded))) (sym (any-tables (bound_of bounded) number s t (refused-not (list_any (λ row. nat_lt (bound_of bounded) (number row)) s.content.tables) (Limit bounded (bound_of bounded)) passes)))
 
-  views-between : (bounded : Quantity) (bound : ℕ) (number : ViewRow → ℕ) → any_above bounded bound number s.content.views ≡ None → any_above bounded bound number t.content.views ≡ any_above bounded bound (λ change. number_of number (views_put change)) (changes_between s t)
-  views-between bounded bound number passes =
-      ap (λ is. refuse_if is (Limit bounded bound)) (sym (any-views bound number s t (refused-not (list_any (λ row. nat_lt bound (number row)) s.content.views) (Limit bounded bound) passes)))
+  views-between : (bounded : Quantity) (number : ViewRow → ℕ) → any_above bounded number s.content.views ≡ None → any_above bounded number t.content.views ≡ any_above bounded (λ change. number_of number (views_put change)) (changes_between s t)
+  views-between bounded number passes =
+      ap (λ is. refuse_if is (Limit bounded (bound_of bounded))) (sym (any-views (bound_of bounded) number s t (refused-not (list_any (λ row. nat_lt (bound_of bounded) (number row)) s.content.views) (Limit bounded (bound_of bounded)) passes)))
 
   limits-between : over_limit t ≡ first_refusal (limits_of (counts_after s (changes_between s t)) ++ each_put (changes_between s t))
   unfolding over_limit
@@ -450,33 +450,33 @@ module _ (s t : Rows) (sound : IsSound s) (new : IsOrderly t) (charge : ℕ) (le
       let ids = refused-not (nat_lt (2 ^ 62) s.next_id) (Limit quantity.NextId (2 ^ 62)) passes.1.1.1.1.1.1.1.1.1.1.1.1.1.1.1.1.1.1.1.1.1.1.1.0 in
       let serials = refused-not (nat_lt (2 ^ 62) s.next_serial) (Limit quantity.NextSerial (2 ^ 62)) passes.1.1.1.1.1.1.1.1.1.1.1.1.1.1.1.1.1.1.1.1.1.1.1.1.0 in
       λ i. first_refusal (
-      above quantity.Catalogs 1000 (sym (counted (count-catalogs s t)) i)
-      ∷ above quantity.Principals 10000 (sym (counted (count-principals s t)) i)
-      ∷ above quantity.PrincipalRoles 10000 (sym (counted (count-principal_roles s t)) i)
-      ∷ above quantity.CatalogRoles 10000 (sym (counted (count-catalog_roles s t)) i)
-      ∷ above quantity.Members 100000 (sym (counted (count-members s t)) i)
-      ∷ above quantity.Joins 100000 (sym (counted (count-joins s t)) i)
-      ∷ above quantity.Grants 100000 (sym (counted (count-grants s t)) i)
-      ∷ above quantity.Namespaces 100000 (sym (counted (count-namespaces s t)) i)
-      ∷ above quantity.Tables 100000 (sym (counted (count-tables s t)) i)
-      ∷ above quantity.Views 100000 (sym (counted (count-views s t)) i)
-      ∷ catalogs-between quantity.AllowedLocations 100 allowed_count passes.1.1.1.1.1.1.1.1.1.1.0 i
-      ∷ tables-between quantity.Schemas 1000 schema_count passes.1.1.1.1.1.1.1.1.1.1.1.0 i
-      ∷ tables-between quantity.PartitionSpecs 1000 spec_count passes.1.1.1.1.1.1.1.1.1.1.1.1.0 i
-      ∷ tables-between quantity.SortOrders 1000 order_count passes.1.1.1.1.1.1.1.1.1.1.1.1.1.0 i
-      ∷ tables-between quantity.Refs 1000 ref_count passes.1.1.1.1.1.1.1.1.1.1.1.1.1.1.0 i
-      ∷ views-between quantity.Schemas 1000 view_schemas passes.1.1.1.1.1.1.1.1.1.1.1.1.1.1.1.0 i
-      ∷ tables-between quantity.Snapshots 10000 snapshot_count passes.1.1.1.1.1.1.1.1.1.1.1.1.1.1.1.1.0 i
-      ∷ catalogs-between quantity.Properties 1000 catalog_properties passes.1.1.1.1.1.1.1.1.1.1.1.1.1.1.1.1.1.0 i
-      ∷ namespaces-between quantity.Properties 1000 namespace_properties passes.1.1.1.1.1.1.1.1.1.1.1.1.1.1.1.1.1.1.0 i
-      ∷ tables-between quantity.Properties 1000 table_properties passes.1.1.1.1.1.1.1.1.1.1.1.1.1.1.1.1.1.1.1.0 i
-      ∷ views-between quantity.Properties 1000 view_properties passes.1.1.1.1.1.1.1.1.1.1.1.1.1.1.1.1.1.1.1.1.0 i
-      ∷ tables-between quantity.Weight 16777216 table_weight passes.1.1.1.1.1.1.1.1.1.1.1.1.1.1.1.1.1.1.1.1.1.0 i
-      ∷ views-between quantity.Weight 16777216 view_weight passes.1.1.1.1.1.1.1.1.1.1.1.1.1.1.1.1.1.1.1.1.1.1.0 i
+      above quantity.Catalogs (sym (counted (count-catalogs s t)) i)
+      ∷ above quantity.Principals (sym (counted (count-principals s t)) i)
+      ∷ above quantity.PrincipalRoles (sym (counted (count-principal_roles s t)) i)
+      ∷ above quantity.CatalogRoles (sym (counted (count-catalog_roles s t)) i)
+      ∷ above quantity.Members (sym (counted (count-members s t)) i)
+      ∷ above quantity.Joins (sym (counted (count-joins s t)) i)
+      ∷ above quantity.Grants (sym (counted (count-grants s t)) i)
+      ∷ above quantity.Namespaces (sym (counted (count-namespaces s t)) i)
+      ∷ above quantity.Tables (sym (counted (count-tables s t)) i)
+      ∷ above quantity.Views (sym (counted (count-views s t)) i)
+      ∷ catalogs-between quantity.AllowedLocations allowed_count passes.1.1.1.1.1.1.1.1.1.1.0 i
+      ∷ tables-between quantity.Schemas schema_count passes.1.1.1.1.1.1.1.1.1.1.1.0 i
+      ∷ tables-between quantity.PartitionSpecs spec_count passes.1.1.1.1.1.1.1.1.1.1.1.1.0 i
+      ∷ tables-between quantity.SortOrders order_count passes.1.1.1.1.1.1.1.1.1.1.1.1.1.0 i
+      ∷ tables-between quantity.Refs ref_count passes.1.1.1.1.1.1.1.1.1.1.1.1.1.1.0 i
+      ∷ views-between quantity.Schemas view_schemas passes.1.1.1.1.1.1.1.1.1.1.1.1.1.1.1.0 i
+      ∷ tables-between quantity.Snapshots snapshot_count passes.1.1.1.1.1.1.1.1.1.1.1.1.1.1.1.1.0 i
+      ∷ catalogs-between quantity.Properties catalog_properties passes.1.1.1.1.1.1.1.1.1.1.1.1.1.1.1.1.1.0 i
+      ∷ namespaces-between quantity.Properties namespace_properties passes.1.1.1.1.1.1.1.1.1.1.1.1.1.1.1.1.1.1.0 i
+      ∷ tables-between quantity.Properties table_properties passes.1.1.1.1.1.1.1.1.1.1.1.1.1.1.1.1.1.1.1.0 i
+      ∷ views-between quantity.Properties view_properties passes.1.1.1.1.1.1.1.1.1.1.1.1.1.1.1.1.1.1.1.1.0 i
+      ∷ tables-between quantity.Weight table_weight passes.1.1.1.1.1.1.1.1.1.1.1.1.1.1.1.1.1.1.1.1.1.0 i
+      ∷ views-between quantity.Weight view_weight passes.1.1.1.1.1.1.1.1.1.1.1.1.1.1.1.1.1.1.1.1.1.1.0 i
       ∷ refuse_if (sym (any-next_id (2 ^ 62) s t ids serials (λ none. ap (λ (rows : Rows). rows.next_id) (kept none))) i) (Limit quantity.NextId (2 ^ 62))
       ∷ refuse_if (sym (any-next_serial (2 ^ 62) s t ids serials (λ none. ap (λ (rows : Rows). rows.next_serial) (kept none))) i) (Limit quantity.NextSerial (2 ^ 62))
-      ∷ tables-between quantity.Version (2 ^ 62) table_version passes.1.1.1.1.1.1.1.1.1.1.1.1.1.1.1.1.1.1.1.1.1.1.1.1.1.0 i
-      ∷ views-between quantity.Version (2 ^ 62) view_version passes.1.1.1.1.1.1.1.1.1.1.1.1.1.1.1.1.1.1.1.1.1.1.1.1.1.1.0 i
+      ∷ tables-between quantity.Version table_version passes.1.1.1.1.1.1.1.1.1.1.1.1.1.1.1.1.1.1.1.1.1.1.1.1.1.0 i
+      ∷ views-between quantity.Version view_version passes.1.1.1.1.1.1.1.1.1.1.1.1.1.1.1.1.1.1.1.1.1.1.1.1.1.1.0 i
       ∷ [])
 
 -- they are judged on the changes, how many rows there are first

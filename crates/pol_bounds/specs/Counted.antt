@@ -259,47 +259,47 @@ counts_after s changes = record {
 -- the bounds of the rows to which changes lead: of how many there are
 abbrev pub limits_of : Counts → List (Option Refusal)
 limits_of counts =
-    above quantity.Catalogs 1000 counts.catalogs
-    ∷ above quantity.Principals 10000 counts.principals
-    ∷ above quantity.PrincipalRoles 10000 counts.principal_roles
-    ∷ above quantity.CatalogRoles 10000 counts.catalog_roles
-    ∷ above quantity.Members 100000 counts.members
-    ∷ above quantity.Joins 100000 counts.joins
-    ∷ above quantity.Grants 100000 counts.grants
-    ∷ above quantity.Namespaces 100000 counts.namespaces
-    ∷ above quantity.Tables 100000 counts.tables
-    ∷ above quantity.Views 100000 counts.views
+    above quantity.Catalogs counts.catalogs
+    ∷ above quantity.Principals counts.principals
+    ∷ above quantity.PrincipalRoles counts.principal_roles
+    ∷ above quantity.CatalogRoles counts.catalog_roles
+    ∷ above quantity.Members counts.members
+    ∷ above quantity.Joins counts.joins
+    ∷ above quantity.Grants counts.grants
+    ∷ above quantity.Namespaces counts.namespaces
+    ∷ above quantity.Tables counts.tables
+    ∷ above quantity.Views counts.views
     ∷ []
 
 -- and of the numbers that the changes put, of which those of a table's and a view's parts stand for one, and those of
 -- properties
 unfoldable pub part_limits : List Change → Option Refusal
 part_limits changes = first_refusal (
-    any_above quantity.Schemas 1000 schemas_put changes
-    ∷ any_above quantity.PartitionSpecs 1000 specs_put changes
-    ∷ any_above quantity.SortOrders 1000 orders_put changes
-    ∷ any_above quantity.Refs 1000 refs_put changes
-    ∷ any_above quantity.Schemas 1000 view_schemas_put changes
-    ∷ any_above quantity.Snapshots 10000 snapshots_put changes
+    any_above quantity.Schemas schemas_put changes
+    ∷ any_above quantity.PartitionSpecs specs_put changes
+    ∷ any_above quantity.SortOrders orders_put changes
+    ∷ any_above quantity.Refs refs_put changes
+    ∷ any_above quantity.Schemas view_schemas_put changes
+    ∷ any_above quantity.Snapshots snapshots_put changes
     ∷ [])
 
 unfoldable pub property_limits : List Change → Option Refusal
 property_limits changes = first_refusal (
-    any_above quantity.Properties 1000 catalog_properties_put changes
-    ∷ any_above quantity.Properties 1000 namespace_properties_put changes
-    ∷ any_above quantity.Properties 1000 table_properties_put changes
-    ∷ any_above quantity.Properties 1000 view_properties_put changes
+    any_above quantity.Properties catalog_properties_put changes
+    ∷ any_above quantity.Properties namespace_properties_put changes
+    ∷ any_above quantity.Properties table_properties_put changes
+    ∷ any_above quantity.Properties view_properties_put changes
     ∷ [])
 
 abbrev pub limits_put : List Change → List (Option Refusal)
 limits_put changes =
-    any_above quantity.AllowedLocations 100 allowed_put changes
+    any_above quantity.AllowedLocations allowed_put changes
     ∷ part_limits changes
     ∷ property_limits changes
-    ∷ any_above quantity.Weight 16777216 weight_put changes
-    ∷ any_above quantity.Weight 16777216 view_weight_put changes
-    ∷ any_above quantity.NextId (2 ^ 62) id_set changes
-    ∷ any_above quantity.NextSerial (2 ^ 62) serial_set changes
-    ∷ any_above quantity.Version (2 ^ 62) version_put changes
-    ∷ any_above quantity.Version (2 ^ 62) view_version_put changes
+    ∷ any_above quantity.Weight weight_put changes
+    ∷ any_above quantity.Weight view_weight_put changes
+    ∷ any_above quantity.NextId id_set changes
+    ∷ any_above quantity.NextSerial serial_set changes
+    ∷ any_above quantity.Version version_put changes
+    ∷ any_above quantity.Version view_version_put changes
     ∷ []

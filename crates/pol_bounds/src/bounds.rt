@@ -5,67 +5,19 @@ ghost use Rattle.std.specs.Bool.{⊤};
 ghost use Rattle.pol_content.specs.Change.{puts};
 ghost use Rattle.pol_bounds.specs.Counted.{count_after, counts_after, kind_taken, limits_of, limits_put, numbers_of, own_of, part_limits, property_limits, table_numbers, takes, view_numbers, view_weight_put, weight_put, where_known};
 ghost use Rattle.pol_rules.specs.Judged.{Sees};
+ghost use Rattle.pol_commands.specs.declared.reply.Quantity.TheVariants as quantity;
 ghost use Rattle.pol_commands.specs.declared.reply.Refusal.TheVariants.{Limit};
 ghost use Rattle.pol_state.specs.Applied.{applied};
-ghost use Rattle.pol_state.specs.Bounds.{any_above, first_refusal, over_limit, refuse_if, table_over_limit, table_weight};
+ghost use Rattle.pol_state.specs.Bounds.{any_above, bound_of, first_refusal, over_limit, refuse_if, table_over_limit, table_weight};
 ghost use Rattle.pol_state.specs.Changes.{changes_between};
 ghost use Rattle.pol_state.specs.Rows.{Rows};
 ghost use Rattle.pol_state.specs.Sound.{IsOrderly, IsSound};
 
 use pol_commands::{Quantity, Refusal};
 use pol_content::{Change, RowKind, TableRow, ViewRow};
-use pol_rules::rules::within;
+use pol_rules::rules::{bound_of, limit, within};
 use pol_state::State;
 use pol_types::Listed;
-
-/// How many catalogues there are at most.
-const CATALOGS: u64 = 1_000;
-
-/// How many principals there are at most.
-const PRINCIPALS: u64 = 10_000;
-
-/// How many principal roles there are at most.
-const PRINCIPAL_ROLES: u64 = 10_000;
-
-/// How many roles the catalogues have at most, taken together.
-const CATALOG_ROLES: u64 = 10_000;
-
-/// How many members there are at most.
-const MEMBERS: u64 = 100_000;
-
-/// How many joins there are at most.
-const JOINS: u64 = 100_000;
-
-/// How many grants there are at most.
-const GRANTS: u64 = 100_000;
-
-/// How many namespaces there are at most.
-const NAMESPACES: u64 = 100_000;
-
-/// How many tables there are at most.
-const TABLES: u64 = 100_000;
-
-/// How many views there are at most.
-const VIEWS: u64 = 100_000;
-
-/// How many locations a catalogue allows at most beside its base.
-const ALLOWED_LOCATIONS: u64 = 100;
-
-/// How many schemas, partition specs, sort orders and references a table has at most, of each, and how many schemas a
-/// view.
-const PARTS: u64 = 1_000;
-
-/// How many snapshots a table has at most.
-const SNAPSHOTS: u64 = 10_000;
-
-/// How many properties a catalogue has at most, a namespace, a table, and a view.
-const PROPERTIES: u64 = 1_000;
-
-/// What the metadata of a table or a view weighs at most.
-const WEIGHT: u64 = 16_777_216;
-
-/// What the next id, the next serial and the version of a table or a view come to at most.
-const COUNTER_BOUND: u64 = 1 << 62;
 
 /// How many rows of each kind there are.
 #[derive(Clone, Copy)]
@@ -160,67 +112,53 @@ pub fn table_within(row: &TableRow) -> Result<(), Refusal>
     ensures { Sees (table_over_limit row.now) (λ _. ⊤) result }
 {
     let numbers = table_numbers(row);
-    within(Quantity::Schemas, PARTS, numbers.schemas)?;
-    within(Quantity::PartitionSpecs, PARTS, numbers.specs)?;
-    within(Quantity::SortOrders, PARTS, numbers.orders)?;
-    within(Quantity::Refs, PARTS, numbers.refs)?;
-    within(Quantity::Snapshots, SNAPSHOTS, numbers.snapshots)?;
-    within(Quantity::Properties, PROPERTIES, numbers.table_properties)?;
-    unless(is_heavy_row(row), Quantity::Weight, WEIGHT)?;
-    within(Quantity::Version, COUNTER_BOUND, numbers.version)
+    within(Quantity::Schemas, numbers.schemas)?;
+    within(Quantity::PartitionSpecs, numbers.specs)?;
+    within(Quantity::SortOrders, numbers.orders)?;
+    within(Quantity::Refs, numbers.refs)?;
+    within(Quantity::Snapshots, numbers.snapshots)?;
+    within(Quantity::Properties, numbers.table_properties)?;
+    unless(is_heavy_row(row), Quantity::Weight)?;
+    within(Quantity::Version, numbers.version)
 }
 
 /// Whether the metadata of a table is above its bound.
 #[tactic(auto, unfolding(pol_meta::specs::Weight::capped))]
 fn is_heavy_row(row: &TableRow) -> bool
-    ensures { result ≡ nat_lt 16777216 (table_weight row.now) }
+    ensures { result ≡ nat_lt (bound_of quantity.Weight) (table_weight row.now) }
 {
-    row.metadata.get().weight() > WEIGHT
+    row.metadata.get().weight() > bound_of(Quantity::Weight)
 }
 
 /// There are no more rows of any kind than its bound allows.
 fn counts_within(counts: Counts) -> Result<(), Refusal>
     ensures { Sees (first_refusal (limits_of counts)) (λ _. ⊤) result }
 {
-    within(Quantity::Catalogs, CATALOGS, counts.catalogs)?;
-    within(Quantity::Principals, PRINCIPALS, counts.principals)?;
-    within(
-        Quantity::PrincipalRoles,
-        PRINCIPAL_ROLES,
-        counts.principal_roles,
-    )?;
-    within(Quantity::CatalogRoles, CATALOG_ROLES, counts.catalog_roles)?;
-    within(Quantity::Members, MEMBERS, counts.members)?;
-    within(Quantity::Joins, JOINS, counts.joins)?;
-    within(Quantity::Grants, GRANTS, counts.grants)?;
-    within(Quantity::Namespaces, NAMESPACES, counts.namespaces)?;
-    within(Quantity::Tables, TABLES, counts.tables)?;
-    within(Quantity::Views, VIEWS, counts.views)
+    within(Quantity::Catalogs, counts.catalogs)?;
+    within(Quantity::Principals, counts.principals)?;
+    within(Quantity::PrincipalRoles, counts.principal_roles)?;
+    within(Quantity::CatalogRoles, counts.catalog_roles)?;
+    within(Quantity::Members, counts.members)?;
+    within(Quantity::Joins, counts.joins)?;
+    within(Quantity::Grants, counts.grants)?;
+    within(Quantity::Namespaces, counts.namespaces)?;
+    within(Quantity::Tables, counts.tables)?;
+    within(Quantity::Views, counts.views)
 }
 
 /// No change gives a row, or a counter, a number above the bound of its quantity.
 fn numbers_within(changes: &Listed<Change>) -> Result<(), Refusal>
     ensures { Sees (first_refusal (limits_put changes.now)) (λ _. ⊤) result }
 {
-    own_within(
-        changes,
-        Own::AllowedLocations,
-        Quantity::AllowedLocations,
-        ALLOWED_LOCATIONS,
-    )?;
+    own_within(changes, Own::AllowedLocations, Quantity::AllowedLocations)?;
     parts_within(changes)?;
     properties_within(changes)?;
-    unless(has_heavy(changes), Quantity::Weight, WEIGHT)?;
-    unless(has_heavy_view(changes), Quantity::Weight, WEIGHT)?;
-    own_within(changes, Own::NextId, Quantity::NextId, COUNTER_BOUND)?;
-    own_within(
-        changes,
-        Own::NextSerial,
-        Quantity::NextSerial,
-        COUNTER_BOUND,
-    )?;
-    own_within(changes, Own::Version, Quantity::Version, COUNTER_BOUND)?;
-    own_within(changes, Own::ViewVersion, Quantity::Version, COUNTER_BOUND)
+    unless(has_heavy(changes), Quantity::Weight)?;
+    unless(has_heavy_view(changes), Quantity::Weight)?;
+    own_within(changes, Own::NextId, Quantity::NextId)?;
+    own_within(changes, Own::NextSerial, Quantity::NextSerial)?;
+    own_within(changes, Own::Version, Quantity::Version)?;
+    own_within(changes, Own::ViewVersion, Quantity::Version)
 }
 
 /// No change gives a table or a view more parts of a kind than it may have.
@@ -228,17 +166,12 @@ fn numbers_within(changes: &Listed<Change>) -> Result<(), Refusal>
 fn parts_within(changes: &Listed<Change>) -> Result<(), Refusal>
     ensures { Sees (part_limits changes.now) (λ _. ⊤) result }
 {
-    own_within(changes, Own::Schemas, Quantity::Schemas, PARTS)?;
-    own_within(
-        changes,
-        Own::PartitionSpecs,
-        Quantity::PartitionSpecs,
-        PARTS,
-    )?;
-    own_within(changes, Own::SortOrders, Quantity::SortOrders, PARTS)?;
-    own_within(changes, Own::Refs, Quantity::Refs, PARTS)?;
-    own_within(changes, Own::ViewSchemas, Quantity::Schemas, PARTS)?;
-    own_within(changes, Own::Snapshots, Quantity::Snapshots, SNAPSHOTS)
+    own_within(changes, Own::Schemas, Quantity::Schemas)?;
+    own_within(changes, Own::PartitionSpecs, Quantity::PartitionSpecs)?;
+    own_within(changes, Own::SortOrders, Quantity::SortOrders)?;
+    own_within(changes, Own::Refs, Quantity::Refs)?;
+    own_within(changes, Own::ViewSchemas, Quantity::Schemas)?;
+    own_within(changes, Own::Snapshots, Quantity::Snapshots)
 }
 
 /// No change gives a row more properties than it may have.
@@ -247,10 +180,10 @@ fn properties_within(changes: &Listed<Change>) -> Result<(), Refusal>
     ensures { Sees (property_limits changes.now) (λ _. ⊤) result }
 {
     let properties = Quantity::Properties;
-    own_within(changes, Own::CatalogProperties, properties, PROPERTIES)?;
-    own_within(changes, Own::NamespaceProperties, properties, PROPERTIES)?;
-    own_within(changes, Own::TableProperties, properties, PROPERTIES)?;
-    own_within(changes, Own::ViewProperties, properties, PROPERTIES)
+    own_within(changes, Own::CatalogProperties, properties)?;
+    own_within(changes, Own::NamespaceProperties, properties)?;
+    own_within(changes, Own::TableProperties, properties)?;
+    own_within(changes, Own::ViewProperties, properties)
 }
 
 /// How many rows of each kind there are once the changes are made.
@@ -390,15 +323,10 @@ fn where_known(kind: RowKind, known: bool) -> Option<RowKind>
 }
 
 /// No change gives a row, or a counter, such a number above the bound of its quantity.
-fn own_within(
-    changes: &Listed<Change>,
-    own: Own,
-    quantity: Quantity,
-    bound: u64,
-) -> Result<(), Refusal>
-    ensures { Sees (any_above quantity bound (own_of own) changes.now) (λ _. ⊤) result }
+fn own_within(changes: &Listed<Change>, own: Own, quantity: Quantity) -> Result<(), Refusal>
+    ensures { Sees (any_above quantity (own_of own) changes.now) (λ _. ⊤) result }
 {
-    unless(has_above(changes, own, bound), quantity, bound)
+    unless(has_above(changes, own, bound_of(quantity)), quantity)
 }
 
 /// Whether a change gives a row, or a counter, a number above the bound.
@@ -433,11 +361,11 @@ fn own_of(change: &Change, own: Own) -> u64
 }
 
 /// Refuses where a number of the quantity is above its bound.
-fn unless(above: bool, quantity: Quantity, bound: u64) -> Result<(), Refusal>
-    ensures { Sees (refuse_if above (Limit quantity bound)) (λ _. ⊤) result }
+fn unless(above: bool, quantity: Quantity) -> Result<(), Refusal>
+    ensures { Sees (refuse_if above (Limit quantity (bound_of quantity))) (λ _. ⊤) result }
 {
     if above {
-        return Err(Refusal::Limit { quantity, bound });
+        return Err(limit(quantity));
     }
     Ok(())
 }
@@ -520,7 +448,7 @@ fn view_numbers(row: &ViewRow) -> Numbers
 
 /// Whether a change puts a table whose metadata is above its bound.
 fn has_heavy(changes: &Listed<Change>) -> bool
-    ensures { result ≡ list_any (λ change. nat_lt 16777216 (weight_put change)) changes.now }
+    ensures { result ≡ list_any (λ change. nat_lt (bound_of quantity.Weight) (weight_put change)) changes.now }
 {
     changes.iter().any(|change| is_heavy(change))
 }
@@ -528,17 +456,17 @@ fn has_heavy(changes: &Listed<Change>) -> bool
 /// Whether the change puts such a table.
 #[tactic(auto, using(crate::proofs::BoundsLemmas::heavy_capped), unfolding(crate::specs::Counted::tables_put, pol_tables::specs::Table::rows_with, pol_tables::specs::Table::rows_without))]
 fn is_heavy(change: &Change) -> bool
-    ensures { result ≡ nat_lt 16777216 (weight_put change.now) }
+    ensures { result ≡ nat_lt (bound_of quantity.Weight) (weight_put change.now) }
 {
     if let Change::PutTable(table) = change {
-        return table.row().metadata.get().weight() > WEIGHT;
+        return table.row().metadata.get().weight() > bound_of(Quantity::Weight);
     }
     false
 }
 
 /// Whether a change puts a view whose metadata is above its bound.
 fn has_heavy_view(changes: &Listed<Change>) -> bool
-    ensures { result ≡ list_any (λ change. nat_lt 16777216 (view_weight_put change)) changes.now }
+    ensures { result ≡ list_any (λ change. nat_lt (bound_of quantity.Weight) (view_weight_put change)) changes.now }
 {
     changes.iter().any(|change| is_heavy_view(change))
 }
@@ -546,10 +474,10 @@ fn has_heavy_view(changes: &Listed<Change>) -> bool
 /// Whether the change puts such a view.
 #[tactic(auto, using(crate::proofs::BoundsLemmas::heavy_capped), unfolding(crate::specs::Counted::views_put, pol_tables::specs::Table::rows_with, pol_tables::specs::Table::rows_without))]
 fn is_heavy_view(change: &Change) -> bool
-    ensures { result ≡ nat_lt 16777216 (view_weight_put change.now) }
+    ensures { result ≡ nat_lt (bound_of quantity.Weight) (view_weight_put change.now) }
 {
     if let Change::PutView(row) = change {
-        return row.metadata.get().weight() > WEIGHT;
+        return row.metadata.get().weight() > bound_of(Quantity::Weight);
     }
     false
 }

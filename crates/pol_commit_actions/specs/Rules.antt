@@ -112,9 +112,9 @@ unserved (update.Unsupported action) = Some (Unsupported (option.Update action))
 unfoldable pub any_unserved : List Commit → Option Refusal
 any_unserved commits = first_refusal (map unserved (flat_map (λ (commit : Commit). commit.updates) commits))
 
--- there are more than 100 tables, which is known of the commits alone
+-- there are too many tables, which is known of the commits alone
 abbrev pub too_many_tables : List Commit → Option Refusal
-too_many_tables commits = above quantity.TransactionTables 100 (length commits)
+too_many_tables commits = above quantity.TransactionTables (length commits)
 
 -- a table is above a bound after its commit; the first such is told, by the first of its quantities
 unfoldable pub any_over_limit : List CommittedTable → Option Refusal

@@ -23,9 +23,6 @@ use pol_types::OutOfMemory;
 use std::alloc::Global;
 use std::slice;
 
-/// How many tables a transaction has at most.
-const TABLES: u64 = 100;
-
 /// Commits to one table (Iceberg REST OpenAPI, updateTable).
 #[tactic(auto, using(crate::proofs::CommitLemmas::committing_stops))]
 pub fn commit_table(asked: &Asked<'_>, name: &Plain, commit: &Commit) -> Result<Acted, Undone>
@@ -81,7 +78,7 @@ fn all_judged<'a>(
     all_inside(catalog, tables.as_slice())?;
     all_apart(asked, tables.as_slice())?;
     all_served(commits)?;
-    within(Quantity::TransactionTables, TABLES, commits.len() as u64)?;
+    within(Quantity::TransactionTables, commits.len() as u64)?;
     all_within(tables.as_slice())?;
     Ok(tables)
 }

@@ -1,6 +1,7 @@
 ghost use Rattle.std.specs.Prelude.{◌≡◌, ◌+◌, ◌<◌, ◌≤◌, ◌^◌, []};
 ghost use Rattle.pol_rules.specs.Judged.{Sees};
-ghost use Rattle.pol_state.specs.Bounds.{above};
+ghost use Rattle.pol_commands.specs.declared.reply.Refusal.TheVariants.{Limit};
+ghost use Rattle.pol_state.specs.Bounds.{above, bound_of};
 ghost use Rattle.pol_rules.specs.Rules.{run_full, time_of};
 ghost use Rattle.pol_state.specs.Sound.{IsSound};
 ghost use Rattle.pol_rules.specs.declared.rules.Undone.TheVariants.{OutOfMemory as Unallocated, Refused as IsRefused};
@@ -99,12 +100,47 @@ pub fn unchanged(alloc: Global, answer: Answer) -> Acted
     }
 }
 
-/// A number of a quantity is within its bound.
-pub fn within(quantity: Quantity, bound: u64, number: u64) -> Result<(), Refusal>
-    ensures { Sees (above quantity bound number) (λ _. number ≤ bound) result }
+/// What the number of a quantity comes to at most.
+pub fn bound_of(quantity: Quantity) -> u64
+    ensures { result ≡ bound_of quantity }
 {
-    if number > bound {
-        return Err(Refusal::Limit { quantity, bound });
+    match quantity {
+        Quantity::AllowedLocations | Quantity::TransactionTables => 100,
+        Quantity::Catalogs
+        | Quantity::Schemas
+        | Quantity::PartitionSpecs
+        | Quantity::SortOrders
+        | Quantity::Refs
+        | Quantity::Properties => 1_000,
+        Quantity::Principals
+        | Quantity::PrincipalRoles
+        | Quantity::CatalogRoles
+        | Quantity::Snapshots => 10_000,
+        Quantity::Members
+        | Quantity::Joins
+        | Quantity::Grants
+        | Quantity::Namespaces
+        | Quantity::Tables
+        | Quantity::Views => 100_000,
+        Quantity::Weight => 16_777_216,
+        Quantity::NextId | Quantity::NextSerial | Quantity::Version => 1 << 62,
+    }
+}
+
+/// The refusal of a number of the quantity that is above its bound.
+pub fn limit(quantity: Quantity) -> Refusal
+    ensures { result ≡ Limit quantity (bound_of quantity) }
+{
+    let bound = bound_of(quantity);
+    Refusal::Limit { quantity, bound }
+}
+
+/// A number of the quantity is within its bound.
+pub fn within(quantity: Quantity, number: u64) -> Result<(), Refusal>
+    ensures { Sees (above quantity number) (λ _. number ≤ bound_of quantity) result }
+{
+    if number > bound_of(quantity) {
+        return Err(limit(quantity));
     }
     Ok(())
 }

@@ -5,7 +5,7 @@ use Rattle.pol_commands.specs.declared.reply.Quantity.{Quantity}
 use Rattle.pol_commands.specs.declared.reply.Quantity.TheVariants as quantity
 use Rattle.pol_commands.specs.declared.reply.Refusal.{Refusal}
 use Rattle.pol_commands.specs.declared.reply.Refusal.TheVariants.{Limit}
-use Rattle.pol_state.specs.Bounds.{above, first_refusal, limits, over_limit, refuse_if, EachPasses}
+use Rattle.pol_state.specs.Bounds.{above, bound_of, first_refusal, limits, over_limit, refuse_if, EachPasses}
 use Rattle.pol_state.specs.Rows.{Rows}
 use Rattle.pol_state.specs.Sound.{IsSound}
 
@@ -24,12 +24,12 @@ EachPasses-none (None ∷ rules) none = (refl, EachPasses-none rules none)
 EachPasses-none (Some why ∷ rules) none = let contrary : Some why ≡ None = none in cc
 
 -- a number that isn't above its bound
-pub above-within : (kind : Quantity) (bound number : ℕ) → above kind bound number ≡ None → number ≤ bound
-above-within kind bound number passes = by (nat_lt bound number) refl passes
+pub above-within : (kind : Quantity) (number : ℕ) → above kind number ≡ None → number ≤ bound_of kind
+above-within kind number passes = by (nat_lt (bound_of kind) number) refl passes
   where
-    by : (b : Bool) → nat_lt bound number ≡ b → refuse_if b (Limit kind bound) ≡ None → number ≤ bound
+    by : (b : Bool) → nat_lt (bound_of kind) number ≡ b → refuse_if b (Limit kind (bound_of kind)) ≡ None → number ≤ bound_of kind
     by true is contrary = cc
-    by false is none = ltb-false bound number is
+    by false is none = ltb-false (bound_of kind) number is
 
 module _ (s : Rows) (sound : IsSound s) where
   pub each-within : EachPasses (limits s)
@@ -37,8 +37,8 @@ module _ (s : Rows) (sound : IsSound s) where
   each-within = EachPasses-none (limits s) sound.within
 
   pub next_id_bound : s.next_id ≤ 2 ^ 62
-  next_id_bound = above-within quantity.NextId (2 ^ 62) s.next_id each-within.1.1.1.1.1.1.1.1.1.1.1.1.1.1.1.1.1.1.1.1.1.1.1.0
+  next_id_bound = above-within quantity.NextId s.next_id each-within.1.1.1.1.1.1.1.1.1.1.1.1.1.1.1.1.1.1.1.1.1.1.1.0
 
   pub next_serial_bound : s.next_serial ≤ 2 ^ 62
   next_serial_bound =
-      above-within quantity.NextSerial (2 ^ 62) s.next_serial each-within.1.1.1.1.1.1.1.1.1.1.1.1.1.1.1.1.1.1.1.1.1.1.1.1.0
+      above-within quantity.NextSerial s.next_serial each-within.1.1.1.1.1.1.1.1.1.1.1.1.1.1.1.1.1.1.1.1.1.1.1.1.0

@@ -27,13 +27,40 @@ first_refusal (Some why ∷ rules) = Some why
 abbrev pub EachPasses : List (Option Refusal) → Type 0
 EachPasses rules = AllByRecursion (λ rule. rule ≡ None) rules
 
+-- what the number of a quantity comes to at most: of parts, properties, weight and versions, in one row; of tables of a
+-- transaction, in one command
+abbrev pub bound_of : Quantity → ℕ
+bound_of quantity.Catalogs = 1000
+bound_of quantity.Principals = 10000
+bound_of quantity.PrincipalRoles = 10000
+bound_of quantity.CatalogRoles = 10000
+bound_of quantity.Members = 100000
+bound_of quantity.Joins = 100000
+bound_of quantity.Grants = 100000
+bound_of quantity.Namespaces = 100000
+bound_of quantity.Tables = 100000
+bound_of quantity.Views = 100000
+bound_of quantity.AllowedLocations = 100
+bound_of quantity.Schemas = 1000
+bound_of quantity.PartitionSpecs = 1000
+bound_of quantity.SortOrders = 1000
+bound_of quantity.Refs = 1000
+bound_of quantity.Snapshots = 10000
+bound_of quantity.Properties = 1000
+bound_of quantity.Weight = 16777216
+bound_of quantity.TransactionTables = 100
+bound_of quantity.NextId = 2 ^ 62
+bound_of quantity.NextSerial = 2 ^ 62
+bound_of quantity.Version = 2 ^ 62
+
 -- a number is above the bound of a quantity
-abbrev pub above : Quantity → ℕ → ℕ → Option Refusal
-above quantity bound number = refuse_if (nat_lt bound number) (Limit quantity bound)
+abbrev pub above : Quantity → ℕ → Option Refusal
+above quantity number = refuse_if (nat_lt (bound_of quantity) number) (Limit quantity (bound_of quantity))
 
 -- a row has a number above the bound of a quantity
-abbrev pub any_above : {R : Type 0} → Quantity → ℕ → (R → ℕ) → List R → Option Refusal
-any_above quantity bound number rows = refuse_if (list_any (λ row. nat_lt bound (number row)) rows) (Limit quantity bound)
+abbrev pub any_above : {R : Type 0} → Quantity → (R → ℕ) → List R → Option Refusal
+any_above quantity number rows =
+    refuse_if (list_any (λ row. nat_lt (bound_of quantity) (number row)) rows) (Limit quantity (bound_of quantity))
 
 -- how many allowed locations and properties rows have
 abbrev pub allowed_count : CatalogRow → ℕ
@@ -87,14 +114,14 @@ view_version row = row.version
 -- the quantities of a table that are above their bounds
 abbrev pub table_limits : TableRow → List (Option Refusal)
 table_limits row =
-    above quantity.Schemas 1000 (schema_count row)
-    ∷ above quantity.PartitionSpecs 1000 (spec_count row)
-    ∷ above quantity.SortOrders 1000 (order_count row)
-    ∷ above quantity.Refs 1000 (ref_count row)
-    ∷ above quantity.Snapshots 10000 (snapshot_count row)
-    ∷ above quantity.Properties 1000 (table_properties row)
-    ∷ above quantity.Weight 16777216 (table_weight row)
-    ∷ above quantity.Version (2 ^ 62) (table_version row)
+    above quantity.Schemas (schema_count row)
+    ∷ above quantity.PartitionSpecs (spec_count row)
+    ∷ above quantity.SortOrders (order_count row)
+    ∷ above quantity.Refs (ref_count row)
+    ∷ above quantity.Snapshots (snapshot_count row)
+    ∷ above quantity.Properties (table_properties row)
+    ∷ above quantity.Weight (table_weight row)
+    ∷ above quantity.Version (table_version row)
     ∷ []
 
 -- the first of them
@@ -104,33 +131,33 @@ table_over_limit row = first_refusal (table_limits row)
 -- the quantities of these rows that are above their bounds
 abbrev pub limits : Rows → List (Option Refusal)
 limits rows =
-    above quantity.Catalogs 1000 (length rows.content.catalogs)
-    ∷ above quantity.Principals 10000 (length rows.access.principals)
-    ∷ above quantity.PrincipalRoles 10000 (length rows.access.principal_roles)
-    ∷ above quantity.CatalogRoles 10000 (length rows.access.catalog_roles)
-    ∷ above quantity.Members 100000 (length rows.access.members)
-    ∷ above quantity.Joins 100000 (length rows.access.joins)
-    ∷ above quantity.Grants 100000 (length rows.access.grants)
-    ∷ above quantity.Namespaces 100000 (length rows.content.namespaces)
-    ∷ above quantity.Tables 100000 (length rows.content.tables)
-    ∷ above quantity.Views 100000 (length rows.content.views)
-    ∷ any_above quantity.AllowedLocations 100 allowed_count rows.content.catalogs
-    ∷ any_above quantity.Schemas 1000 schema_count rows.content.tables
-    ∷ any_above quantity.PartitionSpecs 1000 spec_count rows.content.tables
-    ∷ any_above quantity.SortOrders 1000 order_count rows.content.tables
-    ∷ any_above quantity.Refs 1000 ref_count rows.content.tables
-    ∷ any_above quantity.Schemas 1000 view_schemas rows.content.views
-    ∷ any_above quantity.Snapshots 10000 snapshot_count rows.content.tables
-    ∷ any_above quantity.Properties 1000 catalog_properties rows.content.catalogs
-    ∷ any_above quantity.Properties 1000 namespace_properties rows.content.namespaces
-    ∷ any_above quantity.Properties 1000 table_properties rows.content.tables
-    ∷ any_above quantity.Properties 1000 view_properties rows.content.views
-    ∷ any_above quantity.Weight 16777216 table_weight rows.content.tables
-    ∷ any_above quantity.Weight 16777216 view_weight rows.content.views
-    ∷ above quantity.NextId (2 ^ 62) rows.next_id
-    ∷ above quantity.NextSerial (2 ^ 62) rows.next_serial
-    ∷ any_above quantity.Version (2 ^ 62) table_version rows.content.tables
-    ∷ any_above quantity.Version (2 ^ 62) view_version rows.content.views
+    above quantity.Catalogs (length rows.content.catalogs)
+    ∷ above quantity.Principals (length rows.access.principals)
+    ∷ above quantity.PrincipalRoles (length rows.access.principal_roles)
+    ∷ above quantity.CatalogRoles (length rows.access.catalog_roles)
+    ∷ above quantity.Members (length rows.access.members)
+    ∷ above quantity.Joins (length rows.access.joins)
+    ∷ above quantity.Grants (length rows.access.grants)
+    ∷ above quantity.Namespaces (length rows.content.namespaces)
+    ∷ above quantity.Tables (length rows.content.tables)
+    ∷ above quantity.Views (length rows.content.views)
+    ∷ any_above quantity.AllowedLocations allowed_count rows.content.catalogs
+    ∷ any_above quantity.Schemas schema_count rows.content.tables
+    ∷ any_above quantity.PartitionSpecs spec_count rows.content.tables
+    ∷ any_above quantity.SortOrders order_count rows.content.tables
+    ∷ any_above quantity.Refs ref_count rows.content.tables
+    ∷ any_above quantity.Schemas view_schemas rows.content.views
+    ∷ any_above quantity.Snapshots snapshot_count rows.content.tables
+    ∷ any_above quantity.Properties catalog_properties rows.content.catalogs
+    ∷ any_above quantity.Properties namespace_properties rows.content.namespaces
+    ∷ any_above quantity.Properties table_properties rows.content.tables
+    ∷ any_above quantity.Properties view_properties rows.content.views
+    ∷ any_above quantity.Weight table_weight rows.content.tables
+    ∷ any_above quantity.Weight view_weight rows.content.views
+    ∷ above quantity.NextId rows.next_id
+    ∷ above quantity.NextSerial rows.next_serial
+    ∷ any_above quantity.Version table_version rows.content.tables
+    ∷ any_above quantity.Version view_version rows.content.views
     ∷ []
 
 -- the first of them

@@ -12,7 +12,7 @@ use Rattle.pol_state.proofs.FreshLemmas.{fresh-sound}
 use Rattle.pol_server_tests.proofs.tests.bounds.raised.Goals as goal
 
 -- the fresh state with another next serial is within each bound where that is: no table and no view has a version
-serial-limit : (secret : List ℕ) (serial charged : ℕ) → over_limit (applied (NextSerial serial ∷ []) 0 charged (fresh_state secret)) ≡ first_refusal (above quantity.NextSerial (2 ^ 62) serial ∷ None ∷ None ∷ [])
+serial-limit : (secret : List ℕ) (serial charged : ℕ) → over_limit (applied (NextSerial serial ∷ []) 0 charged (fresh_state secret)) ≡ first_refusal (above quantity.NextSerial serial ∷ None ∷ None ∷ [])
 unfolding fresh_state over_limit
 serial-limit secret serial charged = refl
 
