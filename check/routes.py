@@ -39,7 +39,7 @@ ROUTES = [
     ("HEAD", TABLE, "head_table"),
     ("POST", TABLE, "commit_table", "commit"),
     ("DELETE", TABLE, "drop_table"),
-    ("GET", f"{TABLE}/credentials", None),
+    ("GET", f"{TABLE}/credentials", "load_credentials"),
     ("POST", f"{TABLE}/metrics", "report_metrics"),
     ("POST", f"{PREFIX}/tables/rename", "rename_table", "renaming"),
     ("POST", f"{PREFIX}/transactions/commit", "commit_transaction", "transaction"),
@@ -76,11 +76,11 @@ ROUTES = [
     ("GET", f"{CATALOG_ROLE}/grants", "list_grants"),
     ("PUT", f"{CATALOG_ROLE}/grants", "add_grant", {"grant": "grant"}),
     ("POST", f"{CATALOG_ROLE}/grants", "revoke", {"grant": "grant"}),
-    ("GET", "/objects/{*path}", None),
-    ("HEAD", "/objects/{*path}", None),
-    ("PUT", "/objects/{*path}", None),
-    ("DELETE", "/objects/{*path}", None),
-    ("GET", "/list/{*path}", None),
+    ("GET", "/objects/{*path}", "access"),
+    ("HEAD", "/objects/{*path}", "access"),
+    ("PUT", "/objects/{*path}", "access"),
+    ("DELETE", "/objects/{*path}", "access"),
+    ("GET", "/list/{*path}", "access"),
 ]
 
 # What a config tells of the rows behind a catalogue's prefix.

@@ -36,6 +36,7 @@ from reading import (
     query_value,
     refuse,
     required,
+    segment_text,
     text,
     text_map,
     texts,
@@ -102,6 +103,10 @@ class Table:
 
     def loaded(self):
         return {"config": {}, **self.committed(), "storage-credentials": []}
+
+    def credentials(self, config):
+        """The members of an answer that a storage token stands in."""
+        return {"storage-credentials": [{"config": config, "prefix": location_text(self.location)}]}
 
     def is_moved(self, former):
         return self.metadata["location"] != former.metadata["location"]
@@ -218,8 +223,6 @@ class Rules:
         """The status of the answer to a request, and its body, if it has one."""
         try:
             action, segments = route_of(request.method, request.target.partition(b"?")[0])
-            if action in ("create_table", "load_table") and request.is_delegated:
-                refuse("Not built")
             status, body = getattr(self, action)(request, *segments)
         except Refused as refused:
             status, body = refused.status, refused.body
@@ -431,7 +434,9 @@ class Rules:
     def create_table(self, request, segment, second):
         name, path = plain_segment(segment), namespace_segment(second)
         asked = request_of(request.content)
-        row, namespace = self.in_namespace(request, name, path, "TABLE_CREATE")
+        if request.is_delegated:
+            self.in_catalog(request, name, "TABLE_CREATE", path)
+        row, namespace = self.in_namespace(request, name, path, "TABLE_READ_DATA" if request.is_delegated else "TABLE_CREATE")
         refuse_taken(namespace, asked["name"])
         version = asked["properties"].pop(b"format-version", b"2")
         metadata = made(asked, request)
@@ -444,7 +449,7 @@ class Rules:
         refuse_many(asked["properties"])
         table = Table(self.new_id(), location, metadata | {"location": location_text(location)})
         namespace.tables[asked["name"]] = table
-        return 200, request.shown(table.loaded())
+        return 200, request.shown(self.shown_table(request, table))
 
     def tables(self):
         """All tables, of whatever catalogue."""
@@ -462,11 +467,32 @@ class Rules:
         shown = query_value(request.query, b"snapshots")
         if shown not in (None, b"all", b"refs"):
             unreadable("snapshots")
-        _, table = self.at_part(request, *place, "TABLE_READ_PROPERTIES")
-        loaded = table.loaded()
+        if request.is_delegated:
+            self.in_catalog(request, place[0], "TABLE_READ_PROPERTIES", *place[1:])
+        _, table = self.at_part(request, *place, "TABLE_READ_DATA" if request.is_delegated else "TABLE_READ_PROPERTIES")
+        loaded = self.shown_table(request, table)
         if shown == b"refs":
             loaded["metadata"] = with_named_snapshots(loaded["metadata"])
         return 200, request.shown(loaded)
+
+    def load_credentials(self, request, segment, second, third):
+        place = plain_segment(segment), namespace_segment(second), name_segment(third)
+        _, table = self.at_part(request, *place, "TABLE_READ_DATA")
+        return 200, request.shown(table.credentials(self.vended(request)))
+
+    def shown_table(self, request, table):
+        """What is shown of a table, with a storage token where one is asked for."""
+        if not request.is_delegated:
+            return table.loaded()
+        config = self.vended(request)
+        return table.loaded() | table.credentials(config) | {"config": config}
+
+    def vended(self, request):
+        """What a client is told of a storage token, with the words and the expiry that the answer tells."""
+        token = drawn(request, r'"lake\.token":"(%016x[0-9a-f]{32})"' % self.next_serial)
+        expires = drawn(request, r'"lake\.expires-at-ms":"([0-9]+)"')
+        self.next_serial += 1
+        return {"lake.expires-at-ms": expires, "lake.token": token}
 
     def head_table(self, request, segment, second, third):
         place = plain_segment(segment), namespace_segment(second), name_segment(third)
@@ -591,6 +617,17 @@ class Rules:
 
     def rename_view(self, request, segment):
         return self.rename_part(request, segment, "view")
+
+    # Objects
+
+    def access(self, request, path):
+        """What is asked for of an object isn't done yet, but its path is read."""
+        segments = [segment_text(segment) for segment in path.split(b"/")]
+        try:
+            location_below(segments)
+        except Refused:
+            unreadable("path")
+        refuse("Not built")
 
     # Principals and principal roles
 

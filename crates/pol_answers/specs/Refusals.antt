@@ -4,7 +4,7 @@ use Rattle.pol_locations.specs.Location.{location_text}
 use Rattle.pol_locations.specs.LocationRefused.{word_of}
 use Rattle.pol_meta.specs.Why as why_refused
 use Rattle.pol_commands.specs.declared.reply.Refusal.{Refusal}
-use Rattle.pol_commands.specs.declared.reply.Refusal.TheVariants.{RunFull, InvalidClient, InvalidScope, Unauthenticated, NoCatalogue, Forbidden, NoNamespace, NoTable, NoView, NoSuchRole, NameTaken, NotEmpty, KeyTwice, TableTwice, RequirementFailed, UpdateRefused, BadLocation, LocationOutside, LocationOverlap, Unsupported, Limit, Reserved}
+use Rattle.pol_commands.specs.declared.reply.Refusal.TheVariants.{RunFull, InvalidClient, InvalidScope, Unauthenticated, NoCatalogue, Forbidden, NoNamespace, NoTable, NoView, NoSuchRole, NameTaken, NotEmpty, KeyTwice, TableTwice, RequirementFailed, UpdateRefused, BadLocation, LocationOutside, LocationOverlap, Unsupported, Limit, Reserved, TooManyTokens, TokenUnknown, NotCovered, NotWritable}
 use Rattle.pol_access.specs.Privilege.{text_of}
 use Rattle.pol_commands.specs.Reply.{option_text, quantity_text}
 use Rattle.pol_commands.specs.Securables.{securable_text}
@@ -32,9 +32,13 @@ status_of (UpdateRefused table update why) = 400
 status_of (BadLocation place why) = 400
 status_of (LocationOutside location) = 400
 status_of (LocationOverlap location other) = 400
+status_of (TooManyTokens live) = 429
 status_of (Unsupported name) = 406
 status_of (Limit quantity bound) = 400
 status_of (Reserved name) = 400
+status_of TokenUnknown = 401
+status_of NotCovered = 403
+status_of NotWritable = 403
 
 -- the type of the error (Iceberg REST OpenAPI, ErrorModel), unless a token request is refused
 abbrev pub kind_of : Refusal → Option (List ℕ)
@@ -57,9 +61,13 @@ kind_of (UpdateRefused table update why) = Some (codes "BadRequestException")
 kind_of (BadLocation place why) = Some (codes "BadRequestException")
 kind_of (LocationOutside location) = Some (codes "BadRequestException")
 kind_of (LocationOverlap location other) = Some (codes "BadRequestException")
+kind_of (TooManyTokens live) = Some (codes "TooManyRequestsException")
 kind_of (Unsupported name) = Some (codes "UnsupportedOperationException")
 kind_of (Limit quantity bound) = Some (codes "BadRequestException")
 kind_of (Reserved name) = Some (codes "BadRequestException")
+kind_of TokenUnknown = Some (codes "NotAuthorizedException")
+kind_of NotCovered = Some (codes "ForbiddenException")
+kind_of NotWritable = Some (codes "ForbiddenException")
 
 -- an identifier as it is shown: its namespace, a dot, and its name
 abbrev pub identifier_text : Identifier → List ℕ
@@ -89,6 +97,10 @@ message_of (BadLocation place why) = codes "BadLocation of table " ++ (decimal p
 message_of (LocationOutside location) = codes "LocationOutside: " ++ location_text location
 message_of (LocationOverlap location other) =
     codes "LocationOverlap: " ++ (location_text location ++ (codes " and " ++ location_text other))
+message_of (TooManyTokens live) = codes "TooManyTokens: " ++ decimal live
 message_of (Unsupported name) = codes "Unsupported: " ++ option_text name
 message_of (Limit quantity bound) = codes "Limit: " ++ (quantity_text quantity ++ (codes " " ++ decimal bound))
 message_of (Reserved name) = codes "Reserved: " ++ name
+message_of TokenUnknown = codes "TokenUnknown"
+message_of NotCovered = codes "NotCovered"
+message_of NotWritable = codes "NotWritable"

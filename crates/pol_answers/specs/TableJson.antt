@@ -1,9 +1,12 @@
 -- The JSON of answers on tables (Iceberg REST OpenAPI).
-use Rattle.std.specs.Prelude.{ℕ, List, [], codes}
+use Rattle.std.specs.Prelude.{ℕ, List, [], ◌∷◌, Option, Some, None, decimal, codes}
 use Rattle.serde_json.specs.Data.{Data, member, no_members, object, string}
+use Rattle.pol_locations.specs.Location.{location_text}
 use Rattle.pol_meta.specs.declared.metadata.TableMetadata.{TableMetadata}
 use Rattle.pol_metaprint.specs.Metadata.{table_json}
 use Rattle.pol_names.specs.declared.identifier.Identifier.{Identifier}
+use Rattle.pol_tokens.specs.Text.{text_of_token}
+use Rattle.pol_tokens.specs.declared.token.TokenRow.{TokenRow}
 use Rattle.pol_answers.specs.Json.{list_json, texts_json}
 
 -- an identifier (TableIdentifier)
@@ -15,16 +18,44 @@ identifier_json identifier =
 abbrev pub identifiers_json : List Identifier → Data
 identifiers_json identifiers = object (member (codes "identifiers") (list_json identifier_json identifiers) no_members)
 
--- a table with its metadata, which is at this place, and without a storage token (LoadTableResult)
-abbrev pub loaded_object : List ℕ → Data → Data
-loaded_object place meta =
-    object (member (codes "config") (object no_members)
+-- what a client is to speak to storage with: the text of a storage token, and when it expires, in milliseconds
+abbrev pub token_object : List ℕ → List ℕ → Data
+token_object expires token =
+    object (member (codes "lake.expires-at-ms") (string expires) (member (codes "lake.token") (string token) no_members))
+
+abbrev pub token_config : TokenRow → Data
+token_config row = token_object (decimal row.expires) (text_of_token row.serial row.word_a row.word_b)
+
+abbrev pub config_of : Option TokenRow → Data
+config_of None = object no_members
+config_of (Some row) = token_config row
+
+-- the locations that a storage token opens: its own (StorageCredential)
+abbrev pub credential_json : TokenRow → Data
+credential_json row =
+    object (member (codes "config") (token_config row) (member (codes "prefix") (string (location_text row.location)) no_members))
+
+abbrev pub tokens_given : Option TokenRow → List TokenRow
+tokens_given None = []
+tokens_given (Some row) = row ∷ []
+
+abbrev pub credentials_of : Option TokenRow → Data
+credentials_of token = list_json credential_json (tokens_given token)
+
+-- a storage token (LoadCredentialsResponse)
+abbrev pub credentials_json : TokenRow → Data
+credentials_json row = object (member (codes "storage-credentials") (list_json credential_json (row ∷ [])) no_members)
+
+-- a table with its metadata, which is at this place, and with a storage token where one was issued (LoadTableResult)
+abbrev pub loaded_object : List ℕ → Data → Data → Data → Data
+loaded_object place meta config credentials =
+    object (member (codes "config") config
     (member (codes "metadata") meta
     (member (codes "metadata-location") (string place)
-    (member (codes "storage-credentials") (list_json string []) no_members))))
+    (member (codes "storage-credentials") credentials no_members))))
 
-abbrev pub loaded_json : List ℕ → TableMetadata → Data
-loaded_json place meta = loaded_object place (table_json meta)
+abbrev pub loaded_json : List ℕ → TableMetadata → Option TokenRow → Data
+loaded_json place meta token = loaded_object place (table_json meta) (config_of token) (credentials_of token)
 
 -- the same after a commit to it (CommitTableResponse)
 abbrev pub committed_object : List ℕ → Data → Data

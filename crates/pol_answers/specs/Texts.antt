@@ -8,15 +8,16 @@ use Rattle.pol_http.specs.declared.answer.Body.TheVariants.{Nothing, Json, Token
 use Rattle.pol_http.specs.declared.head.HeadRefused.{HeadRefused}
 use Rattle.pol_http.specs.declared.head.HeadRefused.TheVariants.{BadHead, LengthNeeded, BodyTooLong}
 use Rattle.pol_commands.specs.declared.reply.Answer.{Answer as Done}
-use Rattle.pol_commands.specs.declared.reply.Answer.TheVariants.{SessionOpened, ConfigTold, CatalogsListed, CatalogCreated, CatalogLoaded, CatalogDropped, NamespacesListed, NamespaceCreated, NamespaceLoaded, NamespaceThere, NamespaceDropped, PropertiesUpdated, TablesListed, TableLoaded, TableThere, TableDropped, MetricsReported, TableCommitted, TransactionCommitted, TableRenamed, ViewsListed, ViewLoaded, ViewThere, ViewDropped, ViewRenamed, PrincipalsListed, PrincipalCreated, PrincipalLoaded, PrincipalDropped, SecretRotated, RolesListed, RoleCreated, RoleLoaded, RoleDropped, MemberAdded, MemberEnded, JoinAdded, JoinEnded, GrantsListed, GrantAdded, GrantRevoked}
+use Rattle.pol_commands.specs.declared.reply.Answer.TheVariants.{SessionOpened, ConfigTold, CatalogsListed, CatalogCreated, CatalogLoaded, CatalogDropped, NamespacesListed, NamespaceCreated, NamespaceLoaded, NamespaceThere, NamespaceDropped, PropertiesUpdated, TablesListed, TableLoaded, TableThere, TableDropped, MetricsReported, TableCommitted, TransactionCommitted, TableRenamed, ViewsListed, ViewLoaded, ViewThere, ViewDropped, ViewRenamed, PrincipalsListed, PrincipalCreated, PrincipalLoaded, PrincipalDropped, SecretRotated, RolesListed, RoleCreated, RoleLoaded, RoleDropped, MemberAdded, MemberEnded, JoinAdded, JoinEnded, GrantsListed, GrantAdded, GrantRevoked, CredentialsLoaded, AccessAllowed}
 use Rattle.pol_commands.specs.declared.reply.Refusal.{Refusal}
 use Rattle.pol_commands.specs.declared.reply.Reply.{Reply}
 use Rattle.pol_commands.specs.declared.reply.Reply.TheVariants.{Answered, Refused}
 use Rattle.pol_requests.specs.declared.refused.RouteRefused.{RouteRefused}
-use Rattle.pol_requests.specs.declared.refused.RouteRefused.TheVariants.{NoRoute, WrongMethod, NotBuilt, Unreadable, InvalidRequest, GrantType}
+use Rattle.pol_requests.specs.declared.refused.RouteRefused.TheVariants.{NoRoute, WrongMethod, Unreadable, InvalidRequest, GrantType}
 use Rattle.pol_answers.specs.Json.{catalog_json, catalogs_json, config_json, namespace_json, namespaces_json, updated_json}
 use Rattle.pol_answers.specs.ManagementJson.{credentials_json, grants_json, principal_json, principals_json, role_json, roles_json}
 use Rattle.pol_answers.specs.Refusals.{kind_of, message_of, status_of}
+use Rattle.pol_answers.specs.TableJson as table_json
 use Rattle.pol_answers.specs.TableJson.{committed_json, identifiers_json, loaded_json}
 use Rattle.pol_answers.specs.ViewJson.{shown_json}
 use Rattle.pol_tokens.specs.declared.session.TheConstants.{SESSION_LIFE}
@@ -84,7 +85,8 @@ done_answer NamespaceThere = answer_with 204 Nothing
 done_answer NamespaceDropped = answer_with 204 Nothing
 done_answer (PropertiesUpdated missing removed updated) = json_answer 200 (updated_json missing removed updated)
 done_answer (TablesListed identifiers) = json_answer 200 (identifiers_json identifiers)
-done_answer (TableLoaded place meta) = json_answer 200 (loaded_json place meta)
+done_answer (TableLoaded place meta token) = json_answer 200 (loaded_json place meta token)
+done_answer (CredentialsLoaded token) = json_answer 200 (table_json.credentials_json token)
 done_answer TableThere = answer_with 204 Nothing
 done_answer TableDropped = answer_with 204 Nothing
 done_answer MetricsReported = answer_with 204 Nothing
@@ -112,6 +114,7 @@ done_answer JoinEnded = answer_with 204 Nothing
 done_answer (GrantsListed grants) = json_answer 200 (grants_json grants)
 done_answer GrantAdded = answer_with 201 Nothing
 done_answer GrantRevoked = answer_with 201 Nothing
+done_answer AccessAllowed = error_answer 501 (codes "Not built") (codes "UnsupportedOperationException")
 
 -- the answer to a reply
 unfoldable pub answer_of : Reply → Answer
@@ -126,7 +129,6 @@ unreadable_answer field = error_answer 400 (codes "Unreadable: " ++ field) (code
 unfoldable pub refusal_answer : RouteRefused → Answer
 refusal_answer NoRoute = error_answer 404 (codes "No route") (codes "NotFoundException")
 refusal_answer WrongMethod = error_answer 405 (codes "Wrong method") (codes "BadRequestException")
-refusal_answer NotBuilt = error_answer 501 (codes "Not built") (codes "UnsupportedOperationException")
 refusal_answer (Unreadable field) = unreadable_answer field
 refusal_answer InvalidRequest = token_error 400 (codes "invalid_request")
 refusal_answer GrantType = token_error 400 (codes "unsupported_grant_type")

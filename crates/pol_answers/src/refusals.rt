@@ -29,6 +29,8 @@ const NO_SUCH_VIEW: &str = "NoSuchViewException";
 
 const NOT_AUTHORIZED: &str = "NotAuthorizedException";
 
+const TOO_MANY_REQUESTS: &str = "TooManyRequestsException";
+
 const UNPROCESSABLE_ENTITY: &str = "UnprocessableEntityException";
 
 /// The status of the answer to a refusal.
@@ -44,8 +46,8 @@ pub(crate) fn status_of(refusal: &Refusal) -> u16
         | Refusal::LocationOverlap { .. }
         | Refusal::Limit { .. }
         | Refusal::Reserved { .. } => 400,
-        Refusal::InvalidClient | Refusal::Unauthenticated => 401,
-        Refusal::Forbidden { .. } => 403,
+        Refusal::InvalidClient | Refusal::Unauthenticated | Refusal::TokenUnknown => 401,
+        Refusal::Forbidden { .. } | Refusal::NotCovered | Refusal::NotWritable => 403,
         Refusal::NoCatalogue { .. }
         | Refusal::NoNamespace { .. }
         | Refusal::NoTable { .. }
@@ -55,6 +57,7 @@ pub(crate) fn status_of(refusal: &Refusal) -> u16
         Refusal::NameTaken { .. } | Refusal::NotEmpty { .. } | Refusal::RequirementFailed { .. } =>
             { 409 }
         Refusal::KeyTwice { .. } => 422,
+        Refusal::TooManyTokens { .. } => 429,
         Refusal::RunFull { .. } => 503,
     }
 }
@@ -65,9 +68,9 @@ pub(crate) fn kind_of(refusal: &Refusal) -> Option<&'static str>
 {
     match refusal {
         Refusal::InvalidClient | Refusal::InvalidScope => None,
-        Refusal::Unauthenticated => Some(NOT_AUTHORIZED),
+        Refusal::Unauthenticated | Refusal::TokenUnknown => Some(NOT_AUTHORIZED),
         Refusal::NoCatalogue { .. } => Some(NOT_FOUND),
-        Refusal::Forbidden { .. } => Some(FORBIDDEN),
+        Refusal::Forbidden { .. } | Refusal::NotCovered | Refusal::NotWritable => Some(FORBIDDEN),
         Refusal::NoNamespace { .. } => Some(NO_SUCH_NAMESPACE),
         Refusal::NoTable { .. } => Some(NO_SUCH_TABLE),
         Refusal::NoView { .. } => Some(NO_SUCH_VIEW),
@@ -83,6 +86,7 @@ pub(crate) fn kind_of(refusal: &Refusal) -> Option<&'static str>
         | Refusal::LocationOverlap { .. }
         | Refusal::Limit { .. }
         | Refusal::Reserved { .. } => Some(BAD_REQUEST),
+        Refusal::TooManyTokens { .. } => Some(TOO_MANY_REQUESTS),
         Refusal::Unsupported { .. } => Some(UNSUPPORTED_OPERATION),
         Refusal::RunFull { .. } => Some(SERVICE_UNAVAILABLE),
     }
@@ -127,8 +131,12 @@ pub(crate) fn message_of(alloc: Global, refusal: &Refusal) -> Result<String, All
         Refusal::LocationOverlap { location, other } => format!(in alloc;
             "LocationOverlap: {location} and {other}"
         ),
+        Refusal::TooManyTokens { live } => format!(in alloc; "TooManyTokens: {live}"),
         Refusal::Unsupported { name } => format!(in alloc; "Unsupported: {name}"),
         Refusal::Limit { quantity, bound } => format!(in alloc; "Limit: {quantity} {bound}"),
         Refusal::Reserved { name } => format!(in alloc; "Reserved: {name}"),
+        Refusal::TokenUnknown => format!(in alloc; "TokenUnknown"),
+        Refusal::NotCovered => format!(in alloc; "NotCovered"),
+        Refusal::NotWritable => format!(in alloc; "NotWritable"),
     }
 }

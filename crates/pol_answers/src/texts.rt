@@ -9,12 +9,14 @@ use crate::error_body::{answer_with, error_answer, json_answer, text_of, token_e
 use crate::json::{
     ToJson, catalogs_json, config_json, namespace_json, namespaces_json, updated_json,
 };
-use crate::management_json::{credentials_json, grants_json, principals_json, roles_json};
+use crate::management_json::{
+    credentials_json as principal_json, grants_json, principals_json, roles_json,
+};
 use crate::refusals::{
     BAD_REQUEST, NOT_FOUND, SERVICE_UNAVAILABLE, UNSUPPORTED_OPERATION, kind_of, message_of,
     status_of,
 };
-use crate::table_json::{committed_json, identifiers_json, loaded_json};
+use crate::table_json::{committed_json, credentials_json, identifiers_json, loaded_json};
 use crate::view_json::shown_json;
 use pol_commands::{Answer as Done, Refusal, Reply};
 use pol_http::{Answer, Body, HeadRefused};
@@ -73,10 +75,11 @@ fn done_answer(alloc: Global, done: &Done) -> Result<Answer, OutOfMemory>
         Done::TableLoaded {
             metadata_location,
             metadata,
+            token,
         } => json_answer(
             alloc,
             200,
-            loaded_json(alloc, metadata_location, metadata.get())?,
+            loaded_json(alloc, metadata_location, metadata.get(), token.as_ref())?,
         ),
         Done::TableCommitted {
             metadata_location,
@@ -94,6 +97,9 @@ fn done_answer(alloc: Global, done: &Done) -> Result<Answer, OutOfMemory>
             200,
             shown_json(alloc, metadata_location, metadata.get())?,
         ),
+        Done::CredentialsLoaded { token } => {
+            json_answer(alloc, 200, credentials_json(alloc, token)?)
+        }
         Done::PrincipalsListed(rows) => json_answer(alloc, 200, principals_json(alloc, rows)?),
         Done::PrincipalCreated {
             name,
@@ -129,6 +135,8 @@ fn done_answer(alloc: Global, done: &Done) -> Result<Answer, OutOfMemory>
         | Done::RoleDropped
         | Done::MemberEnded
         | Done::JoinEnded => Ok(answer_with(204, Body::Nothing)),
+        // What an allowed access asks for isn't served yet.
+        Done::AccessAllowed => error_answer(alloc, 501, "Not built", UNSUPPORTED_OPERATION),
     }
 }
 
@@ -144,7 +152,7 @@ fn credentials_answer(
     ensures { IfOk result (λ answer. answer ≡ spec.json_answer code
         (credentials_json client_id.now secret.now name.now)) }
 {
-    let json = credentials_json(alloc, client_id.as_str(), secret.as_str(), name.as_str())?;
+    let json = principal_json(alloc, client_id.as_str(), secret.as_str(), name.as_str())?;
     json_answer(alloc, code, json)
 }
 
@@ -163,8 +171,13 @@ fn session_answer(
     Ok(answer_with(200, Body::Token(text_of(alloc, &json)?)))
 }
 
-/// The text of a session's token.
-fn written_token(alloc: Global, serial: u64, word_a: u64, word_b: u64) -> Result<String, AllocError>
+/// The text of a token.
+pub(crate) fn written_token(
+    alloc: Global,
+    serial: u64,
+    word_a: u64,
+    word_b: u64,
+) -> Result<String, AllocError>
     ensures { IfOk result (λ token. string_bytes token ≡ text_of_token serial word_a word_b) }
 {
     String::from_utf8_lossy(alloc, &token_text(serial, word_a, word_b))
@@ -201,7 +214,6 @@ pub fn refusal_answer(alloc: Global, refused: &RouteRefused) -> Result<Answer, O
     match refused {
         RouteRefused::NoRoute => error_answer(alloc, 404, "No route", NOT_FOUND),
         RouteRefused::WrongMethod => error_answer(alloc, 405, "Wrong method", BAD_REQUEST),
-        RouteRefused::NotBuilt => error_answer(alloc, 501, "Not built", UNSUPPORTED_OPERATION),
         RouteRefused::Unreadable { field } => unreadable_answer(alloc, field.as_str()),
         RouteRefused::InvalidRequest => token_error(alloc, 400, "invalid_request"),
         RouteRefused::GrantType => token_error(alloc, 400, "unsupported_grant_type"),

@@ -76,6 +76,7 @@ module _ (bound : ℕ) (number : CatalogRow → ℕ) where
   catalogs-fail kind.Join apart = (λ row. catalogs_zero, λ gone. catalogs_zero)
   catalogs-fail kind.Grant apart = (λ row. catalogs_zero, λ gone. catalogs_zero)
   catalogs-fail kind.Session apart = λ row. catalogs_zero
+  catalogs-fail kind.Token apart = λ row. catalogs_zero
 
   catalogs-alone : (s t : Rows) → filter catalogs_above (changes_between s t) ≡ filter catalogs_above (of_kind kind.Catalog (row_changes s t))
   unfolding catalogs_put
@@ -116,6 +117,7 @@ module _ (bound : ℕ) (number : NamespaceRow → ℕ) where
   namespaces-fail kind.Join apart = (λ row. namespaces_zero, λ gone. namespaces_zero)
   namespaces-fail kind.Grant apart = (λ row. namespaces_zero, λ gone. namespaces_zero)
   namespaces-fail kind.Session apart = λ row. namespaces_zero
+  namespaces-fail kind.Token apart = λ row. namespaces_zero
 
   namespaces-alone : (s t : Rows) → filter namespaces_above (changes_between s t) ≡ filter namespaces_above (of_kind kind.Namespace (row_changes s t))
   unfolding namespaces_put
@@ -156,6 +158,7 @@ module _ (bound : ℕ) (number : TableRow → ℕ) where
   tables-fail kind.Join apart = (λ row. tables_zero, λ gone. tables_zero)
   tables-fail kind.Grant apart = (λ row. tables_zero, λ gone. tables_zero)
   tables-fail kind.Session apart = λ row. tables_zero
+  tables-fail kind.Token apart = λ row. tables_zero
 
   tables-alone : (s t : Rows) → filter tables_above (changes_between s t) ≡ filter tables_above (of_kind kind.Table (row_changes s t))
   unfolding tables_put
@@ -196,6 +199,7 @@ module _ (bound : ℕ) (number : ViewRow → ℕ) where
   views-fail kind.Join apart = (λ row. views_zero, λ gone. views_zero)
   views-fail kind.Grant apart = (λ row. views_zero, λ gone. views_zero)
   views-fail kind.Session apart = λ row. views_zero
+  views-fail kind.Token apart = λ row. views_zero
 
   views-alone : (s t : Rows) → filter views_above (changes_between s t) ≡ filter views_above (of_kind kind.View (row_changes s t))
   unfolding views_put
@@ -236,6 +240,7 @@ module _ (bound : ℕ) where
   next_id-fail kind.Join = (λ row. next_id_zero, λ gone. next_id_zero)
   next_id-fail kind.Grant = (λ row. next_id_zero, λ gone. next_id_zero)
   next_id-fail kind.Session = λ row. next_id_zero
+  next_id-fail kind.Token = λ row. next_id_zero
 
   next_id-quiet : (s t : Rows) → list_any next_id_above (in_turn (row_changes s t)) ≡ false
   next_id-quiet s t = any-alone next_id_above (in_turn (row_changes s t)) [] (filter-quiet s t next_id_above next_id-fail)
@@ -296,6 +301,7 @@ module _ (bound : ℕ) where
   next_serial-fail kind.Join = (λ row. next_serial_zero, λ gone. next_serial_zero)
   next_serial-fail kind.Grant = (λ row. next_serial_zero, λ gone. next_serial_zero)
   next_serial-fail kind.Session = λ row. next_serial_zero
+  next_serial-fail kind.Token = λ row. next_serial_zero
 
   next_serial-quiet : (s t : Rows) → list_any next_serial_above (in_turn (row_changes s t)) ≡ false
   next_serial-quiet s t = any-alone next_serial_above (in_turn (row_changes s t)) [] (filter-quiet s t next_serial_above next_serial-fail)

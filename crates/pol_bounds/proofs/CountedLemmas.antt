@@ -26,7 +26,7 @@ use Rattle.pol_content.specs.contracts.change.RowKind.{the_type}
 use Rattle.pol_content.specs.contracts.rows.CatalogRow as catalog
 use Rattle.pol_content.specs.contracts.rows.NamespaceRow as namespace
 use Rattle.pol_content.specs.declared.change.Change.{Change}
-use Rattle.pol_content.specs.declared.change.Change.TheVariants.{Time, NextId, NextSerial, PutPrincipal, DropPrincipal, PutPrincipalRole, DropPrincipalRole, PutCatalog, DropCatalog, PutCatalogRole, DropCatalogRole, PutNamespace, DropNamespace, PutTable, DropTable, PutView, DropView, PutMember, DropMember, PutJoin, DropJoin, PutGrant, DropGrant, PutSession}
+use Rattle.pol_content.specs.declared.change.Change.TheVariants.{Time, NextId, NextSerial, PutPrincipal, DropPrincipal, PutPrincipalRole, DropPrincipalRole, PutCatalog, DropCatalog, PutCatalogRole, DropCatalogRole, PutNamespace, DropNamespace, PutTable, DropTable, PutView, DropView, PutMember, DropMember, PutJoin, DropJoin, PutGrant, DropGrant, PutSession, PutToken}
 use Rattle.pol_content.specs.declared.change.RowKind.{RowKind}
 use Rattle.pol_content.specs.declared.change.RowKind.TheVariants as kind
 use Rattle.pol_access.specs.declared.rows.CatalogRoleRow.{CatalogRoleRow}
@@ -44,9 +44,11 @@ use Rattle.pol_view_rows.specs.Views.{view_id}
 use Rattle.pol_view_rows.specs.contracts.row.ViewRow as view
 use Rattle.pol_view_rows.specs.declared.row.ViewRow.{ViewRow}
 use Rattle.pol_tokens.specs.declared.session.SessionRow.{SessionRow}
+use Rattle.pol_tokens.specs.declared.token.TokenRow.{TokenRow}
 use Rattle.pol_state.specs.Changes.{changes_between, headed, id_change, in_turn, row_changes, serial_change, RowChanges}
 use Rattle.pol_state.specs.Rows.{Rows}
 use Rattle.pol_tokens.specs.contracts.session.SessionRow as session
+use Rattle.pol_tokens.specs.contracts.token.TokenRow as token
 use Rattle.pol_bounds.specs.Counted.{count_after, takes, where_known}
 
 -- the rows' changes of one kind
@@ -62,10 +64,11 @@ of_kind kind.Member made = made.members
 of_kind kind.Join made = made.joins
 of_kind kind.Grant made = made.grants
 of_kind kind.Session made = made.sessions
+of_kind kind.Token made = made.tokens
 
 -- the kinds in the order of their changes
 abbrev kinds : List RowKind
-kinds = kind.Principal ∷ kind.PrincipalRole ∷ kind.Catalog ∷ kind.CatalogRole ∷ kind.Namespace ∷ kind.Table ∷ kind.View ∷ kind.Member ∷ kind.Join ∷ kind.Grant ∷ kind.Session ∷ []
+kinds = kind.Principal ∷ kind.PrincipalRole ∷ kind.Catalog ∷ kind.CatalogRole ∷ kind.Namespace ∷ kind.Table ∷ kind.View ∷ kind.Member ∷ kind.Join ∷ kind.Grant ∷ kind.Session ∷ kind.Token ∷ []
 
 abbrev joined : List RowKind → RowChanges → List Change
 joined [] made = []
@@ -73,7 +76,7 @@ joined (first ∷ rest) made = of_kind first made ++ joined rest made
 
 in_turn-joined : (made : RowChanges) → joined kinds made ≡ in_turn made
 in_turn-joined made =
-    ap (λ last. in_turn (record made { sessions = last })) (append-nil made.sessions)
+    ap (λ last. in_turn (record made { tokens = last })) (append-nil made.tokens)
 
 -- a test fails at each change of a kind
 abbrev pub Fails : (Change → Bool) → RowKind → Type 0
@@ -88,6 +91,7 @@ Fails test kind.Member = ((row : MemberRow) → test (PutMember row) ≡ false) 
 Fails test kind.Join = ((row : JoinRow) → test (PutJoin row) ≡ false) × ((row : JoinRow) → test (DropJoin row) ≡ false)
 Fails test kind.Grant = ((row : GrantRow) → test (PutGrant row) ≡ false) × ((row : GrantRow) → test (DropGrant row) ≡ false)
 Fails test kind.Session = (row : SessionRow) → test (PutSession row) ≡ false
+Fails test kind.Token = (row : TokenRow) → test (PutToken row) ≡ false
 
 module _ (s t : Rows) (test : Change → Bool) where
   quiet : (of : RowKind) → Fails test of → filter test (of_kind of (row_changes s t)) ≡ []
@@ -102,6 +106,7 @@ module _ (s t : Rows) (test : Change → Bool) where
   quiet kind.Join fails = filter-none test _ (fact_changes-each join_cmp join.the_row.coded PutJoin DropJoin (λ change. test change ≡ false) s.access.joins t.access.joins fails.0 fails.1)
   quiet kind.Grant fails = filter-none test _ (fact_changes-each grant_cmp grant.the_row.coded PutGrant DropGrant (λ change. test change ≡ false) s.access.grants t.access.grants fails.0 fails.1)
   quiet kind.Session fails = filter-none test _ (each-map (λ change. test change ≡ false) PutSession (new_rows session.the_row.coded s.tokens.sessions t.tokens.sessions) (each-all (λ row. test (PutSession row) ≡ false) (new_rows session.the_row.coded s.tokens.sessions t.tokens.sessions) fails))
+  quiet kind.Token fails = filter-none test _ (each-map (λ change. test change ≡ false) PutToken (new_rows token.the_row.coded s.tokens.tokens t.tokens.tokens) (each-all (λ row. test (PutToken row) ≡ false) (new_rows token.the_row.coded s.tokens.tokens t.tokens.tokens) fails))
 
   -- a test that fails at each change of rows
   quiet-joined : ((of : RowKind) → Fails test of) → (ofs : List RowKind) → filter test (joined ofs (row_changes s t)) ≡ []
@@ -131,6 +136,7 @@ module _ (s t : Rows) (test : Change → Bool) where
   passed-wanted kind.Join = append-nil (filter test (of_kind kind.Join (row_changes s t)))
   passed-wanted kind.Grant = append-nil (filter test (of_kind kind.Grant (row_changes s t)))
   passed-wanted kind.Session = append-nil (filter test (of_kind kind.Session (row_changes s t)))
+  passed-wanted kind.Token = append-nil (filter test (of_kind kind.Token (row_changes s t)))
 
   module _ (wanted : RowKind) (fails : (of : RowKind) → sameb the_type of wanted ≡ false → Fails test of) where
     passed-one : (of : RowKind) → filter test (of_kind of (row_changes s t)) ≡ passed wanted of
@@ -191,6 +197,7 @@ puts-fails wanted kind.Member apart = (λ row. apart, λ gone. refl)
 puts-fails wanted kind.Join apart = (λ row. apart, λ gone. refl)
 puts-fails wanted kind.Grant apart = (λ row. apart, λ gone. refl)
 puts-fails wanted kind.Session apart = λ row. apart
+puts-fails wanted kind.Token apart = λ row. apart
 
 takes-fails : (s : Rows) (wanted of : RowKind) → sameb the_type of wanted ≡ false → Fails (takes wanted s) of
 takes-fails s wanted kind.Principal apart = (λ row. known-apart wanted kind.Principal apart (knows principal_id row.id s.access.principals), λ gone. apart)
@@ -204,6 +211,7 @@ takes-fails s wanted kind.Member apart = (λ row. refl, λ gone. apart)
 takes-fails s wanted kind.Join apart = (λ row. refl, λ gone. apart)
 takes-fails s wanted kind.Grant apart = (λ row. refl, λ gone. apart)
 takes-fails s wanted kind.Session apart = λ row. refl
+takes-fails s wanted kind.Token apart = λ row. refl
 
 -- where some items are put and some taken, and some are both
 module _ {X : Type 0} (put taken : X → Bool) where

@@ -4,7 +4,7 @@ use Rattle.pol_access.specs.Access.{catalog_role_id, principal_id, principal_rol
 use Rattle.pol_content.specs.Change.{is_kind, puts}
 use Rattle.pol_content.specs.Content.{catalog_id, namespace_id}
 use Rattle.pol_content.specs.declared.change.Change.{Change}
-use Rattle.pol_content.specs.declared.change.Change.TheVariants.{Time, NextId, NextSerial, PutPrincipal, DropPrincipal, PutPrincipalRole, DropPrincipalRole, PutCatalog, DropCatalog, PutCatalogRole, DropCatalogRole, PutNamespace, DropNamespace, PutTable, DropTable, PutView, DropView, PutMember, DropMember, PutJoin, DropJoin, PutGrant, DropGrant, PutSession}
+use Rattle.pol_content.specs.declared.change.Change.TheVariants.{Time, NextId, NextSerial, PutPrincipal, DropPrincipal, PutPrincipalRole, DropPrincipalRole, PutCatalog, DropCatalog, PutCatalogRole, DropCatalogRole, PutNamespace, DropNamespace, PutTable, DropTable, PutView, DropView, PutMember, DropMember, PutJoin, DropJoin, PutGrant, DropGrant, PutSession, PutToken}
 use Rattle.pol_content.specs.declared.change.RowKind.{RowKind}
 use Rattle.pol_content.specs.declared.change.RowKind.TheVariants as kind
 use Rattle.pol_content.specs.declared.rows.CatalogRow.{CatalogRow}
@@ -54,6 +54,7 @@ kind_taken s (DropJoin row) = Some kind.Join
 kind_taken s (PutGrant row) = None
 kind_taken s (DropGrant row) = Some kind.Grant
 kind_taken s (PutSession row) = None
+kind_taken s (PutToken row) = None
 
 abbrev pub takes : RowKind → Rows → Change → Bool
 takes wanted s change = is_kind wanted (kind_taken s change)
@@ -67,7 +68,7 @@ abbrev pub no_rows : Rows
 no_rows = record {
   access = record { principals = []; principal_roles = []; catalog_roles = []; members = []; joins = []; grants = [] };
   content = record { catalogs = []; namespaces = []; tables = []; views = [] };
-  tokens = record { sessions = [] };
+  tokens = record { sessions = []; tokens = [] };
   time = 0;
   next_id = 0;
   next_serial = 0;

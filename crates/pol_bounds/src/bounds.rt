@@ -311,7 +311,8 @@ fn kind_taken(state: &State, change: &Change) -> Option<RowKind>
         | Change::PutMember(_)
         | Change::PutJoin(_)
         | Change::PutGrant(_)
-        | Change::PutSession(_) => None,
+        | Change::PutSession(_)
+        | Change::PutToken(_) => None,
     }
 }
 
@@ -412,7 +413,8 @@ fn numbers_of(change: &Change) -> Numbers
         | Change::DropJoin(_)
         | Change::PutGrant(_)
         | Change::DropGrant(_)
-        | Change::PutSession(_) => NOTHING,
+        | Change::PutSession(_)
+        | Change::PutToken(_) => NOTHING,
     }
 }
 

@@ -17,7 +17,8 @@ use Rattle.pol_content.specs.declared.rows.NamespaceRow.{NamespaceRow}
 use Rattle.pol_names.specs.declared.scope.Scope.{Scope}
 use Rattle.pol_names.specs.declared.scope.Scope.TheVariants.{All, Roles}
 use Rattle.pol_tokens.specs.declared.session.SessionRow.{SessionRow}
-use Rattle.pol_forms.specs.Enums.{Written, Variant, written_as, enum, enum_read, made_read_back, case_of}
+use Rattle.pol_tokens.specs.declared.token.TokenRow.{TokenRow}
+use Rattle.pol_forms.specs.Enums.{Written, Variant, written_as, enum, enum_read, made_read_back, case_of, truth}
 use Rattle.pol_forms.specs.Form.{Form}
 use Rattle.pol_forms.specs.Forms.{bytes_of, list, mapped, no_fields, number, numbered, text, ◌&◌}
 use Rattle.pol_forms.specs.Names.{location, namespace, plain, properties}
@@ -150,4 +151,11 @@ unfoldable pub session : Form SessionRow
 session = mapped (number & number & number & number & scope & number)
     (λ fields. record { serial = fields.0; word_a = fields.1.0; word_b = fields.1.1.0; principal = fields.1.1.1.0; scope = fields.1.1.1.1.0; expires = fields.1.1.1.1.1 })
     (λ row. (row.serial, (row.word_a, (row.word_b, (row.principal, (row.scope, row.expires))))))
+    (λ row. refl) (λ fields. refl)
+
+-- a storage token: serial, the two random words, principal, table, count of moves, location, whether it writes, expiry
+unfoldable pub token : Form TokenRow
+token = mapped (number & number & number & number & number & number & location & truth & number)
+    (λ fields. record { serial = fields.0; word_a = fields.1.0; word_b = fields.1.1.0; principal = fields.1.1.1.0; table = fields.1.1.1.1.0; moves = fields.1.1.1.1.1.0; location = fields.1.1.1.1.1.1.0; write = fields.1.1.1.1.1.1.1.0; expires = fields.1.1.1.1.1.1.1.1 })
+    (λ row. (row.serial, (row.word_a, (row.word_b, (row.principal, (row.table, (row.moves, (row.location, (row.write, row.expires)))))))))
     (λ row. refl) (λ fields. refl)

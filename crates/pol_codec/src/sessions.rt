@@ -1,11 +1,12 @@
-//! The forms of scopes and sessions.
+//! The forms of scopes, sessions and storage tokens.
 ghost use Rattle.std.specs.Prelude.{⊤};
 ghost use Rattle.pol_codec.specs.Rows as rows;
 
 use crate::Rows;
-use pol_forms::{CodecRefused, Coder, Common, ListOf, Unread, write_variant};
+use pol_forms::{ByteForm, CodecRefused, Coder, Common, ListOf, Unread, write_variant};
+use pol_locations::Location;
 use pol_names::Scope;
-use pol_tokens::SessionRow;
+use pol_tokens::{SessionRow, TokenRow};
 use pol_types::{Listed, OutOfMemory};
 use std::alloc::Global;
 
@@ -60,6 +61,46 @@ impl Coder<SessionRow> for Rows {
             word_b,
             principal,
             scope,
+            expires,
+        })
+    }
+}
+
+#[tactic(auto, unfolding(crate::specs::Rows::token))]
+impl Coder<TokenRow> for Rows {
+    ghost form = { rows.token };
+
+    fn write(row: &TokenRow, written: &mut Vec<u8>) -> Result<(), OutOfMemory> {
+        row.serial.write(written)?;
+        row.word_a.write(written)?;
+        row.word_b.write(written)?;
+        row.principal.write(written)?;
+        row.table.write(written)?;
+        row.moves.write(written)?;
+        row.location.write(written)?;
+        row.write.write(written)?;
+        row.expires.write(written)
+    }
+
+    fn read(alloc: Global, unread: &mut Unread<'_>) -> Result<TokenRow, CodecRefused> {
+        let serial = u64::read(alloc, unread)?;
+        let word_a = u64::read(alloc, unread)?;
+        let word_b = u64::read(alloc, unread)?;
+        let principal = u64::read(alloc, unread)?;
+        let table = u64::read(alloc, unread)?;
+        let moves = u64::read(alloc, unread)?;
+        let location = Location::read(alloc, unread)?;
+        let write = bool::read(alloc, unread)?;
+        let expires = u64::read(alloc, unread)?;
+        Ok(TokenRow {
+            serial,
+            word_a,
+            word_b,
+            principal,
+            table,
+            moves,
+            location,
+            write,
             expires,
         })
     }

@@ -5,7 +5,7 @@ use Rattle.pol_commands.specs.declared.reply.OptionName.TheVariants as option
 use Rattle.pol_commands.specs.declared.reply.Quantity.{Quantity}
 use Rattle.pol_commands.specs.declared.reply.Quantity.TheVariants.{Catalogs, Principals, PrincipalRoles, CatalogRoles, Members, Joins, Grants, Namespaces, Tables, Views, AllowedLocations, Schemas, PartitionSpecs, SortOrders, Refs, Snapshots, Properties, Weight, TransactionTables, NextId, NextSerial, Version}
 use Rattle.pol_commands.specs.declared.reply.Refusal.{Refusal}
-use Rattle.pol_commands.specs.declared.reply.Refusal.TheVariants.{RunFull, InvalidClient, InvalidScope, Unauthenticated, NoCatalogue, Forbidden, NoNamespace, NoTable, NoView, NoSuchRole, NameTaken, NotEmpty, KeyTwice, TableTwice, RequirementFailed, UpdateRefused, BadLocation, LocationOutside, LocationOverlap, Unsupported, Limit, Reserved}
+use Rattle.pol_commands.specs.declared.reply.Refusal.TheVariants.{RunFull, InvalidClient, InvalidScope, Unauthenticated, NoCatalogue, Forbidden, NoNamespace, NoTable, NoView, NoSuchRole, NameTaken, NotEmpty, KeyTwice, TableTwice, RequirementFailed, UpdateRefused, BadLocation, LocationOutside, LocationOverlap, Unsupported, Limit, Reserved, TooManyTokens, TokenUnknown, NotCovered, NotWritable}
 use Rattle.pol_commands.specs.declared.reply.Reply.{Reply}
 use Rattle.pol_commands.specs.declared.reply.Reply.TheVariants.{Answered, Refused}
 use Rattle.pol_updates.specs.declared.update.LeftOut.{LeftOut}
@@ -73,9 +73,13 @@ is_full (UpdateRefused table update why) = false
 is_full (BadLocation place why) = false
 is_full (LocationOutside location) = false
 is_full (LocationOverlap location other) = false
+is_full (TooManyTokens live) = false
 is_full (Unsupported name) = false
 is_full (Limit quantity bound) = false
 is_full (Reserved name) = false
+is_full TokenUnknown = false
+is_full NotCovered = false
+is_full NotWritable = false
 
 -- whether a reply is that refusal
 abbrev pub is_run_full : Reply → Bool

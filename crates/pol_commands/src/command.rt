@@ -1,6 +1,8 @@
 use crate::{Commit, CreateTable, CreateView, Grant, ViewCommit};
+use pol_locations::Location;
 use pol_names::{Identifier, Namespace, Plain};
 use pol_properties::Properties;
+use pol_tokens::Act;
 use pol_types::{Bytes, Listed, Text};
 
 /// One request to the catalogue: who asks, at which moment (milliseconds since the Unix epoch, at most 2^62), the
@@ -106,18 +108,26 @@ pub enum Action {
         namespace: Namespace,
     },
     /// Creates a table in a namespace (Iceberg REST OpenAPI, createTable). Where its location isn't given, it is the
-    /// catalogue's base with the levels and the table's name below. Its uuid is made of the first two words.
+    /// catalogue's base with the levels and the table's name below. Its uuid is made of the first two words. Where it is
+    /// delegated, a storage token is issued too, whose text is made of the other two.
     CreateTable {
         catalog: Plain,
         namespace: Namespace,
         request: CreateTable,
+        delegated: bool,
     },
     /// Shows a table with its metadata (Iceberg REST OpenAPI, loadTable): with all its snapshots, or with those alone
-    /// that its references name.
+    /// that its references name. Where it is delegated, a storage token is issued too.
     LoadTable {
         catalog: Plain,
         identifier: Identifier,
         refs_only: bool,
+        delegated: bool,
+    },
+    /// Issues a storage token of a table (Iceberg REST OpenAPI, loadCredentials).
+    LoadCredentials {
+        catalog: Plain,
+        identifier: Identifier,
     },
     /// Tells whether a table is there (Iceberg REST OpenAPI, tableExists).
     HeadTable {
@@ -291,5 +301,10 @@ pub enum Action {
         catalog: Plain,
         role: Plain,
         grant: Grant,
+    },
+    /// Asks whether the bearer of a storage token may do this with the object at a path, or with those below it.
+    Access {
+        path: Location,
+        act: Act,
     },
 }

@@ -8,6 +8,7 @@ use pol_locations::{Location, LocationRefused};
 use pol_meta::{TableMetadata, Why};
 use pol_names::{Identifier, Namespace, Plain};
 use pol_properties::Properties;
+use pol_tokens::TokenRow;
 use pol_types::{Listed, Text};
 use pol_updates::LeftOut;
 use pol_views::ViewMetadata;
@@ -76,15 +77,20 @@ pub enum Answer {
     /// The tables that were asked for, in byte order of their names.
     TablesListed(Listed<Identifier>),
     /// This table was created, or asked for: where its metadata is, and the metadata, shared with its row where all of
-    /// it was asked for.
+    /// it was asked for, and the storage token that was issued, if one was.
     TableLoaded {
         metadata_location: Text,
         metadata: Handle<TableMetadata>,
+        token: Option<TokenRow>,
     },
     /// A table is there.
     TableThere,
     /// A table was dropped.
     TableDropped,
+    /// This storage token was issued.
+    CredentialsLoaded {
+        token: TokenRow,
+    },
     /// A report on a table was taken.
     MetricsReported,
     /// A table was committed to: where its metadata is now, and the metadata, shared with its row.
@@ -152,6 +158,8 @@ pub enum Answer {
     GrantAdded,
     /// A grant was revoked.
     GrantRevoked,
+    /// The storage token opens the path for this act.
+    AccessAllowed,
 }
 
 /// Why a command is refused.
@@ -240,6 +248,10 @@ pub enum Refusal {
         location: Location,
         other: Location,
     },
+    /// The principal has as many unexpired sessions, or storage tokens, as it may.
+    TooManyTokens {
+        live: u64,
+    },
     /// The command holds an option that isn't supported.
     Unsupported {
         name: OptionName,
@@ -253,6 +265,12 @@ pub enum Refusal {
     Reserved {
         name: Text,
     },
+    /// No unexpired storage token has this text, or its table is gone or has moved since.
+    TokenUnknown,
+    /// The storage token's location doesn't cover the path.
+    NotCovered,
+    /// The request writes, and the storage token is for reading alone.
+    NotWritable,
 }
 
 /// An option of a request that isn't supported.

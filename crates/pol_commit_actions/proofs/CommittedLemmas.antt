@@ -1,8 +1,9 @@
 -- The rows once commits are done are orderly.
-use Rattle.std.proofs.Common.{◌≡◌, ℕ, ◌+◌, Bool, true, false, List, [], ◌∷◌, map, Option, None, Some, Result, Ok, Err, option_and_then, refl, sym, ap, subst, ◌∙◌, inl, inr, arith}
+use Rattle.std.proofs.Common.{◌≡◌, ℕ, ◌+◌, Bool, true, false, not, List, [], ◌∷◌, map, Option, None, Some, Result, Ok, Err, option_and_then, refl, sym, ap, subst, ◌∙◌, inl, inr, arith}
 use Rattle.std.specs.Prelude.{◌⊎◌}
 use Rattle.std.specs.List.{list_any, AllByRecursion}
 use Rattle.std.specs.Option.{option_map}
+use Rattle.std.proofs.lemmas.Bool.{eq-eqb}
 use Rattle.pol_commands.specs.declared.command.Command.{Command}
 use Rattle.pol_commands.specs.declared.commit.Commit.{Commit}
 use Rattle.pol_commands.specs.declared.reply.Refusal.{Refusal}
@@ -22,6 +23,7 @@ use Rattle.pol_state.specs.Sound.{IsOrderly, IsSound}
 use Rattle.pol_rules.specs.Acting.{stamped}
 use Rattle.pol_rules.specs.Prologues.{table_row_at}
 use Rattle.pol_rules.specs.Rules.{time_of}
+use Rattle.pol_rules.proofs.FitLemmas.{fit-altered, MovesOn}
 use Rattle.pol_rules.proofs.FoundLemmas.{found-holds}
 use Rattle.pol_rules.proofs.RulesLemmas.{none-either}
 use Rattle.pol_rules.proofs.SoundLemmas.{tables-orderly, IsWithin}
@@ -112,11 +114,19 @@ module _ (s : Rows) (command : Command) (sound : IsSound s) where
         let namespaces = each-map (λ one. knows namespace_id one.namespace s.content.namespaces ≡ true) alter rows (each-join (IsAlike alter) (λ row. knows namespace_id row.namespace s.content.namespaces ≡ true) (λ row. knows namespace_id (alter row).namespace s.content.namespaces ≡ true) rows (λ row like known. ap (λ id. knows namespace_id id s.content.namespaces) like.namespace ∙ known) alike sound.orderly.content.tables.namespaces) in
         let each = each-map IsSoundTable alter rows (each-join (λ row. row_of table_id row.id rows ≡ Some row) IsSoundTable (λ row. IsSoundTable (alter row)) rows (λ row own itself. left-holds s after tables IsSoundTable row placed own itself (λ one at is. at.kept.sound)) tables-own sound.orderly.content.tables.each) in
         let spots = each-weaken (λ row. row_of table_id row.id rows ≡ Some row) (Spot alter after) rows (λ row own. left-holds s after tables (λ (one : TableRow). (one.location ≡ row.location) ⊎ (overlap_among after one ≡ None)) row placed own (inl refl) (λ one at is. spot after row one at is (is_moved one) refl)) tables-own in
+        let on = each-weaken (λ row. row_of table_id row.id rows ≡ Some row) (λ row. MovesOn row (alter row)) rows (λ row own. left-holds s after tables (MovesOn row) row placed own (record { moves = omega arith; stays = λ same. refl }) (λ one at is. moved-on row one at.kept is)) tables-own in
         tables-orderly s command s.access (record s.content { tables = after }) s.next_id sound within (omega arith) sound.orderly.access
         (content.altered_tables s.next_id s.content alter ids (names-differ alter rows alike sound.orderly.content.tables.names_differ) namespaces (apart-rows alter ids after rows (λ P all. all) spots tables-differ sound.orderly.content.tables.apart) each (each-weaken (λ view. list_any (is_table_named view.namespace view.name) rows ≡ false) (λ view. list_any (is_table_named view.namespace view.name) after ≡ false) s.content.views (λ view none. none-named alter view.namespace view.name rows alike ∙ none) sound.orderly.content.views.names_apart) sound.orderly.content)
         (ties.altered_tables s.access s.content sound.orderly.ties alter ids (λ id row found.
         ap (λ namespace. catalog_of_namespace namespace s.content) (found-holds (IsAlike alter) (has_id table_id id) rows row alike found).namespace))
+        (fit-altered s sound alter ids on)
       where
+        moved-on : (row : TableRow) (one : CommittedTable) → IsKept s one → one.before ≡ row → MovesOn row one.after
+        moved-on row one kept is = subst (λ before. MovesOn before one.after) is (record {
+          moves = kept.grows;
+          stays = λ same. kept.stays (ap not (eq-eqb one.after.moves one.before.moves same));
+        })
+
         spot : (after : List TableRow) (row : TableRow) (one : CommittedTable) → IsPlaced s after one → one.before ≡ row → (b : Bool) → is_moved one ≡ b → (one.after.location ≡ row.location) ⊎ (overlap_among after one.after ≡ None)
         spot after row one at is true moves = inr (at.clear moves)
         spot after row one at is false stays = inl (at.kept.stays stays ∙ ap (λ (before : TableRow). before.location) is)

@@ -46,7 +46,7 @@ module _ (s : Rows) (command : Command) where
     rows = rows-owed name (commit ∷ []);
     orderly = λ sound within passes. orderly-committed s command sound within name (commit ∷ []) passes;
     fair = fair-committing command name (commit ∷ []) none-fair;
-    answer = refl;
+    answer = λ sound. refl;
   }
 
   pub owes-commit_transaction : (name : List ℕ) (commits : List Commit) → OwesAlike (λ t. commit_transaction t command name commits)
@@ -54,7 +54,7 @@ module _ (s : Rows) (command : Command) where
     rows = rows-owed name commits;
     orderly = λ sound within passes. orderly-committed s command sound within name commits passes;
     fair = fair-committing command name commits none-fair;
-    answer = refl;
+    answer = λ sound. refl;
   }
 
   -- the table that is renamed has the id of one that is there
@@ -83,5 +83,5 @@ module _ (s : Rows) (command : Command) where
         ⊳ fair-inside name (fair-no_table source)
         ⊳ fair-given (namespace_row_at s name destination.namespace) (λ (namespace : NamespaceRow). fair-name_taken (part_named namespace.id destination.name s.content) destination.name)
         ⊳ none-fair;
-    answer = refl;
+    answer = λ sound. refl;
   }

@@ -25,6 +25,7 @@ use Rattle.pol_state.specs.Sound.{IsOrderly, IsSound}
 use Rattle.pol_rules.specs.Acting.{stamped}
 use Rattle.pol_rules.specs.Prologues.{namespace_row_at, table_row_at}
 use Rattle.pol_rules.specs.Rules.{given, name_taken}
+use Rattle.pol_rules.proofs.FitLemmas.{fit-replaced}
 use Rattle.pol_rules.proofs.FoundLemmas.{found-holds}
 use Rattle.pol_rules.proofs.RulesLemmas.{name-free}
 use Rattle.pol_rules.proofs.SoundLemmas.{orderly-done, tables-orderly, IsWithin}
@@ -110,7 +111,8 @@ module _ (s : Rows) (command : Command) (sound : IsSound s) where
         (tables-orderly s command s.access (with_altered s new).content s.next_id sound within (omega arith) sound.orderly.access
         (content.renamed_table s.next_id s.content parts.old new sound.orderly.content own refl there free)
         (put_table s.access s.content sound.orderly.ties new (λ other known.
-        into ∙ sym (ap (λ (one : TableRow). catalog_of_namespace one.namespace s.content) (some_is other parts.old (sym known ∙ own)) ∙ lies)) unknown)))
+        into ∙ sym (ap (λ (one : TableRow). catalog_of_namespace one.namespace s.content) (some_is other parts.old (sym known ∙ own)) ∙ lies)) unknown)
+        (fit-replaced s sound parts.old new own (record { moves = omega arith; stays = λ same. refl }))))
 
 -- a table that is there doesn't have a name that none has
 pub other-name : (rows : List TableRow) (row : TableRow) (namespace : ℕ) (name : List ℕ) → row_of table_id row.id rows ≡ Some row → table_named namespace name rows ≡ None → is_table_named namespace name row ≡ false

@@ -29,6 +29,7 @@ pub record IsKept (s : Rows) (one : CommittedTable) : Type 0 where
   pub name : one.after.name ≡ one.before.name
   pub sound : IsSoundTable one.after
   pub stays : is_moved one ≡ false → one.after.location ≡ one.before.location
+  pub grows : one.before.moves ≤ one.after.moves
 
 -- texts that are no different are equal
 same_text : (left right : List ℕ) → not (bytes_eq left right) ≡ false → left ≡ right
@@ -94,6 +95,10 @@ version-kept time one made told kept = by (length one.commit.updates == 0) refl 
         absurd (omega (arith, grown))
 
 -- the numbers of a table that is committed to
+not-less : (number : ℕ) (test : Bool) → number ≤ grown_if test number
+not-less number true = omega arith
+not-less number false = omega arith
+
 moves-bound : (version moves : ℕ) (elsewhere empty : Bool) → moves ≤ version + 1 → (elsewhere ≡ true → empty ≡ false) → grown_if elsewhere moves ≤ grown_if (not empty) version + 1
 moves-bound version moves true true bound some = absurd (true≢false (some refl))
 moves-bound version moves true false bound some = omega (arith, bound)
@@ -133,4 +138,5 @@ committed-kept s time one made within there sound told passes =
         moved = moves-bound one.row.version one.row.moves elsewhere (length one.commit.updates == 0) sound.moved (moved-updates time one made told);
       };
       stays = stays-by one.row made elsewhere;
+      grows = not-less one.row.moves elsewhere;
     }

@@ -3,7 +3,7 @@ use Rattle.std.specs.Prelude.{Bool, false, Option, None, Some}
 use denote.Enum.Bare.{sameb}
 use Rattle.pol_content.specs.contracts.change.RowKind.{the_type}
 use Rattle.pol_content.specs.declared.change.Change.{Change}
-use Rattle.pol_content.specs.declared.change.Change.TheVariants.{Time, NextId, NextSerial, PutPrincipal, DropPrincipal, PutPrincipalRole, DropPrincipalRole, PutCatalog, DropCatalog, PutCatalogRole, DropCatalogRole, PutNamespace, DropNamespace, PutTable, DropTable, PutView, DropView, PutMember, DropMember, PutJoin, DropJoin, PutGrant, DropGrant, PutSession}
+use Rattle.pol_content.specs.declared.change.Change.TheVariants.{Time, NextId, NextSerial, PutPrincipal, DropPrincipal, PutPrincipalRole, DropPrincipalRole, PutCatalog, DropCatalog, PutCatalogRole, DropCatalogRole, PutNamespace, DropNamespace, PutTable, DropTable, PutView, DropView, PutMember, DropMember, PutJoin, DropJoin, PutGrant, DropGrant, PutSession, PutToken}
 use Rattle.pol_content.specs.declared.change.RowKind.{RowKind}
 use Rattle.pol_content.specs.declared.change.RowKind.TheVariants as kind
 
@@ -33,6 +33,7 @@ kind_put (DropJoin row) = None
 kind_put (PutGrant row) = Some kind.Grant
 kind_put (DropGrant row) = None
 kind_put (PutSession row) = Some kind.Session
+kind_put (PutToken row) = Some kind.Token
 
 -- whether a change puts a row of a kind
 abbrev pub is_kind : RowKind → Option RowKind → Bool

@@ -4,12 +4,13 @@ ghost use Rattle.pol_content.specs.Change.{kind_put};
 use crate::{CatalogRow, NamespaceRow};
 use pol_access::{CatalogRoleRow, GrantRow, JoinRow, MemberRow, PrincipalRoleRow, PrincipalRow};
 use pol_table_rows::TablePut;
-use pol_tokens::SessionRow;
+use pol_tokens::{SessionRow, TokenRow};
 use pol_view_rows::ViewRow;
 
 /// A change of a state. The changes of one command stand in the order of these variants, those of one variant by
 /// rising ids or serials, and those of members, joins and grants by rising rows. A put of a row with a new id or
-/// serial goes last, and a known id's row is replaced in its place; a drop takes that one row away.
+/// serial goes last, and a known id's row is replaced in its place; a drop takes that one row away. A session and a
+/// storage token never change: a put of a known serial changes nothing.
 #[derive(Debug, Drop, PartialEq, Eq)]
 pub enum Change {
     /// The state's time becomes this one.
@@ -39,6 +40,7 @@ pub enum Change {
     PutGrant(GrantRow),
     DropGrant(GrantRow),
     PutSession(SessionRow),
+    PutToken(TokenRow),
 }
 
 impl Change {
@@ -58,6 +60,7 @@ impl Change {
             Change::PutJoin(_) => Some(RowKind::Join),
             Change::PutGrant(_) => Some(RowKind::Grant),
             Change::PutSession(_) => Some(RowKind::Session),
+            Change::PutToken(_) => Some(RowKind::Token),
             Change::Time(_)
             | Change::NextId(_)
             | Change::NextSerial(_)
@@ -89,4 +92,5 @@ pub enum RowKind {
     Join,
     Grant,
     Session,
+    Token,
 }

@@ -149,7 +149,7 @@ module _ (s : Rows) (command : Command) where
           let put = subst (λ rows. IsSoundContent (s.next_id + 1) (record s.content { catalogs = rows })) (sym last) pushed in
           let after : ContentRows = record s.content { catalogs = rows_with catalog_id row s.content.catalogs } in
           let tied = created_catalog s.access s.content sound.orderly.ties row service there (new_ids s.next_id row.id s.content sound.orderly.content (omega (arith, id))) (new_ids s.next_id (row.id + 1) s.content sound.orderly.content (omega (arith, id))) (unknown-later s sound row.id (omega (arith, id))) (unknown-later s sound (row.id + 1) (omega (arith, id))) in
-          tables-orderly s command (with_admin row.id service.id s.access) after (s.next_id + 2) sound within (omega arith) (access-with_admin row service id there) (more_ids (s.next_id + 1) (s.next_id + 2) after (omega arith) put) tied
+          tables-orderly s command (with_admin row.id service.id s.access) after (s.next_id + 2) sound within (omega arith) (access-with_admin row service id there) (more_ids (s.next_id + 1) (s.next_id + 2) after (omega arith) put) tied sound.orderly.tokens_fit
 
       pub orderly-create_catalog : (name base : List ℕ) (allowed : List (List ℕ)) (properties : List Property) (external : Bool)
           → EachPasses (create_catalog s command name base allowed properties external).rules → IsOrderly (stamped s command (create_catalog s command name base allowed properties external).after)
@@ -163,14 +163,14 @@ module _ (s : Rows) (command : Command) where
       orderly-drop_catalog name passes = orderly-done s command sound within (catalog_named name s.content) (without_catalog s) (λ row is.
           let empty = catalog-empty s row (sym (ap (λ one. given one (catalog_holds s)) is) ∙ passes.1.1.1.0) in
           tables-orderly s command (without_catalog s row).access (without_catalog s row).content s.next_id sound within (omega arith) (dropped_catalog_roles s.next_id row.id s.access sound.orderly.access).1 (dropped_catalog s.next_id row.id s.content sound.orderly.content empty)
-          (ties.dropped_catalog s.access s.content sound.orderly.ties row.id (IdsDiffer-rising catalog_role_id s.access.catalog_roles sound.orderly.access.catalog_roles.rise)))
+          (ties.dropped_catalog s.access s.content sound.orderly.ties row.id (IdsDiffer-rising catalog_role_id s.access.catalog_roles sound.orderly.access.catalog_roles.rise)) sound.orderly.tokens_fit)
 
       -- a namespace that is dropped
       pub orderly-drop_namespace : (name : List ℕ) (levels : List (List ℕ)) → EachPasses (drop_namespace s command name levels).rules → IsOrderly (stamped s command (drop_namespace s command name levels).after)
       orderly-drop_namespace name levels passes = orderly-done s command sound within (namespace_row_at s name levels) (without_namespace s) (λ row is.
           let empty = namespace-empty s row (sym (ap (λ one. given one (namespace_holds s)) is) ∙ passes.1.1.1.1.0) in
           tables-orderly s command (without_namespace s row).access (without_namespace s row).content s.next_id sound within (omega arith) ((dropped_grants s.next_id s.access sound.orderly.access).1 (securable.Namespace row.id)) (dropped_namespace s.next_id row.id s.content sound.orderly.content empty)
-          (ties.dropped_namespace s.access s.content sound.orderly.ties row.id (no-parts row.id s.content empty).1 (no-parts row.id s.content empty).2))
+          (ties.dropped_namespace s.access s.content sound.orderly.ties row.id (no-parts row.id s.content empty).1 (no-parts row.id s.content empty).2) sound.orderly.tokens_fit)
 
       -- a namespace whose properties are removed and set
       pub orderly-update_properties : (name : List ℕ) (levels removals : List (List ℕ)) (updates : List Property) → EachPasses (update_properties s command name levels removals updates).rules → IsOrderly (stamped s command (update_properties s command name levels removals updates).after)
@@ -179,4 +179,4 @@ module _ (s : Rows) (command : Command) where
           let own = namespace-own name levels old is in
           let apart = found-holds (λ kept. is_access_id kept.id s.access ≡ false) (has_id namespace_id old.id) s.content.namespaces old sound.orderly.ties.ids_apart.namespaces own in
           tables-orderly s command s.access (with_altered s row).content s.next_id sound within (omega arith) sound.orderly.access (replaced_namespace s.next_id s.content old row sound.orderly.content own refl refl)
-          (put_namespace s.access s.content sound.orderly.ties row (λ kept there. ap (λ (one : NamespaceRow). one.catalog) (some_is old kept (sym own ∙ there))) apart))
+          (put_namespace s.access s.content sound.orderly.ties row (λ kept there. ap (λ (one : NamespaceRow). one.catalog) (some_is old kept (sym own ∙ there))) apart) sound.orderly.tokens_fit)

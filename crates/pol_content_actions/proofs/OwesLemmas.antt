@@ -33,10 +33,10 @@ use Rattle.pol_rules.specs.Live.{is_live, live_part}
 use Rattle.pol_state.specs.Bounds.{over_limit}
 use Rattle.pol_rules.specs.Prologues.{namespace_row_at}
 use Rattle.pol_rules.specs.Rules.{client_of, time_of, name_taken, no_parent, given}
-use Rattle.pol_rules.proofs.FairLemmas.{none-fair, ◌⊳◌, fair-bad_text, fair-bad_texts, fair-caller, fair-catalog_holds, fair-client, fair-given, fair-in_realm, fair-inside, fair-key_twice, fair-name_taken, fair-namespace_holds, fair-need, fair-no_catalogue, fair-no_parent, fair-on_namespace, fair-scope, fair-unsupported_type}
+use Rattle.pol_rules.proofs.FairLemmas.{none-fair, ◌⊳◌, IsFair, fair-same, fair-bad_text, fair-bad_texts, fair-caller, fair-catalog_holds, fair-client, fair-given, fair-in_realm, fair-inside, fair-key_twice, fair-name_taken, fair-namespace_holds, fair-need, fair-no_catalogue, fair-no_parent, fair-on_namespace, fair-scope, fair-unsupported_type}
 use Rattle.pol_rules.proofs.FoundLemmas.{catalog-own}
 use Rattle.pol_rules.proofs.LeadsLemmas.{leads-by, leads-one}
-use Rattle.pol_rules.proofs.OwesLemmas.{live-after, none-returns, owes-apart, owes-done, owes-reading, owes-same, with_tokens, DoSame, Owes, OwesRows}
+use Rattle.pol_rules.proofs.OwesLemmas.{live-after, none-returns, tokens-after, owes-apart, owes-done, owes-reading, owes-same, with_tokens, DoSame, Owes, OwesRows}
 use Rattle.pol_rules.proofs.SoundLemmas.{stamped-orderly, IsWithin, orderly-done, next_id-some, tables-orderly}
 use Rattle.pol_tables.proofs.TableLemmas.{is_some-row_of}
 use Rattle.pol_content.proofs.SoundLemmas.{pushed_namespace, whole_path, new_rows_last}
@@ -46,13 +46,15 @@ use Rattle.pol_content.specs.Sound.{IsSoundContent}
 use Rattle.pol_content.proofs.TiedContentLemmas.{put_namespace}
 use Rattle.pol_tables.proofs.NumberedLemmas.{below-next}
 use Rattle.pol_content.specs.declared.rows.CatalogRow.{CatalogRow}
+use Rattle.pol_token_rules.specs.Counts.{too_many_sessions}
+use Rattle.pol_token_rules.proofs.FairTokenLemmas.{fair-too_many_sessions}
 use Rattle.pol_content_actions.specs.Catalogs.{create_catalog, drop_catalog, get_catalog, get_config, list_catalogs, new_catalog, with_catalog, without_catalog}
 use Rattle.pol_content_actions.specs.Namespaces.{create_namespace, drop_namespace, head_namespace, list_namespaces, load_namespace, update_properties, with_altered, with_new_namespace, with_properties, without_namespace}
 use Rattle.pol_content_actions.specs.Sessions.{open_session, opened, scope_of, session_opened, with_session}
 use Rattle.pol_content_actions.proofs.ActionLemmas.{namespace-own, orderly-create_catalog, orderly-drop_catalog, orderly-drop_namespace, orderly-update_properties, unaltered, none-unknown, path-whole}
 use Rattle.pol_content_actions.proofs.ChangesLemmas.{admin-last, changes-altered, changes-opened, changes-with_catalog, changes-without_catalog, changes-without_namespace, namespace_changes, unknown-later}
 use Rattle.pol_content_actions.proofs.SessionsLemmas.{leads-opened, opened-below}
-use Rattle.pol_content_actions.proofs.SoundLemmas.{client-given, opened-orderly, scope-given}
+use Rattle.pol_content_actions.proofs.SoundLemmas.{client-given, client-known, opened-orderly, scope-given}
 
 module _ (s : Rows) (command : Command) where
   abbrev live : Rows
@@ -79,6 +81,7 @@ module _ (s : Rows) (command : Command) where
               ∙ ap (λ kept. kept ++ filter (is_live after) (row ∷ [])) (live-after s command s (none-returns s command))
               ∙ sym (filter-append (is_live after) (filter (is_live s) s.tokens.sessions) (row ∷ []))
               ) i;
+          tokens = tokens-after s command s i;
         }) after;
       }
 
@@ -91,7 +94,7 @@ module _ (s : Rows) (command : Command) where
   rows-opened scopes (Some principal) = record {
     leads = λ sound. leads-opened s command scopes principal sound;
     same = λ sound. subst (λ row. DoSame s (stamped s command (with_session s (opened s command scopes principal))) (stamped live command (with_session live row))) (opened-alike scopes principal) (same-session (opened s command scopes principal) (opened-below s command scopes principal sound));
-    bounds = bounds-session (opened s command scopes principal) (opened live command scopes principal);
+    bounds = λ sound. bounds-session (opened s command scopes principal) (opened live command scopes principal);
   }
 
   orderly-opened : (client_id secret : List ℕ) (scopes : List (List ℕ)) → IsSound s → IsWithin s command
@@ -101,13 +104,20 @@ module _ (s : Rows) (command : Command) where
   orderly-opened client_id secret scopes sound within (Some principal) found =
       opened-orderly s command (opened s command scopes principal) sound within refl (client-given s client_id secret principal sound found) (scope-given s principal.id scopes sound)
 
+  -- a client's principal is there, so its live sessions are all that count
+  fair-few : (client_id secret : List ℕ) (client : Option PrincipalRow) → client_of s client_id secret ≡ client
+      → IsFair s (given client (λ (principal : PrincipalRow). too_many_sessions s command principal.id)) (given client (λ (principal : PrincipalRow). too_many_sessions live command principal.id))
+  fair-few client_id secret None is = fair-same refl
+  fair-few client_id secret (Some principal) is =
+      fair-too_many_sessions command principal.id (client-known s client_id secret principal is)
+
   pub owes-open_session : (client_id secret : List ℕ) (scopes : List (List ℕ)) → OwesAlike (λ t. open_session t command client_id secret scopes)
   unfolding client_of
   owes-open_session client_id secret scopes = record {
     rows = rows-opened scopes (client_of s client_id secret);
     orderly = λ sound within passes. orderly-opened client_id secret scopes sound within (client_of s client_id secret) refl;
-    fair = fair-client client_id secret ⊳ fair-given (client_of s client_id secret) (λ principal. fair-scope principal.id scopes) ⊳ none-fair;
-    answer = refl;
+    fair = fair-client client_id secret ⊳ fair-given (client_of s client_id secret) (λ principal. fair-scope principal.id scopes) ⊳ fair-few client_id secret (client_of s client_id secret) refl ⊳ none-fair;
+    answer = λ sound. refl;
   }
 
   -- catalogues
@@ -126,7 +136,7 @@ module _ (s : Rows) (command : Command) where
             leads-by s command (with_catalog s row role) _ (changes-with_catalog s sound (time_of s command) (s.charged + command.charge) row role refl admin.0 admin.1) refl));
         orderly = λ sound within passes. orderly-create_catalog s command sound within name base allowed properties external passes;
         fair = fair-in_realm command (fair-name_taken _ name ⊳ fair-bad_text base ⊳ fair-bad_texts allowed ⊳ fair-unsupported_type external ⊳ none-fair);
-        answer = refl;
+        answer = λ sound. refl;
       }
 
   pub owes-get_catalog : (name : List ℕ) → OwesAlike (λ t. get_catalog t command name)
@@ -144,7 +154,7 @@ module _ (s : Rows) (command : Command) where
         (facts-dropped grant.the_row.coded grant_cmp DropGrant (λ grants. record after { access = record after.access { grants = grants } }) (λ grants fact. refl) (grant_names s.access.catalog_roles named) s.access.grants)).is));
     orderly = λ sound within passes. orderly-drop_catalog s command sound within name passes;
     fair = fair-caller command ⊳ fair-no_catalogue name ⊳ fair-need command _ ⊳ fair-inside name fair-catalog_holds ⊳ none-fair;
-    answer = refl;
+    answer = λ sound. refl;
   }
 
   -- namespaces
@@ -166,9 +176,9 @@ module _ (s : Rows) (command : Command) where
         let last = (new_rows_last s.next_id s.content sound.orderly.content).1 row refl in
         tables-orderly s command s.access (with_new_namespace s row).content (s.next_id + 1) sound within (omega arith) (access_more_ids s.next_id (s.next_id + 1) s.access (omega arith) sound.orderly.access)
         (subst (λ rows. IsSoundContent (s.next_id + 1) (record s.content { namespaces = rows })) (sym last) pushed)
-        (put_namespace s.access s.content sound.orderly.ties row (λ old known. none-unknown namespace_id s.next_id s.content.namespaces old known (knows-below namespace_id s.next_id s.content.namespaces (below-next namespace_id s.next_id s.content.namespaces sound.orderly.content.namespaces))) (unknown-later s sound s.next_id (omega arith))));
+        (put_namespace s.access s.content sound.orderly.ties row (λ old known. none-unknown namespace_id s.next_id s.content.namespaces old known (knows-below namespace_id s.next_id s.content.namespaces (below-next namespace_id s.next_id s.content.namespaces sound.orderly.content.namespaces))) (unknown-later s sound s.next_id (omega arith))) sound.orderly.tokens_fit);
     fair = fair-caller command ⊳ fair-no_catalogue name ⊳ fair-inside name (λ catalog. fair-need command _) ⊳ fair-inside name (λ catalog. fair-no_parent catalog.id (parent_of levels)) ⊳ fair-inside name (λ catalog. fair-name_taken _ (dotted levels)) ⊳ none-fair;
-    answer = refl;
+    answer = λ sound. refl;
   }
 
   pub owes-load_namespace : (name : List ℕ) (levels : List (List ℕ)) → OwesAlike (λ t. load_namespace t command name levels)
@@ -187,7 +197,7 @@ module _ (s : Rows) (command : Command) where
         (facts-dropped grant.the_row.coded grant_cmp DropGrant (λ grants. record after { access = record after.access { grants = grants } }) (λ grants fact. refl) (grant_names s.access.catalog_roles (referent.Securable (securable.Namespace row.id))) s.access.grants).is));
     orderly = λ sound within passes. orderly-drop_namespace s command sound within name levels passes;
     fair = fair-on_namespace command _ name levels (fair-given (namespace_row_at s name levels) fair-namespace_holds ⊳ none-fair);
-    answer = refl;
+    answer = λ sound. refl;
   }
 
   pub owes-update_properties : (name : List ℕ) (levels removals : List (List ℕ)) (updates : List Property) → OwesAlike (λ t. update_properties t command name levels removals updates)
@@ -199,5 +209,5 @@ module _ (s : Rows) (command : Command) where
         leads-one s command (with_altered s altered) (PutNamespace altered) true (same namespace.the_row.coded altered row) (λ as_is. unaltered s command sound altered (own ∙ ap Some (sym (same-true namespace.the_row.coded altered row as_is)))) (changes-altered s sound (time_of s command) (s.charged + command.charge) altered row own) refl));
     orderly = λ sound within passes. orderly-update_properties s command sound within name levels removals updates passes;
     fair = fair-on_namespace command _ name levels (fair-key_twice removals updates ⊳ none-fair);
-    answer = refl;
+    answer = λ sound. refl;
   }

@@ -3,9 +3,10 @@ use Rattle.std.proofs.Common.{◌≡◌, ℕ, ◌+◌, List, [], ◌∷◌, Opti
 use Rattle.pol_access.specs.declared.rows.PrincipalRow.{PrincipalRow}
 use Rattle.pol_tables.specs.Rising.{KeysBelow}
 use Rattle.pol_tables.proofs.RisingLemmas.{knows-below}
-use Rattle.pol_tables.proofs.TableLemmas.{rows_with-new}
 use Rattle.pol_content.specs.declared.change.Change.TheVariants.{Time, NextSerial, PutSession}
 use Rattle.pol_tokens.specs.Tokens.{serial_of}
+use Rattle.pol_tokens.proofs.HeldLemmas.{once-new}
+use Rattle.pol_token_rules.specs.Counts.{too_many_sessions}
 use Rattle.pol_names.specs.declared.scope.Scope.{Scope}
 use Rattle.pol_commands.specs.declared.command.Command.{Command}
 use Rattle.pol_commands.specs.declared.reply.Refusal.{Refusal}
@@ -53,7 +54,7 @@ module _ (s : Rows) (command : Command) (scopes : List (List ℕ)) where
   pub leads-opened : (principal : PrincipalRow) → IsSound s → Leads s command (with_session s (opened s command scopes principal))
   leads-opened principal sound =
       let row = opened s command scopes principal in
-      leads-by s command (with_session s row) _ (changes-session principal sound) (λ i. record (with_session s row) { tokens = record { sessions = rows_with-new serial_of row s.tokens.sessions (knows-below serial_of row.serial s.tokens.sessions (opened-below principal sound)) i }; time = time_of s command })
+      leads-by s command (with_session s row) _ (changes-session principal sound) (λ i. record (with_session s row) { tokens = record s.tokens { sessions = once-new serial_of row s.tokens.sessions (knows-below serial_of row.serial s.tokens.sessions (opened-below principal sound)) i }; time = time_of s command })
 
   module _ (client_id secret : List ℕ) where
     abbrev rules : List (Option Refusal)
@@ -63,8 +64,12 @@ module _ (s : Rows) (command : Command) (scopes : List (List ℕ)) where
       scope_rule : (rule : Option Refusal) → invalid_scope s principal.id scopes ≡ rule → given (client_of s client_id secret) (λ principal. invalid_scope s principal.id scopes) ≡ rule
       scope_rule rule is = ap (λ client. given client (λ principal. invalid_scope s principal.id scopes)) found ∙ is
 
-      pub none-refused : invalid_scope s principal.id scopes ≡ None → first_refusal rules ≡ None
-      none-refused passes = refusal-past _ _ _ known (refusal-past _ [] None (scope_rule None passes) refl)
+      count_rule : (rule : Option Refusal) → too_many_sessions s command principal.id ≡ rule → given (client_of s client_id secret) (λ (one : PrincipalRow). too_many_sessions s command one.id) ≡ rule
+      count_rule rule is = ap (λ client. given client (λ (one : PrincipalRow). too_many_sessions s command one.id)) found ∙ is
+
+      pub none-refused : invalid_scope s principal.id scopes ≡ None → too_many_sessions s command principal.id ≡ None → first_refusal rules ≡ None
+      none-refused passes few =
+          refusal-past _ _ _ known (refusal-past _ _ None (scope_rule None passes) (refusal-past _ [] None (count_rule None few) refl))
 
       -- the changes of the action
       pub changes-acting : IsSound s → changes_between s (stamped s command (open_session s command client_id secret scopes).after) ≡ Time (time_of s command) ∷ NextSerial (s.next_serial + 1) ∷ PutSession (opened s command scopes principal) ∷ []

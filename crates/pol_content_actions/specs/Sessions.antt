@@ -8,6 +8,7 @@ use Rattle.pol_names.specs.declared.scope.Scope.TheVariants as scope
 use Rattle.pol_tokens.specs.declared.session.SessionRow.{SessionRow}
 use Rattle.pol_state.specs.Rows.{Rows}
 use Rattle.pol_rules.specs.Acting.{Acting}
+use Rattle.pol_token_rules.specs.Counts.{too_many_sessions}
 use Rattle.pol_rules.specs.Rules.{client_of, invalid_client, invalid_scope, given, held_role, all_roles, time_of}
 use Rattle.pol_commands.specs.declared.command.Command.{Command}
 use Rattle.pol_commands.specs.declared.reply.Answer.TheVariants.{SessionOpened}
@@ -33,7 +34,7 @@ opened s command scopes principal = record {
 -- the rows with one more session
 abbrev pub with_session : Rows → SessionRow → Rows
 with_session s row =
-    record s { tokens = record { sessions = s.tokens.sessions ++ row ∷ [] }; next_serial = s.next_serial + 1 }
+    record s { tokens = record s.tokens { sessions = s.tokens.sessions ++ row ∷ [] }; next_serial = s.next_serial + 1 }
 
 -- the rows once a session is opened for the principal that was found
 abbrev pub session_opened : Rows → Command → List (List ℕ) → Option PrincipalRow → Rows
@@ -45,7 +46,7 @@ abbrev pub open_session : Rows → Command → List ℕ → List ℕ → List (L
 open_session s command client_id secret scopes =
     let client = client_of s client_id secret in
     record {
-      rules = invalid_client s client_id secret ∷ given client (λ principal. invalid_scope s principal.id scopes) ∷ [];
+      rules = invalid_client s client_id secret ∷ given client (λ principal. invalid_scope s principal.id scopes) ∷ given client (λ (principal : PrincipalRow). too_many_sessions s command principal.id) ∷ [];
       after = session_opened s command scopes client;
       answer = Some (SessionOpened s.next_serial command.words.a command.words.b);
     }

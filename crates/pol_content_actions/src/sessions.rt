@@ -8,6 +8,7 @@ use pol_commands::Answer;
 use pol_content::Change;
 use pol_rules::callers::client_there;
 use pol_rules::rules::{Acted, Asked, Undone, time_of};
+use pol_token_rules::counts::sessions_open;
 use pol_tokens::{SESSION_LIFE, SessionRow};
 use pol_types::{Listed, Text};
 
@@ -25,6 +26,7 @@ pub fn open_session(
 {
     let principal = client_there(asked, client_id.as_str(), secret.as_str())?.id;
     scopes_there(asked, principal, scopes)?;
+    sessions_open(asked, principal)?;
     let serial = asked.state.next_serial();
     let scope = scope_of(asked, principal, scopes)?;
     let (word_a, word_b) = (asked.command.words.a, asked.command.words.b);

@@ -44,7 +44,7 @@ module _ (s : Rows) (command : Command) where
     rows = owes-done s command (catalog_named catalog s.content) (with_role_in s name) (with_role_in live name) (λ owner found. owes-apart s command (with_role_in s name owner) refl (λ sound. leads-by s command (with_role_in s name owner) _ (catalog_role_changes s command sound (record { id = s.next_id; catalog = owner.id; name = name }) refl) refl));
     orderly = λ sound within passes. orderly-create_catalog_role s command sound within catalog name passes;
     fair = fair-in_catalog command catalog (fair-inside catalog (λ row. fair-name_taken _ name) ⊳ none-fair);
-    answer = refl;
+    answer = λ sound. refl;
   }
 
   pub owes-get_catalog_role : (catalog name : List ℕ) → OwesAlike (λ t. get_catalog_role t command catalog name)
@@ -61,7 +61,7 @@ module _ (s : Rows) (command : Command) where
         (facts-dropped grant_row.the_row.coded grant_cmp DropGrant (λ grants. record after { access = record after.access { grants = grants } }) (λ grants fact. refl) (grant_names s.access.catalog_roles named) s.access.grants)).is));
     orderly = λ sound within passes. orderly-drop_catalog_role s command sound within catalog name passes;
     fair = fair-in_catalog command catalog (fair-inside catalog (fair-no_catalog_role name) ⊳ fair-reserved (codes "catalog_admin") name ⊳ none-fair);
-    answer = refl;
+    answer = λ sound. refl;
   }
 
   -- joins
@@ -75,7 +75,7 @@ module _ (s : Rows) (command : Command) where
         leads-one s command (with_join s row) (PutJoin row) true (holds join.the_row.coded row s.access.joins) (λ known. λ i. record s { access = record s.access { joins = facts_with-known join.the_row.coded row s.access.joins known i } }) (new_join_changes s command row) refl));
     orderly = λ sound within passes. orderly-add_join s command sound within catalog role catalog_role passes;
     fair = fair-in_catalog command catalog (fair-no_principal_role role ⊳ fair-inside catalog (fair-no_catalog_role catalog_role) ⊳ none-fair);
-    answer = refl;
+    answer = λ sound. refl;
   }
 
   pub owes-end_join : (catalog role catalog_role : List ℕ) → OwesAlike (λ t. end_join t command catalog role catalog_role)
@@ -85,7 +85,7 @@ module _ (s : Rows) (command : Command) where
         leads-one s command (without_join s row) (DropJoin row) false (holds join.the_row.coded row s.access.joins) (λ none. λ i. record s { access = record s.access { joins = facts_without-unknown join.the_row.coded row s.access.joins none i } }) (ended_join_changes s command sound row) refl));
     orderly = λ sound within passes. orderly-end_join s command sound within catalog role catalog_role passes;
     fair = fair-in_catalog command catalog (fair-no_principal_role role ⊳ fair-inside catalog (fair-no_catalog_role catalog_role) ⊳ fair-given (join_of s catalog role catalog_role) (fair-no_join catalog_role) ⊳ fair-reserved_join role catalog_role ⊳ none-fair);
-    answer = refl;
+    answer = λ sound. refl;
   }
 
   -- grants
@@ -100,7 +100,7 @@ module _ (s : Rows) (command : Command) where
         leads-one s command (with_grant s row) (PutGrant row) true (holds grant_row.the_row.coded row s.access.grants) (λ known. λ i. record s { access = record s.access { grants = facts_with-known grant_row.the_row.coded row s.access.grants known i } }) (new_grant_changes s command row) refl));
     orderly = λ sound within passes. orderly-add_grant s command sound within catalog role grant passes;
     fair = fair-in_catalog command catalog (fair-inside catalog (fair-no_securable grant.on) ⊳ fair-inside catalog (fair-no_catalog_role role) ⊳ none-fair);
-    answer = refl;
+    answer = λ sound. refl;
   }
 
   pub owes-revoke : (catalog role : List ℕ) (grant : Grant) → OwesAlike (λ t. revoke t command catalog role grant)
@@ -110,5 +110,5 @@ module _ (s : Rows) (command : Command) where
         leads-one s command (without_grant s row) (DropGrant row) false (holds grant_row.the_row.coded row s.access.grants) (λ none. λ i. record s { access = record s.access { grants = facts_without-unknown grant_row.the_row.coded row s.access.grants none i } }) (ended_grant_changes s command sound row) refl));
     orderly = λ sound within passes. orderly-revoke s command sound within catalog role grant passes;
     fair = fair-in_catalog command catalog (fair-inside catalog (fair-no_securable grant.on) ⊳ fair-inside catalog (fair-no_catalog_role role) ⊳ fair-given (grant_of s catalog role grant) fair-no_grant ⊳ fair-reserved_grant role grant ⊳ none-fair);
-    answer = refl;
+    answer = λ sound. refl;
   }

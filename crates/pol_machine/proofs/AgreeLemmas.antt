@@ -40,7 +40,7 @@ module _ (s : Rows) (sound : IsSound s) (command : Command) where
 
   -- its rules are judged alike, and its bounds
   rules-alike : rules_within action ≡ rules_within other
-  rules-alike = λ i. owed.fair.alike sound i ++ owed.rows.bounds i ∷ []
+  rules-alike = λ i. owed.fair.alike sound i ++ owed.rows.bounds sound i ∷ []
 
   ends : DoSame s (next_state s command) (next_state live command)
   unfolding next_state run_full
@@ -52,7 +52,7 @@ module _ (s : Rows) (sound : IsSound s) (command : Command) where
   live-alike : DoesAlike command s live
   unfolding reply_of run_full
   live-alike = record {
-    reply = λ i. reply_by (first_refusal (run_full s command.charge ∷ rules-alike i)) (owed.answer i);
+    reply = λ i. reply_by (first_refusal (run_full s command.charge ∷ rules-alike i)) (owed.answer sound i);
     changes = ends.changes;
     next = ends.agree;
   }

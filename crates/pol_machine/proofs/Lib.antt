@@ -1,3 +1,4 @@
 pub mod AgreeLemmas
 pub mod DecisionLemmas
 pub mod OwesLemmas
+pub mod TokensLemmas

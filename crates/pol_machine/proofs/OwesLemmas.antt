@@ -1,6 +1,7 @@
 -- What each action of the machine owes.
+use Rattle.std.specs.Prelude.{ℕ, Bool, true, false, List}
 use Rattle.pol_commands.specs.declared.command.Action.{Action}
-use Rattle.pol_commands.specs.declared.command.Action.TheVariants.{OpenSession, GetConfig, ListCatalogs, CreateCatalog, GetCatalog, DropCatalog, ListNamespaces, CreateNamespace, LoadNamespace, HeadNamespace, DropNamespace, UpdateProperties, ListTables, CreateTable, LoadTable, HeadTable, DropTable, ReportMetrics, CommitTable, CommitTransaction, RenameTable, ListViews, CreateView, LoadView, HeadView, ReplaceView, DropView, RenameView, ListPrincipals, CreatePrincipal, GetPrincipal, DropPrincipal, Rotate, ListMembers, AddMember, EndMember, ListPrincipalRoles, CreatePrincipalRole, GetPrincipalRole, DropPrincipalRole, ListJoins, AddJoin, EndJoin, ListCatalogRoles, CreateCatalogRole, GetCatalogRole, DropCatalogRole, ListGrants, AddGrant, Revoke}
+use Rattle.pol_commands.specs.declared.command.Action.TheVariants.{OpenSession, GetConfig, ListCatalogs, CreateCatalog, GetCatalog, DropCatalog, ListNamespaces, CreateNamespace, LoadNamespace, HeadNamespace, DropNamespace, UpdateProperties, ListTables, CreateTable, LoadTable, HeadTable, DropTable, ReportMetrics, CommitTable, CommitTransaction, RenameTable, ListViews, CreateView, LoadView, HeadView, ReplaceView, DropView, RenameView, ListPrincipals, CreatePrincipal, GetPrincipal, DropPrincipal, Rotate, ListMembers, AddMember, EndMember, ListPrincipalRoles, CreatePrincipalRole, GetPrincipalRole, DropPrincipalRole, ListJoins, AddJoin, EndJoin, ListCatalogRoles, CreateCatalogRole, GetCatalogRole, DropCatalogRole, ListGrants, AddGrant, Revoke, LoadCredentials, Access}
 use Rattle.pol_commands.specs.declared.command.Command.{Command}
 use Rattle.pol_state.specs.Rows.{Rows}
 use Rattle.pol_rules.specs.Live.{live_part}
@@ -11,9 +12,21 @@ use Rattle.pol_view_actions.proofs.OwesLemmas.{owes-create_view, owes-drop_view,
 use Rattle.pol_content_actions.proofs.OwesLemmas.{owes-create_catalog, owes-create_namespace, owes-drop_catalog, owes-drop_namespace, owes-get_catalog, owes-get_config, owes-head_namespace, owes-list_catalogs, owes-list_namespaces, owes-load_namespace, owes-open_session, owes-update_properties}
 use Rattle.pol_principal_actions.proofs.OwesLemmas.{owes-add_member, owes-create_principal, owes-create_principal_role, owes-drop_principal, owes-drop_principal_role, owes-end_member, owes-get_principal, owes-get_principal_role, owes-list_members, owes-list_principal_roles, owes-list_principals, owes-rotate}
 use Rattle.pol_grant_actions.proofs.OwesLemmas.{owes-add_grant, owes-add_join, owes-create_catalog_role, owes-drop_catalog_role, owes-end_join, owes-get_catalog_role, owes-list_catalog_roles, owes-list_grants, owes-list_joins, owes-revoke}
-use Rattle.pol_machine.specs.Machine.{acting}
+use Rattle.pol_token_actions.proofs.OwesLemmas.{owes-access, owes-create_delegated, owes-load_credentials, owes-load_delegated}
+use Rattle.pol_names.specs.declared.identifier.Identifier.{Identifier}
+use Rattle.pol_commands.specs.declared.create_table.CreateTable.{CreateTable as NewTable}
+use Rattle.pol_machine.specs.Machine.{acting, creating, loading}
 
 module _ (s : Rows) (command : Command) where
+  -- creating and loading a table, with or without a storage token
+  owes-creating : (delegated : Bool) (name : List ℕ) (levels : List (List ℕ)) (request : NewTable) → Owes s command (creating delegated s command name levels request) (creating delegated (live_part s) command name levels request)
+  owes-creating false name levels request = owes-create_table s command name levels request
+  owes-creating true name levels request = owes-create_delegated s command name levels request
+
+  owes-loading : (delegated : Bool) (name : List ℕ) (identifier : Identifier) (refs_only : Bool) → Owes s command (loading delegated s command name identifier refs_only) (loading delegated (live_part s) command name identifier refs_only)
+  owes-loading false name identifier refs_only = owes-load_table s command name identifier refs_only
+  owes-loading true name identifier refs_only = owes-load_delegated s command name identifier refs_only
+
   pub owes : (action : Action) → Owes s command (acting s command action) (acting (live_part s) command action)
   owes (OpenSession client_id secret scopes) = owes-open_session s command client_id secret scopes
   owes (GetConfig name) = owes-get_config s command name
@@ -28,8 +41,9 @@ module _ (s : Rows) (command : Command) where
   owes (DropNamespace name levels) = owes-drop_namespace s command name levels
   owes (UpdateProperties name levels removals updates) = owes-update_properties s command name levels removals updates
   owes (ListTables name levels) = owes-list_tables s command name levels
-  owes (CreateTable name levels request) = owes-create_table s command name levels request
-  owes (LoadTable name identifier refs_only) = owes-load_table s command name identifier refs_only
+  owes (CreateTable name levels request delegated) = owes-creating delegated name levels request
+  owes (LoadTable name identifier refs_only delegated) = owes-loading delegated name identifier refs_only
+  owes (LoadCredentials name identifier) = owes-load_credentials s command name identifier
   owes (HeadTable name identifier) = owes-head_table s command name identifier
   owes (DropTable name identifier) = owes-drop_table s command name identifier
   owes (ReportMetrics name identifier) = owes-report_metrics s command name identifier
@@ -65,3 +79,4 @@ module _ (s : Rows) (command : Command) where
   owes (ListGrants catalog role) = owes-list_grants s command catalog role
   owes (AddGrant catalog role grant) = owes-add_grant s command catalog role grant
   owes (Revoke catalog role grant) = owes-revoke s command catalog role grant
+  owes (Access path act) = owes-access s command path act

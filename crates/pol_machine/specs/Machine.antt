@@ -1,5 +1,5 @@
 -- The machine: the reply to a command in a state, and the state after it.
-use Rattle.std.specs.Prelude.{List, [], ◌∷◌, ◌++◌, Option, Some, None}
+use Rattle.std.specs.Prelude.{ℕ, Bool, true, false, List, [], ◌∷◌, ◌++◌, Option, Some, None}
 use Rattle.pol_state.specs.Rows.{Rows}
 use Rattle.pol_state.specs.Bounds.{first_refusal, over_limit}
 use Rattle.pol_rules.specs.Rules.{run_full}
@@ -23,13 +23,26 @@ use Rattle.pol_view_actions.specs.Renaming.{rename_view}
 use Rattle.pol_view_actions.specs.Replacing.{replace_view}
 use Rattle.pol_view_actions.specs.Views.{drop_view, head_view, list_views, load_view}
 use Rattle.pol_commands.specs.declared.command.Action.{Action}
-use Rattle.pol_commands.specs.declared.command.Action.TheVariants.{OpenSession, GetConfig, ListCatalogs, CreateCatalog, GetCatalog, DropCatalog, ListNamespaces, CreateNamespace, LoadNamespace, HeadNamespace, DropNamespace, UpdateProperties, ListTables, CreateTable, LoadTable, HeadTable, DropTable, ReportMetrics, CommitTable, CommitTransaction, RenameTable, ListViews, CreateView, LoadView, HeadView, ReplaceView, DropView, RenameView, ListPrincipals, CreatePrincipal, GetPrincipal, DropPrincipal, Rotate, ListMembers, AddMember, EndMember, ListPrincipalRoles, CreatePrincipalRole, GetPrincipalRole, DropPrincipalRole, ListJoins, AddJoin, EndJoin, ListCatalogRoles, CreateCatalogRole, GetCatalogRole, DropCatalogRole, ListGrants, AddGrant, Revoke}
+use Rattle.pol_commands.specs.declared.command.Action.TheVariants.{OpenSession, GetConfig, ListCatalogs, CreateCatalog, GetCatalog, DropCatalog, ListNamespaces, CreateNamespace, LoadNamespace, HeadNamespace, DropNamespace, UpdateProperties, ListTables, CreateTable, LoadTable, HeadTable, DropTable, ReportMetrics, CommitTable, CommitTransaction, RenameTable, ListViews, CreateView, LoadView, HeadView, ReplaceView, DropView, RenameView, ListPrincipals, CreatePrincipal, GetPrincipal, DropPrincipal, Rotate, ListMembers, AddMember, EndMember, ListPrincipalRoles, CreatePrincipalRole, GetPrincipalRole, DropPrincipalRole, ListJoins, AddJoin, EndJoin, ListCatalogRoles, CreateCatalogRole, GetCatalogRole, DropCatalogRole, ListGrants, AddGrant, Revoke, LoadCredentials, Access}
+use Rattle.pol_token_actions.specs.Access.{access}
+use Rattle.pol_token_actions.specs.Vending.{create_delegated, load_credentials, load_delegated}
+use Rattle.pol_names.specs.declared.identifier.Identifier.{Identifier}
+use Rattle.pol_commands.specs.declared.create_table.CreateTable.{CreateTable as NewTable}
 use Rattle.pol_commands.specs.declared.command.Command.{Command}
 use Rattle.pol_commands.specs.declared.reply.Answer.{Answer}
 use Rattle.pol_commands.specs.declared.reply.Answer.TheVariants.{NamespaceThere}
 use Rattle.pol_commands.specs.declared.reply.Refusal.{Refusal}
 use Rattle.pol_commands.specs.declared.reply.Reply.{Reply}
 use Rattle.pol_commands.specs.declared.reply.Reply.TheVariants.{Answered, Refused}
+
+-- creating and loading a table, with a storage token where it is delegated
+abbrev pub creating : Bool → Rows → Command → List ℕ → List (List ℕ) → NewTable → Acting
+creating false s command name levels request = create_table s command name levels request
+creating true s command name levels request = create_delegated s command name levels request
+
+abbrev pub loading : Bool → Rows → Command → List ℕ → Identifier → Bool → Acting
+loading false s command name identifier refs_only = load_table s command name identifier refs_only
+loading true s command name identifier refs_only = load_delegated s command name identifier refs_only
 
 -- the rules, the rows after and the answer of each action
 abbrev pub acting : Rows → Command → Action → Acting
@@ -46,8 +59,9 @@ acting s command (HeadNamespace name levels) = head_namespace s command name lev
 acting s command (DropNamespace name levels) = drop_namespace s command name levels
 acting s command (UpdateProperties name levels removals updates) = update_properties s command name levels removals updates
 acting s command (ListTables name levels) = list_tables s command name levels
-acting s command (CreateTable name levels request) = create_table s command name levels request
-acting s command (LoadTable name identifier refs_only) = load_table s command name identifier refs_only
+acting s command (CreateTable name levels request delegated) = creating delegated s command name levels request
+acting s command (LoadTable name identifier refs_only delegated) = loading delegated s command name identifier refs_only
+acting s command (LoadCredentials name identifier) = load_credentials s command name identifier
 acting s command (HeadTable name identifier) = head_table s command name identifier
 acting s command (DropTable name identifier) = drop_table s command name identifier
 acting s command (ReportMetrics name identifier) = report_metrics s command name identifier
@@ -83,6 +97,7 @@ acting s command (DropCatalogRole catalog name) = drop_catalog_role s command ca
 acting s command (ListGrants catalog role) = list_grants s command catalog role
 acting s command (AddGrant catalog role grant) = add_grant s command catalog role grant
 acting s command (Revoke catalog role grant) = revoke s command catalog role grant
+acting s command (Access path act) = access s command path act
 
 -- the rules of an action, and last that no quantity is above its bound in the rows after it
 abbrev pub rules_within : Acting → List (Option Refusal)

@@ -4,11 +4,11 @@ ghost use Rattle.pol_commands.specs.declared.reply.Reply.TheVariants.{Answered, 
 ghost use Rattle.pol_state.specs.Changes.{changes_between};
 ghost use Rattle.pol_rules.specs.Judged.{Acts, FirstPasses};
 ghost use Rattle.pol_rules.specs.Rules.{run_full};
-ghost use Rattle.pol_machine.specs.Machine.{acting, next_state, reply_of};
+ghost use Rattle.pol_machine.specs.Machine.{acting, creating, loading, next_state, reply_of};
 ghost use Rattle.pol_state.specs.Sound.{IsSound};
 
 use pol_bounds::within_bounds;
-use pol_commands::{Action, Command, Refusal, Reply};
+use pol_commands::{Action, Command, CreateTable, Refusal, Reply};
 use pol_commit_actions::commits::{commit_table, commit_transaction};
 use pol_commit_actions::renaming::rename_table;
 use pol_content::Change;
@@ -25,6 +25,7 @@ use pol_grant_actions::catalog_roles::{
 };
 use pol_grant_actions::grants::{add_grant, list_grants, revoke};
 use pol_grant_actions::joins::{add_join, end_join, list_joins};
+use pol_names::{Identifier, Namespace, Plain};
 use pol_principal_actions::members::{add_member, end_member, list_members};
 use pol_principal_actions::principal_roles::{
     create_principal_role, drop_principal_role, get_principal_role, list_principal_roles,
@@ -37,6 +38,9 @@ use pol_state::State;
 use pol_table_actions::creation::create_table;
 use pol_table_actions::loading::load_table;
 use pol_table_actions::tables::{drop_table, head_table, list_tables, report_metrics};
+use pol_token_actions::access::access;
+use pol_token_actions::creation::create_delegated;
+use pol_token_actions::vending::{load_credentials, load_delegated};
 use pol_types::{Listed, OutOfMemory};
 use pol_view_actions::creation::create_view;
 use pol_view_actions::renaming::rename_view;
@@ -146,12 +150,18 @@ fn act(asked: &Asked<'_>) -> Result<Acted, Undone>
             catalog,
             namespace,
             request,
-        } => create_table(asked, catalog, namespace, request),
+            delegated,
+        } => creating(asked, catalog, namespace, request, *delegated),
         Action::LoadTable {
             catalog,
             identifier,
             refs_only,
-        } => load_table(asked, catalog, identifier, *refs_only),
+            delegated,
+        } => loading(asked, catalog, identifier, *refs_only, *delegated),
+        Action::LoadCredentials {
+            catalog,
+            identifier,
+        } => load_credentials(asked, catalog, identifier),
         Action::HeadTable {
             catalog,
             identifier,
@@ -239,5 +249,42 @@ fn act(asked: &Asked<'_>) -> Result<Acted, Undone>
             role,
             grant,
         } => revoke(asked, catalog, role, grant),
+        Action::Access { path, act } => access(asked, path, *act),
     }
+}
+
+/// Creates a table, with a storage token where that is asked for too.
+fn creating(
+    asked: &Asked<'_>,
+    name: &Plain,
+    levels: &Namespace,
+    request: &CreateTable,
+    delegated: bool,
+) -> Result<Acted, Undone>
+    requires sound { IsSound asked.now.state.now.rows }
+    requires moment { asked.now.command.now.moment ≤ 2 ^ 62 }
+    ensures { Acts asked.now (λ s command. creating delegated s command name.now levels.now request.now) result }
+{
+    if delegated {
+        return create_delegated(asked, name, levels, request);
+    }
+    create_table(asked, name, levels, request)
+}
+
+/// Shows a table, with a storage token where that is asked for too.
+fn loading(
+    asked: &Asked<'_>,
+    name: &Plain,
+    identifier: &Identifier,
+    refs_only: bool,
+    delegated: bool,
+) -> Result<Acted, Undone>
+    requires sound { IsSound asked.now.state.now.rows }
+    requires moment { asked.now.command.now.moment ≤ 2 ^ 62 }
+    ensures { Acts asked.now (λ s command. loading delegated s command name.now identifier.now refs_only) result }
+{
+    if delegated {
+        return load_delegated(asked, name, identifier, refs_only);
+    }
+    load_table(asked, name, identifier, refs_only)
 }

@@ -15,4 +15,4 @@ pub use pol_commands::{
 };
 pub use pol_content::{CatalogRow, Change, NamespaceRow};
 pub use pol_state::State;
-pub use pol_tokens::SessionRow;
+pub use pol_tokens::{Act, SessionRow, TokenRow};

@@ -84,7 +84,7 @@ module _ (s : Rows) (command : Command) where
         rows = owes-returning s command (with_new_principal s row) (λ sound. put-returns sound row (λ unknown. refl)) (λ sound. leads-by s command (with_new_principal s row) _ (new_principal_changes s command sound row refl) refl);
         orderly = λ sound within passes. orderly-create_principal s command sound within name client_id secret passes;
         fair = fair-in_realm command (fair-name_taken _ name ⊳ fair-name_taken _ client ⊳ none-fair);
-        answer = refl;
+        answer = λ sound. refl;
       }
 
   pub owes-get_principal : (name : List ℕ) → OwesAlike (λ t. get_principal t command name)
@@ -98,7 +98,7 @@ module _ (s : Rows) (command : Command) where
         (facts-dropped member.the_row.coded member_cmp DropMember (λ members. record after { access = record after.access { members = members } }) (λ members fact. refl) (member_names (referent.Principal row.id)) s.access.members).is));
     orderly = λ sound within passes. orderly-drop_principal s command sound within name passes;
     fair = fair-in_realm command (fair-no_principal name ⊳ fair-reserved (codes "root") name ⊳ none-fair);
-    answer = refl;
+    answer = λ sound. refl;
   }
 
   -- the principal that gets another secret was there
@@ -116,7 +116,7 @@ module _ (s : Rows) (command : Command) where
             leads-one s command (rotated s opens row) (PutPrincipal (record row { digest = digest_of opens })) true (bytes_eq row.digest (digest_of opens)) (same_secret s command sound opens row own) (other_secret_changes s command sound opens row own) refl));
         orderly = λ sound within passes. orderly-rotate s command sound within name secret passes;
         fair = fair-in_realm command (fair-no_principal name ⊳ none-fair);
-        answer = refl;
+        answer = λ sound. refl;
       }
 
   -- memberships
@@ -130,7 +130,7 @@ module _ (s : Rows) (command : Command) where
         leads-one s command (with_member s row) (PutMember row) true (holds member.the_row.coded row s.access.members) (λ known. λ i. record s { access = record s.access { members = facts_with-known member.the_row.coded row s.access.members known i } }) (new_member_changes s command row) refl));
     orderly = λ sound within passes. orderly-add_member s command sound within principal role passes;
     fair = fair-in_realm command (fair-no_principal principal ⊳ fair-no_principal_role role ⊳ none-fair);
-    answer = refl;
+    answer = λ sound. refl;
   }
 
   pub owes-end_member : (principal role : List ℕ) → OwesAlike (λ t. end_member t command principal role)
@@ -140,7 +140,7 @@ module _ (s : Rows) (command : Command) where
         leads-one s command (without_member s row) (DropMember row) false (holds member.the_row.coded row s.access.members) (λ none. λ i. record s { access = record s.access { members = facts_without-unknown member.the_row.coded row s.access.members none i } }) (ended_member_changes s command sound row) refl));
     orderly = λ sound within passes. orderly-end_member s command sound within principal role passes;
     fair = fair-in_realm command (fair-no_principal principal ⊳ fair-no_principal_role role ⊳ fair-given (member_of s principal role) (fair-no_member role) ⊳ fair-reserved_member principal role ⊳ none-fair);
-    answer = refl;
+    answer = λ sound. refl;
   }
 
   -- principal roles
@@ -154,7 +154,7 @@ module _ (s : Rows) (command : Command) where
         rows = owes-apart s command (with_principal_role s row) refl (λ sound. leads-by s command (with_principal_role s row) _ (principal_role_changes s command sound row refl) refl);
         orderly = λ sound within passes. orderly-create_principal_role s command sound within name passes;
         fair = fair-in_realm command (fair-name_taken _ name ⊳ none-fair);
-        answer = refl;
+        answer = λ sound. refl;
       }
 
   pub owes-get_principal_role : (name : List ℕ) → OwesAlike (λ t. get_principal_role t command name)
@@ -170,5 +170,5 @@ module _ (s : Rows) (command : Command) where
         (facts-dropped join.the_row.coded join_cmp DropJoin (λ joins. record after { access = record after.access { joins = joins } }) (λ joins fact. refl) (join_names s.access.catalog_roles named) s.access.joins)).is));
     orderly = λ sound within passes. orderly-drop_principal_role s command sound within name passes;
     fair = fair-in_realm command (fair-no_principal_role name ⊳ fair-reserved (codes "service_admin") name ⊳ none-fair);
-    answer = refl;
+    answer = λ sound. refl;
   }

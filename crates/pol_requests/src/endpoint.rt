@@ -12,6 +12,7 @@ pub enum Endpoint {
     Principal(PrincipalRequest),
     PrincipalRole(PrincipalRoleRequest),
     CatalogRole(CatalogRoleRequest),
+    Object(ObjectRequest),
 }
 
 /// What a catalogue holds.
@@ -42,6 +43,7 @@ pub enum NamespaceRequest {
 #[derive(Clone, Copy, Debug)]
 pub enum TableRequest {
     LoadTable,
+    LoadCredentials,
     HeadTable,
     CommitTable,
     DropTable,
@@ -101,4 +103,14 @@ pub enum CatalogRoleRequest {
     ListGrants,
     AddGrant,
     Revoke,
+}
+
+/// One object of the object server, or those below a path.
+#[derive(Clone, Copy, Debug)]
+pub enum ObjectRequest {
+    GetObject,
+    HeadObject,
+    PutObject,
+    DeleteObject,
+    ListObjects,
 }

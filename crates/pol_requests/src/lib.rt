@@ -8,7 +8,7 @@ mod refused;
 mod table;
 
 pub use endpoint::{
-    CatalogRequest, CatalogRoleRequest, ContentRequest, Endpoint, NamespaceRequest,
+    CatalogRequest, CatalogRoleRequest, ContentRequest, Endpoint, NamespaceRequest, ObjectRequest,
     PrincipalRequest, PrincipalRoleRequest, TableRequest, ViewRequest,
 };
 pub use keys::BASE_KEY;

@@ -12,8 +12,6 @@ pub enum RouteRefused {
     NoRoute,
     /// The path is one of the table's, and none of its methods is the request's.
     WrongMethod,
-    /// The table has the method and path, but no such request is served yet.
-    NotBuilt,
     /// A part of the request can't be read: `path` for a segment of the path, else a key of the query or a place of
     /// the body.
     Unreadable { field: Text },

@@ -4,19 +4,17 @@ ghost use Rattle.std.specs.Prelude.{◌≡◌, map};
 ghost use Rattle.pol_requests.specs.Table.{entry_of, table};
 
 use crate::endpoint::{
-    CatalogRequest, CatalogRoleRequest, ContentRequest, Endpoint, NamespaceRequest,
+    CatalogRequest, CatalogRoleRequest, ContentRequest, Endpoint, NamespaceRequest, ObjectRequest,
     PrincipalRequest, PrincipalRoleRequest, TableRequest, ViewRequest,
 };
 
-/// How the requests of a method and path are served.
+/// What the requests of a method and path ask for, and how many random words each draws, 4 at most: a token is made of
+/// two, the uuid of a new table of two of its four and that of a new view of two, the client id of a new principal of
+/// one, and each secret of two. The loading of a table draws two where a storage token is asked for with it.
 #[derive(Clone, Copy, Debug)]
-pub enum Service {
-    /// They ask for this, and each draws so many random words, 4 at most: the token of a session is made of two, the
-    /// uuid of a new table of two of its four and that of a new view of two, the client id of a new principal of one,
-    /// and each secret of two.
-    Built { endpoint: Endpoint, words: u8 },
-    /// They are not served yet.
-    NotBuilt,
+pub struct Service {
+    pub endpoint: Endpoint,
+    pub words: u8,
 }
 
 /// A method, a path, and how requests of both are served. In a path `{name}` stands for a segment that may be any text,
@@ -31,7 +29,7 @@ pub const TABLE: [Row; ROW_COUNT] = [
     (
         "POST",
         "/api/catalog/v1/oauth/tokens",
-        Service::Built {
+        Service {
             endpoint: Endpoint::OpenSession,
             words: 2,
         },
@@ -39,7 +37,7 @@ pub const TABLE: [Row; ROW_COUNT] = [
     (
         "GET",
         "/api/catalog/v1/config",
-        Service::Built {
+        Service {
             endpoint: Endpoint::Content(ContentRequest::GetConfig),
             words: 0,
         },
@@ -47,7 +45,7 @@ pub const TABLE: [Row; ROW_COUNT] = [
     (
         "GET",
         "/api/catalog/v1/{prefix}/namespaces",
-        Service::Built {
+        Service {
             endpoint: Endpoint::Content(ContentRequest::ListNamespaces),
             words: 0,
         },
@@ -55,7 +53,7 @@ pub const TABLE: [Row; ROW_COUNT] = [
     (
         "POST",
         "/api/catalog/v1/{prefix}/namespaces",
-        Service::Built {
+        Service {
             endpoint: Endpoint::Content(ContentRequest::CreateNamespace),
             words: 0,
         },
@@ -63,7 +61,7 @@ pub const TABLE: [Row; ROW_COUNT] = [
     (
         "GET",
         "/api/catalog/v1/{prefix}/namespaces/{namespace}",
-        Service::Built {
+        Service {
             endpoint: Endpoint::Namespace(NamespaceRequest::LoadNamespace),
             words: 0,
         },
@@ -71,7 +69,7 @@ pub const TABLE: [Row; ROW_COUNT] = [
     (
         "HEAD",
         "/api/catalog/v1/{prefix}/namespaces/{namespace}",
-        Service::Built {
+        Service {
             endpoint: Endpoint::Namespace(NamespaceRequest::HeadNamespace),
             words: 0,
         },
@@ -79,7 +77,7 @@ pub const TABLE: [Row; ROW_COUNT] = [
     (
         "DELETE",
         "/api/catalog/v1/{prefix}/namespaces/{namespace}",
-        Service::Built {
+        Service {
             endpoint: Endpoint::Namespace(NamespaceRequest::DropNamespace),
             words: 0,
         },
@@ -87,7 +85,7 @@ pub const TABLE: [Row; ROW_COUNT] = [
     (
         "POST",
         "/api/catalog/v1/{prefix}/namespaces/{namespace}/properties",
-        Service::Built {
+        Service {
             endpoint: Endpoint::Namespace(NamespaceRequest::UpdateProperties),
             words: 0,
         },
@@ -95,7 +93,7 @@ pub const TABLE: [Row; ROW_COUNT] = [
     (
         "GET",
         "/api/catalog/v1/{prefix}/namespaces/{namespace}/tables",
-        Service::Built {
+        Service {
             endpoint: Endpoint::Namespace(NamespaceRequest::ListTables),
             words: 0,
         },
@@ -103,7 +101,7 @@ pub const TABLE: [Row; ROW_COUNT] = [
     (
         "POST",
         "/api/catalog/v1/{prefix}/namespaces/{namespace}/tables",
-        Service::Built {
+        Service {
             endpoint: Endpoint::Namespace(NamespaceRequest::CreateTable),
             words: 4,
         },
@@ -111,7 +109,7 @@ pub const TABLE: [Row; ROW_COUNT] = [
     (
         "GET",
         "/api/catalog/v1/{prefix}/namespaces/{namespace}/tables/{table}",
-        Service::Built {
+        Service {
             endpoint: Endpoint::Table(TableRequest::LoadTable),
             words: 0,
         },
@@ -119,7 +117,7 @@ pub const TABLE: [Row; ROW_COUNT] = [
     (
         "HEAD",
         "/api/catalog/v1/{prefix}/namespaces/{namespace}/tables/{table}",
-        Service::Built {
+        Service {
             endpoint: Endpoint::Table(TableRequest::HeadTable),
             words: 0,
         },
@@ -127,7 +125,7 @@ pub const TABLE: [Row; ROW_COUNT] = [
     (
         "POST",
         "/api/catalog/v1/{prefix}/namespaces/{namespace}/tables/{table}",
-        Service::Built {
+        Service {
             endpoint: Endpoint::Table(TableRequest::CommitTable),
             words: 0,
         },
@@ -135,7 +133,7 @@ pub const TABLE: [Row; ROW_COUNT] = [
     (
         "DELETE",
         "/api/catalog/v1/{prefix}/namespaces/{namespace}/tables/{table}",
-        Service::Built {
+        Service {
             endpoint: Endpoint::Table(TableRequest::DropTable),
             words: 0,
         },
@@ -143,12 +141,15 @@ pub const TABLE: [Row; ROW_COUNT] = [
     (
         "GET",
         "/api/catalog/v1/{prefix}/namespaces/{namespace}/tables/{table}/credentials",
-        Service::NotBuilt,
+        Service {
+            endpoint: Endpoint::Table(TableRequest::LoadCredentials),
+            words: 2,
+        },
     ),
     (
         "POST",
         "/api/catalog/v1/{prefix}/namespaces/{namespace}/tables/{table}/metrics",
-        Service::Built {
+        Service {
             endpoint: Endpoint::Table(TableRequest::ReportMetrics),
             words: 0,
         },
@@ -156,7 +157,7 @@ pub const TABLE: [Row; ROW_COUNT] = [
     (
         "POST",
         "/api/catalog/v1/{prefix}/tables/rename",
-        Service::Built {
+        Service {
             endpoint: Endpoint::Content(ContentRequest::RenameTable),
             words: 0,
         },
@@ -164,7 +165,7 @@ pub const TABLE: [Row; ROW_COUNT] = [
     (
         "POST",
         "/api/catalog/v1/{prefix}/transactions/commit",
-        Service::Built {
+        Service {
             endpoint: Endpoint::Content(ContentRequest::CommitTransaction),
             words: 0,
         },
@@ -172,7 +173,7 @@ pub const TABLE: [Row; ROW_COUNT] = [
     (
         "GET",
         "/api/catalog/v1/{prefix}/namespaces/{namespace}/views",
-        Service::Built {
+        Service {
             endpoint: Endpoint::Namespace(NamespaceRequest::ListViews),
             words: 0,
         },
@@ -180,7 +181,7 @@ pub const TABLE: [Row; ROW_COUNT] = [
     (
         "POST",
         "/api/catalog/v1/{prefix}/namespaces/{namespace}/views",
-        Service::Built {
+        Service {
             endpoint: Endpoint::Namespace(NamespaceRequest::CreateView),
             words: 2,
         },
@@ -188,7 +189,7 @@ pub const TABLE: [Row; ROW_COUNT] = [
     (
         "GET",
         "/api/catalog/v1/{prefix}/namespaces/{namespace}/views/{view}",
-        Service::Built {
+        Service {
             endpoint: Endpoint::View(ViewRequest::LoadView),
             words: 0,
         },
@@ -196,7 +197,7 @@ pub const TABLE: [Row; ROW_COUNT] = [
     (
         "HEAD",
         "/api/catalog/v1/{prefix}/namespaces/{namespace}/views/{view}",
-        Service::Built {
+        Service {
             endpoint: Endpoint::View(ViewRequest::HeadView),
             words: 0,
         },
@@ -204,7 +205,7 @@ pub const TABLE: [Row; ROW_COUNT] = [
     (
         "POST",
         "/api/catalog/v1/{prefix}/namespaces/{namespace}/views/{view}",
-        Service::Built {
+        Service {
             endpoint: Endpoint::View(ViewRequest::ReplaceView),
             words: 0,
         },
@@ -212,7 +213,7 @@ pub const TABLE: [Row; ROW_COUNT] = [
     (
         "DELETE",
         "/api/catalog/v1/{prefix}/namespaces/{namespace}/views/{view}",
-        Service::Built {
+        Service {
             endpoint: Endpoint::View(ViewRequest::DropView),
             words: 0,
         },
@@ -220,7 +221,7 @@ pub const TABLE: [Row; ROW_COUNT] = [
     (
         "POST",
         "/api/catalog/v1/{prefix}/views/rename",
-        Service::Built {
+        Service {
             endpoint: Endpoint::Content(ContentRequest::RenameView),
             words: 0,
         },
@@ -228,7 +229,7 @@ pub const TABLE: [Row; ROW_COUNT] = [
     (
         "GET",
         "/api/management/v1/catalogs",
-        Service::Built {
+        Service {
             endpoint: Endpoint::Catalog(CatalogRequest::ListCatalogs),
             words: 0,
         },
@@ -236,7 +237,7 @@ pub const TABLE: [Row; ROW_COUNT] = [
     (
         "POST",
         "/api/management/v1/catalogs",
-        Service::Built {
+        Service {
             endpoint: Endpoint::Catalog(CatalogRequest::CreateCatalog),
             words: 0,
         },
@@ -244,7 +245,7 @@ pub const TABLE: [Row; ROW_COUNT] = [
     (
         "GET",
         "/api/management/v1/catalogs/{catalog}",
-        Service::Built {
+        Service {
             endpoint: Endpoint::Catalog(CatalogRequest::GetCatalog),
             words: 0,
         },
@@ -252,7 +253,7 @@ pub const TABLE: [Row; ROW_COUNT] = [
     (
         "DELETE",
         "/api/management/v1/catalogs/{catalog}",
-        Service::Built {
+        Service {
             endpoint: Endpoint::Catalog(CatalogRequest::DropCatalog),
             words: 0,
         },
@@ -260,7 +261,7 @@ pub const TABLE: [Row; ROW_COUNT] = [
     (
         "GET",
         "/api/management/v1/principals",
-        Service::Built {
+        Service {
             endpoint: Endpoint::Principal(PrincipalRequest::ListPrincipals),
             words: 0,
         },
@@ -268,7 +269,7 @@ pub const TABLE: [Row; ROW_COUNT] = [
     (
         "POST",
         "/api/management/v1/principals",
-        Service::Built {
+        Service {
             endpoint: Endpoint::Principal(PrincipalRequest::CreatePrincipal),
             words: 3,
         },
@@ -276,7 +277,7 @@ pub const TABLE: [Row; ROW_COUNT] = [
     (
         "GET",
         "/api/management/v1/principals/{principal}",
-        Service::Built {
+        Service {
             endpoint: Endpoint::Principal(PrincipalRequest::GetPrincipal),
             words: 0,
         },
@@ -284,7 +285,7 @@ pub const TABLE: [Row; ROW_COUNT] = [
     (
         "DELETE",
         "/api/management/v1/principals/{principal}",
-        Service::Built {
+        Service {
             endpoint: Endpoint::Principal(PrincipalRequest::DropPrincipal),
             words: 0,
         },
@@ -292,7 +293,7 @@ pub const TABLE: [Row; ROW_COUNT] = [
     (
         "POST",
         "/api/management/v1/principals/{principal}/rotate",
-        Service::Built {
+        Service {
             endpoint: Endpoint::Principal(PrincipalRequest::Rotate),
             words: 2,
         },
@@ -300,7 +301,7 @@ pub const TABLE: [Row; ROW_COUNT] = [
     (
         "GET",
         "/api/management/v1/principals/{principal}/principal-roles",
-        Service::Built {
+        Service {
             endpoint: Endpoint::Principal(PrincipalRequest::ListMembers),
             words: 0,
         },
@@ -308,7 +309,7 @@ pub const TABLE: [Row; ROW_COUNT] = [
     (
         "PUT",
         "/api/management/v1/principals/{principal}/principal-roles",
-        Service::Built {
+        Service {
             endpoint: Endpoint::Principal(PrincipalRequest::AddMember),
             words: 0,
         },
@@ -316,7 +317,7 @@ pub const TABLE: [Row; ROW_COUNT] = [
     (
         "DELETE",
         "/api/management/v1/principals/{principal}/principal-roles/{role}",
-        Service::Built {
+        Service {
             endpoint: Endpoint::Principal(PrincipalRequest::EndMember),
             words: 0,
         },
@@ -324,7 +325,7 @@ pub const TABLE: [Row; ROW_COUNT] = [
     (
         "GET",
         "/api/management/v1/principal-roles",
-        Service::Built {
+        Service {
             endpoint: Endpoint::PrincipalRole(PrincipalRoleRequest::ListPrincipalRoles),
             words: 0,
         },
@@ -332,7 +333,7 @@ pub const TABLE: [Row; ROW_COUNT] = [
     (
         "POST",
         "/api/management/v1/principal-roles",
-        Service::Built {
+        Service {
             endpoint: Endpoint::PrincipalRole(PrincipalRoleRequest::CreatePrincipalRole),
             words: 0,
         },
@@ -340,7 +341,7 @@ pub const TABLE: [Row; ROW_COUNT] = [
     (
         "GET",
         "/api/management/v1/principal-roles/{role}",
-        Service::Built {
+        Service {
             endpoint: Endpoint::PrincipalRole(PrincipalRoleRequest::GetPrincipalRole),
             words: 0,
         },
@@ -348,7 +349,7 @@ pub const TABLE: [Row; ROW_COUNT] = [
     (
         "DELETE",
         "/api/management/v1/principal-roles/{role}",
-        Service::Built {
+        Service {
             endpoint: Endpoint::PrincipalRole(PrincipalRoleRequest::DropPrincipalRole),
             words: 0,
         },
@@ -356,7 +357,7 @@ pub const TABLE: [Row; ROW_COUNT] = [
     (
         "GET",
         "/api/management/v1/principal-roles/{role}/catalog-roles/{catalog}",
-        Service::Built {
+        Service {
             endpoint: Endpoint::PrincipalRole(PrincipalRoleRequest::ListJoins),
             words: 0,
         },
@@ -364,7 +365,7 @@ pub const TABLE: [Row; ROW_COUNT] = [
     (
         "PUT",
         "/api/management/v1/principal-roles/{role}/catalog-roles/{catalog}",
-        Service::Built {
+        Service {
             endpoint: Endpoint::PrincipalRole(PrincipalRoleRequest::AddJoin),
             words: 0,
         },
@@ -372,7 +373,7 @@ pub const TABLE: [Row; ROW_COUNT] = [
     (
         "DELETE",
         "/api/management/v1/principal-roles/{role}/catalog-roles/{catalog}/{catalog_role}",
-        Service::Built {
+        Service {
             endpoint: Endpoint::PrincipalRole(PrincipalRoleRequest::EndJoin),
             words: 0,
         },
@@ -380,7 +381,7 @@ pub const TABLE: [Row; ROW_COUNT] = [
     (
         "GET",
         "/api/management/v1/catalogs/{catalog}/catalog-roles",
-        Service::Built {
+        Service {
             endpoint: Endpoint::CatalogRole(CatalogRoleRequest::ListCatalogRoles),
             words: 0,
         },
@@ -388,7 +389,7 @@ pub const TABLE: [Row; ROW_COUNT] = [
     (
         "POST",
         "/api/management/v1/catalogs/{catalog}/catalog-roles",
-        Service::Built {
+        Service {
             endpoint: Endpoint::CatalogRole(CatalogRoleRequest::CreateCatalogRole),
             words: 0,
         },
@@ -396,7 +397,7 @@ pub const TABLE: [Row; ROW_COUNT] = [
     (
         "GET",
         "/api/management/v1/catalogs/{catalog}/catalog-roles/{catalog_role}",
-        Service::Built {
+        Service {
             endpoint: Endpoint::CatalogRole(CatalogRoleRequest::GetCatalogRole),
             words: 0,
         },
@@ -404,7 +405,7 @@ pub const TABLE: [Row; ROW_COUNT] = [
     (
         "DELETE",
         "/api/management/v1/catalogs/{catalog}/catalog-roles/{catalog_role}",
-        Service::Built {
+        Service {
             endpoint: Endpoint::CatalogRole(CatalogRoleRequest::DropCatalogRole),
             words: 0,
         },
@@ -412,7 +413,7 @@ pub const TABLE: [Row; ROW_COUNT] = [
     (
         "GET",
         "/api/management/v1/catalogs/{catalog}/catalog-roles/{catalog_role}/grants",
-        Service::Built {
+        Service {
             endpoint: Endpoint::CatalogRole(CatalogRoleRequest::ListGrants),
             words: 0,
         },
@@ -420,7 +421,7 @@ pub const TABLE: [Row; ROW_COUNT] = [
     (
         "PUT",
         "/api/management/v1/catalogs/{catalog}/catalog-roles/{catalog_role}/grants",
-        Service::Built {
+        Service {
             endpoint: Endpoint::CatalogRole(CatalogRoleRequest::AddGrant),
             words: 0,
         },
@@ -428,16 +429,51 @@ pub const TABLE: [Row; ROW_COUNT] = [
     (
         "POST",
         "/api/management/v1/catalogs/{catalog}/catalog-roles/{catalog_role}/grants",
-        Service::Built {
+        Service {
             endpoint: Endpoint::CatalogRole(CatalogRoleRequest::Revoke),
             words: 0,
         },
     ),
-    ("GET", "/objects/{*path}", Service::NotBuilt),
-    ("HEAD", "/objects/{*path}", Service::NotBuilt),
-    ("PUT", "/objects/{*path}", Service::NotBuilt),
-    ("DELETE", "/objects/{*path}", Service::NotBuilt),
-    ("GET", "/list/{*path}", Service::NotBuilt),
+    (
+        "GET",
+        "/objects/{*path}",
+        Service {
+            endpoint: Endpoint::Object(ObjectRequest::GetObject),
+            words: 0,
+        },
+    ),
+    (
+        "HEAD",
+        "/objects/{*path}",
+        Service {
+            endpoint: Endpoint::Object(ObjectRequest::HeadObject),
+            words: 0,
+        },
+    ),
+    (
+        "PUT",
+        "/objects/{*path}",
+        Service {
+            endpoint: Endpoint::Object(ObjectRequest::PutObject),
+            words: 0,
+        },
+    ),
+    (
+        "DELETE",
+        "/objects/{*path}",
+        Service {
+            endpoint: Endpoint::Object(ObjectRequest::DeleteObject),
+            words: 0,
+        },
+    ),
+    (
+        "GET",
+        "/list/{*path}",
+        Service {
+            endpoint: Endpoint::Object(ObjectRequest::ListObjects),
+            words: 0,
+        },
+    ),
 ];
 
 /// The table's rows.

@@ -2,6 +2,7 @@ pub mod Bearer
 pub mod Delegation
 pub mod Form
 pub mod Laws
+pub mod Objects
 pub mod Plan
 pub mod Query
 pub mod Request

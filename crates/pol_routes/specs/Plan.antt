@@ -1,5 +1,5 @@
 -- What a message asks of the catalogue.
-use Rattle.std.specs.Prelude.{ℕ, ◌+◌, ◌&&◌, length, Result, Ok, Err, if◌then◌else◌}
+use Rattle.std.specs.Prelude.{ℕ, ◌+◌, length, Result, Ok}
 use Rattle.pol_http.specs.Head.{fields_of}
 use Rattle.pol_http.specs.Message.{Message, print_message}
 use Rattle.pol_commands.specs.declared.command.Caller.{Caller}
@@ -7,17 +7,15 @@ use Rattle.pol_commands.specs.declared.command.Caller.TheVariants.{Nobody}
 use Rattle.pol_commands.specs.declared.command.Command.{Command}
 use Rattle.pol_commands.specs.declared.command.Words4.{Words4}
 use Rattle.pol_requests.specs.declared.endpoint.Endpoint.{Endpoint}
-use Rattle.pol_requests.specs.declared.endpoint.Endpoint.TheVariants.{OpenSession, Content, Namespace, Table, View, Catalog, Principal, PrincipalRole, CatalogRole}
+use Rattle.pol_requests.specs.declared.endpoint.Endpoint.TheVariants.{OpenSession, Content, Namespace, Table, View, Catalog, Principal, PrincipalRole, CatalogRole, Object}
 use Rattle.pol_requests.specs.declared.refused.RouteRefused.{RouteRefused}
-use Rattle.pol_requests.specs.declared.refused.RouteRefused.TheVariants.{NotBuilt as NotBuiltYet}
 use Rattle.pol_requests.specs.declared.table.Service.{Service}
-use Rattle.pol_requests.specs.declared.table.Service.TheVariants.{Built, NotBuilt}
 use Rattle.pol_requests.specs.Refused.{◌>>=◌}
 use Rattle.pol_requests.specs.Table.{Entry}
 use Rattle.pol_routes.specs.declared.plans.Planned.{Planned}
 use Rattle.pol_routes.specs.declared.plans.TheConstants.{REQUEST_CHARGE}
 use Rattle.pol_routes.specs.Bearer.{caller_of}
-use Rattle.pol_routes.specs.Delegation.{is_delegated, may_hand_out}
+use Rattle.pol_routes.specs.Delegation.{is_delegated, words_drawn}
 use Rattle.pol_routes.specs.Request.{Request}
 use Rattle.pol_routes.specs.Requests.{action_of}
 use Rattle.pol_routes.specs.Route.{row_of}
@@ -34,13 +32,13 @@ caller_for (Catalog request) caller = caller
 caller_for (Principal request) caller = caller
 caller_for (PrincipalRole request) caller = caller
 caller_for (CatalogRole request) caller = caller
+caller_for (Object request) caller = caller
 
--- the plan of a request with that charge and caller, by how such requests are served; storage tokens aren't yet
+-- the plan of a request with that charge and caller, by what such requests ask for
 unfoldable pub served_plan : ℕ → Caller → Request → Service → Result Planned RouteRefused
-served_plan charge caller request (Built endpoint words) =
-    if request.delegated && may_hand_out endpoint then Err NotBuiltYet
-    else (action_of request endpoint >>= λ action. Ok (record { caller = caller_for endpoint caller; action = action; words = words; charge = charge }))
-served_plan charge caller request NotBuilt = Err NotBuiltYet
+served_plan charge caller request service =
+    action_of request service.endpoint
+    >>= λ action. Ok (record { caller = caller_for service.endpoint caller; action = action; words = words_drawn service.endpoint request.delegated service.words; charge = charge })
 
 -- the request that a message makes by a row of the table
 abbrev pub request_by : Entry → Message → Request

@@ -11,11 +11,11 @@ use Rattle.pol_requests.specs.declared.endpoint.CatalogRoleRequest.{CatalogRoleR
 use Rattle.pol_requests.specs.declared.endpoint.CatalogRoleRequest.TheVariants.{ListCatalogRoles, CreateCatalogRole, GetCatalogRole, DropCatalogRole, ListGrants, AddGrant, Revoke}
 use Rattle.pol_requests.specs.declared.endpoint.ContentRequest.TheVariants.{GetConfig, ListNamespaces, CreateNamespace, RenameTable, CommitTransaction, RenameView}
 use Rattle.pol_requests.specs.declared.endpoint.Endpoint.{Endpoint}
-use Rattle.pol_requests.specs.declared.endpoint.Endpoint.TheVariants.{OpenSession, Content, Namespace, Table, View, Catalog, Principal, PrincipalRole, CatalogRole}
+use Rattle.pol_requests.specs.declared.endpoint.Endpoint.TheVariants.{OpenSession, Content, Namespace, Table, View, Catalog, Principal, PrincipalRole, CatalogRole, Object}
 use Rattle.pol_requests.specs.declared.endpoint.NamespaceRequest.{NamespaceRequest}
 use Rattle.pol_requests.specs.declared.endpoint.NamespaceRequest.TheVariants.{LoadNamespace, HeadNamespace, DropNamespace, UpdateProperties, ListTables, CreateTable, ListViews, CreateView}
 use Rattle.pol_requests.specs.declared.endpoint.TableRequest.{TableRequest}
-use Rattle.pol_requests.specs.declared.endpoint.TableRequest.TheVariants.{LoadTable, HeadTable, CommitTable, DropTable, ReportMetrics}
+use Rattle.pol_requests.specs.declared.endpoint.TableRequest.TheVariants.{LoadTable, HeadTable, CommitTable, DropTable, ReportMetrics, LoadCredentials}
 use Rattle.pol_requests.specs.declared.endpoint.ViewRequest.{ViewRequest}
 use Rattle.pol_requests.specs.declared.endpoint.ViewRequest.TheVariants.{LoadView, HeadView, ReplaceView, DropView}
 use Rattle.pol_requests.specs.declared.endpoint.PrincipalRequest.TheVariants.{ListPrincipals, CreatePrincipal, GetPrincipal, DropPrincipal, Rotate, ListMembers, AddMember, EndMember}
@@ -31,6 +31,7 @@ use Rattle.pol_bodies.specs.TableBody.{create_table_of}
 use Rattle.pol_bodies.specs.ViewBodies.{create_view_of, view_commit_of}
 use Rattle.pol_names.specs.declared.identifier.Identifier.{Identifier}
 use Rattle.pol_bodies.specs.ManagementBodies.{catalog_role_body, grant_body, principal_body, principal_role_body}
+use Rattle.pol_routes.specs.Objects.{access}
 use Rattle.pol_routes.specs.Query.{query_value}
 use Rattle.pol_routes.specs.Request.{Request, plain, namespace, part}
 use Rattle.pol_routes.specs.Segment.{plain_of, namespace_of}
@@ -83,13 +84,14 @@ on_namespace request catalog levels HeadNamespace = Ok (action.HeadNamespace cat
 on_namespace request catalog levels DropNamespace = Ok (action.DropNamespace catalog levels)
 on_namespace request catalog levels UpdateProperties = body_of (body property_updates request.body) >>= λ new. Ok (action.UpdateProperties catalog levels new.removals new.updates)
 on_namespace request catalog levels ListTables = Ok (action.ListTables catalog levels)
-on_namespace request catalog levels CreateTable = create_table_of request.body >>= λ new. Ok (action.CreateTable catalog levels new)
+on_namespace request catalog levels CreateTable = create_table_of request.body >>= λ new. Ok (action.CreateTable catalog levels new request.delegated)
 on_namespace request catalog levels ListViews = Ok (action.ListViews catalog levels)
 on_namespace request catalog levels CreateView = create_view_of request.body >>= λ new. Ok (action.CreateView catalog levels new)
 
 -- the action of a request on a table of a catalogue
 abbrev pub on_table : Request → List ℕ → Identifier → TableRequest → Result Action RouteRefused
-on_table request catalog identifier LoadTable = load_table request.target catalog identifier
+on_table request catalog identifier LoadTable = load_table request.target catalog identifier request.delegated
+on_table request catalog identifier LoadCredentials = Ok (action.LoadCredentials catalog identifier)
 on_table request catalog identifier HeadTable = Ok (action.HeadTable catalog identifier)
 on_table request catalog identifier CommitTable = commit_of identifier request.body >>= λ commit. Ok (action.CommitTable catalog commit)
 on_table request catalog identifier DropTable = drop_table request.target catalog identifier
@@ -144,3 +146,4 @@ action_of request (PrincipalRole ListJoins) = plain ROLE.now request >>= λ role
 action_of request (PrincipalRole AddJoin) = plain ROLE.now request >>= λ role. plain CATALOG.now request >>= λ catalog. body_of (body catalog_role_body request.body) >>= λ joined. Ok (action.AddJoin catalog role joined.name)
 action_of request (PrincipalRole EndJoin) = plain ROLE.now request >>= λ role. plain CATALOG.now request >>= λ catalog. plain CATALOG_ROLE.now request >>= λ joined. Ok (action.EndJoin catalog role joined)
 action_of request (CatalogRole asked) = plain CATALOG.now request >>= λ catalog. on_catalog_roles request catalog asked
+action_of request (Object asked) = access request.target asked

@@ -30,9 +30,9 @@ unfoldable pub purge_requested : List ℕ → Result Bool RouteRefused
 purge_requested target = query_value (codes "purgeRequested") (query_of target) >>= purge_read
 
 -- loading a table
-unfoldable pub load_table : List ℕ → List ℕ → Identifier → Result Action RouteRefused
-load_table target catalog identifier =
-    query_value (codes "snapshots") (query_of target) >>= refs_only >>= λ named. Ok (action.LoadTable catalog identifier named)
+unfoldable pub load_table : List ℕ → List ℕ → Identifier → Bool → Result Action RouteRefused
+load_table target catalog identifier delegated =
+    query_value (codes "snapshots") (query_of target) >>= refs_only >>= λ named. Ok (action.LoadTable catalog identifier named delegated)
 
 -- dropping one: whether its files are to go counts for nothing
 unfoldable pub drop_table : List ℕ → List ℕ → Identifier → Result Action RouteRefused

@@ -5,12 +5,15 @@ ghost use Rattle.pol_http.specs.Head.{IsHeadOf, IsHeadWithin, fields_of};
 ghost use Rattle.pol_routes.specs.Delegation as spec;
 
 use pol_http::{Head, lists};
-use pol_requests::{Endpoint, NamespaceRequest, TableRequest};
+use pol_requests::{Endpoint, TableRequest};
 
 /// The name of the field, and the word by which it asks for a token.
 const FIELD: &[u8] = b"x-iceberg-access-delegation";
 
 const VENDED: &[u8] = b"vended-credentials";
+
+/// How many random words a storage token is made of.
+const TOKEN_WORDS: u8 = 2;
 
 /// Whether the fields of this head ask for a storage token.
 pub(crate) fn is_delegated(bytes: &[u8], head: &Head) -> bool
@@ -21,19 +24,39 @@ pub(crate) fn is_delegated(bytes: &[u8], head: &Head) -> bool
     lists(bytes, &head.fields[..head.count], FIELD, VENDED)
 }
 
-/// Whether a storage token may be asked for with what is asked for.
-pub(crate) fn may_hand_out(endpoint: Endpoint) -> bool
-    ensures { result ≡ spec.may_hand_out endpoint }
+/// How many random words a request draws, of which so many are drawn where it isn't delegated.
+pub(crate) fn words_drawn(endpoint: Endpoint, delegated: bool, words: u8) -> u8
+    ensures { result ≡ spec.words_drawn endpoint delegated words }
 {
     match endpoint {
-        Endpoint::Namespace(asked) => matches!(asked, NamespaceRequest::CreateTable),
-        Endpoint::Table(asked) => matches!(asked, TableRequest::LoadTable),
+        Endpoint::Table(asked) => on_table_drawn(asked, delegated, words),
         Endpoint::OpenSession
         | Endpoint::Content(_)
+        | Endpoint::Namespace(_)
         | Endpoint::View(_)
         | Endpoint::Catalog(_)
         | Endpoint::Principal(_)
         | Endpoint::PrincipalRole(_)
-        | Endpoint::CatalogRole(_) => false,
+        | Endpoint::CatalogRole(_)
+        | Endpoint::Object(_) => words,
     }
+}
+
+fn on_table_drawn(asked: TableRequest, delegated: bool, words: u8) -> u8
+    ensures { result ≡ spec.on_table_drawn asked delegated words }
+{
+    match asked {
+        TableRequest::LoadTable => if_delegated(delegated, words),
+        TableRequest::LoadCredentials
+        | TableRequest::HeadTable
+        | TableRequest::CommitTable
+        | TableRequest::DropTable
+        | TableRequest::ReportMetrics => words,
+    }
+}
+
+fn if_delegated(delegated: bool, words: u8) -> u8
+    ensures { result ≡ spec.if_delegated delegated words }
+{
+    if delegated { TOKEN_WORDS } else { words }
 }

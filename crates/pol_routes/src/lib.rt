@@ -6,6 +6,7 @@ mod delegation;
 mod form;
 pub mod laws;
 mod management;
+mod objects;
 mod plans;
 mod query;
 mod requests;

@@ -9,7 +9,7 @@ ghost use Rattle.pol_routes.specs.Route as route;
 ghost use Rattle.pol_routes.specs.Target.{path_of};
 
 use crate::bearer::caller_of;
-use crate::delegation::{is_delegated, may_hand_out};
+use crate::delegation::{is_delegated, words_drawn};
 use crate::requests::action_of;
 use crate::routed::Routed;
 use crate::routes::Routes;
@@ -35,8 +35,7 @@ pub struct Planned {
     pub charge: u64,
 }
 
-/// The plan of the message of which these are the ranges: its route, its method, whether such requests are served
-/// yet, and then what it holds, in this order.
+/// The plan of the message of which these are the ranges: its route, its method, and then what it holds, in this order.
 #[tactic(auto, unfolding(crate::specs::Plan::plan_of))]
 pub fn plan(
     alloc: Global,
@@ -72,7 +71,7 @@ fn row_of(routes: &Routes, method: &[u8], target: &[u8]) -> Result<&'static Row,
     }
 }
 
-/// The plan of a request by how such requests are served.
+/// The plan of a request by what such requests ask for.
 #[tactic(auto, using(pol_requests::proofs::RefusedLemmas::chained), unfolding(crate::specs::Plan::served_plan))]
 fn served_plan(
     alloc: Global,
@@ -83,20 +82,13 @@ fn served_plan(
 ) -> Result<Planned, Unplanned>
     ensures { Meets (spec.served_plan charge caller (request_of message.now) service) result }
 {
-    match service {
-        Service::Built { endpoint, words } => {
-            if message.delegated && may_hand_out(endpoint) {
-                return Err(Unplanned::Refused(RouteRefused::NotBuilt));
-            }
-            Ok(Planned {
-                action: action_of(alloc, endpoint, message)?,
-                caller: caller_for(endpoint, caller),
-                words,
-                charge,
-            })
-        }
-        Service::NotBuilt => Err(Unplanned::Refused(RouteRefused::NotBuilt)),
-    }
+    let Service { endpoint, words } = service;
+    Ok(Planned {
+        action: action_of(alloc, endpoint, message)?,
+        caller: caller_for(endpoint, caller),
+        words: words_drawn(endpoint, message.delegated, words),
+        charge,
+    })
 }
 
 /// Whose a request is. A token request is nobody's.

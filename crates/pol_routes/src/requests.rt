@@ -8,6 +8,7 @@ ghost use Rattle.pol_routes.specs.Requests as spec;
 use crate::management::{
     catalog_action, catalog_role_action, principal_action, principal_role_action,
 };
+use crate::objects::access;
 use crate::query::query_value;
 use crate::routed::{PREFIX, Routed, TABLE, VIEW};
 use crate::segment::{namespace_of, plain_of};
@@ -45,6 +46,7 @@ pub(crate) fn action_of(
         Endpoint::Principal(asked) => principal_action(alloc, asked, message),
         Endpoint::PrincipalRole(asked) => principal_role_action(alloc, asked, message),
         Endpoint::CatalogRole(asked) => catalog_role_action(alloc, asked, message),
+        Endpoint::Object(asked) => access(alloc, message.target, asked),
     }
 }
 
@@ -142,6 +144,7 @@ fn on_namespace(
             catalog,
             namespace,
             request: create_table_of(alloc, message.body)?,
+            delegated: message.delegated,
         }),
         NamespaceRequest::ListViews => Ok(Action::ListViews { catalog, namespace }),
         NamespaceRequest::CreateView => Ok(Action::CreateView {
@@ -185,7 +188,17 @@ fn on_table(
     ensures { Meets (spec.on_table (request_of message.now) catalog identifier asked) result }
 {
     match asked {
-        TableRequest::LoadTable => load_table(alloc, message.target, catalog, identifier),
+        TableRequest::LoadTable => load_table(
+            alloc,
+            message.target,
+            catalog,
+            identifier,
+            message.delegated,
+        ),
+        TableRequest::LoadCredentials => Ok(Action::LoadCredentials {
+            catalog,
+            identifier,
+        }),
         TableRequest::HeadTable => Ok(Action::HeadTable {
             catalog,
             identifier,

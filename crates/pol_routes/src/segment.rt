@@ -13,7 +13,7 @@ use pol_types::{OutOfMemory, Text};
 use std::alloc::Global;
 
 /// The field that is named where a segment can't be read.
-const PATH_FIELD: &str = "path";
+pub(crate) const PATH_FIELD: &str = "path";
 
 /// The segment of a path that stands for a parameter of its pattern, as `{namespace}`. It is empty where the pattern
 /// has no such parameter, or the path no such segment.

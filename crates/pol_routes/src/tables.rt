@@ -18,8 +18,9 @@ pub(crate) fn load_table(
     target: &[u8],
     catalog: Plain,
     identifier: Identifier,
+    delegated: bool,
 ) -> Result<Action, Unplanned>
-    ensures { Meets (spec.load_table target.now catalog identifier) result }
+    ensures { Meets (spec.load_table target.now catalog identifier delegated) result }
 {
     let value = query_value(alloc, query_of(target), "snapshots")?;
     let refs_only = refs_only(alloc, value)?;
@@ -27,6 +28,7 @@ pub(crate) fn load_table(
         catalog,
         identifier,
         refs_only,
+        delegated,
     })
 }
 

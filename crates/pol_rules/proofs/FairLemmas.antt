@@ -109,7 +109,7 @@ module _ {s : Rows} where
       alike = λ sound. ap (λ is. refuse_if (not is) Unauthenticated) (signed_in sound command.caller);
     }
 
-    caller-may : IsSound s → (caller : Caller) (need : Need) → caller_may s (time_of s command) caller need ≡ caller_may (live_part s) (time_of s command) caller need
+    pub caller-may : IsSound s → (caller : Caller) (need : Need) → caller_may s (time_of s command) caller need ≡ caller_may (live_part s) (time_of s command) caller need
     caller-may sound Nobody need = refl
     caller-may sound (Bearer text) need =
         ap (λ found. session_may s found need) (sym (session-live s sound (time_of s command) text (omega arith)))

@@ -1,6 +1,7 @@
 pub mod AccessRulesLemmas
 pub mod ContentLemmas
 pub mod FairLemmas
+pub mod FitLemmas
 pub mod FoundLemmas
 pub mod JudgedLemmas
 pub mod JudgingLemmas

@@ -2,24 +2,25 @@
 use Rattle.std.proofs.Common.{◌≡◌, ℕ, ◌<◌, ◌≤◌, ◌^◌, Bool, true, false, cond, ◌&&◌, List, [], ◌∷◌, filter, None, nat_lt, refl, sym, ap, ◌∙◌, arith, true≢false}
 use Rattle.std.specs.Int.{from_be_bytes, to_be_bytes, w64}
 use Rattle.std.specs.List.{find, AllByRecursion}
-use Rattle.std.proofs.lemmas.Bool.{and_parts, lt-ltb, ltb-true}
+use Rattle.std.proofs.lemmas.Bool.{and_parts, lt-ltb, ltb-true, or_parts}
 use Rattle.std.proofs.lemmas.Nat.{from_be_bytes-to_be_bytes_8}
 use Rattle.std.proofs.lemmas.Slice.Eq.{bytes_eq-Decides}
 use Rattle.pol_access.specs.Access.{principal_id}
 use Rattle.pol_tables.specs.Rising.{KeysRise}
-use Rattle.pol_tables.specs.Table.{knows}
+use Rattle.pol_tables.specs.Table.{has_id, knows}
 use Rattle.pol_tables.proofs.ListLemmas.{each-all, each-filter, each-join, each-weaken}
 use Rattle.pol_tables.proofs.RisingLemmas.{KeysRise-filter, rise_head, rise_tail}
 use Rattle.pol_tokens.specs.Text.{text_of_token}
-use Rattle.pol_tokens.specs.Tokens.{has_text, serial_of}
+use Rattle.pol_tokens.specs.Tokens.{has_text, serial_of, token_serial}
 use Rattle.pol_tokens.specs.declared.session.SessionRow.{SessionRow}
+use Rattle.pol_tokens.specs.declared.token.TokenRow.{TokenRow}
 use Rattle.pol_tokens.proofs.TextLemmas.{decode-serial}
 use Rattle.pol_state.specs.Bounds.{over_limit}
 use Rattle.pol_state.specs.Rows.{Rows}
-use Rattle.pol_state.specs.Sound.{IsSessionOf, IsSound}
+use Rattle.pol_state.specs.Sound.{FitsTable, IsTokenOf, IsSessionOf, IsSound}
 use Rattle.pol_state.proofs.BoundsLemmas.{next_serial_bound}
 use Rattle.pol_rules.specs.Rules.{kept_if, session_of}
-use Rattle.pol_rules.specs.Live.{is_live, live_part, Agree}
+use Rattle.pol_rules.specs.Live.{is_unexpired, is_live, live_part, Agree}
 
 -- of what passes a test, a filter by a weaker one leaves out nothing
 pub filter-weaker : {X : Type 0} (test weaker : X → Bool) (xs : List X) → AllByRecursion (λ x. test x ≡ true → weaker x ≡ true) xs → filter test (filter weaker xs) ≡ filter test xs
@@ -30,6 +31,17 @@ filter-weaker test weaker (x ∷ xs) all = by (weaker x) (test x) refl refl (fil
     by true t weak is rest = rw weak (ap (λ kept. cond (test x) (x ∷ kept) kept) rest)
     by false true weak is rest = absurd (true≢false (sym (all.0 is) ∙ weak))
     by false false weak is rest = rw (weak, is) rest
+
+-- an id that no row has is no row's among those that stay
+unknown-filtered : {R : Type 0} (key : R → ℕ) (keep : R → Bool) (id : ℕ) (rows : List R) → knows key id rows ≡ false → knows key id (filter keep rows) ≡ false
+unknown-filtered key keep id [] none = refl
+unknown-filtered key keep id (row ∷ rows) none =
+    let parts = or_parts (has_id key id row) (knows key id rows) none in
+    by (keep row) parts.0 (unknown-filtered key keep id rows parts.1)
+  where
+    by : (b : Bool) → has_id key id row ≡ false → knows key id (filter keep rows) ≡ false → knows key id (cond b (row ∷ filter keep rows) (filter keep rows)) ≡ false
+    by true other rest = rw other rest
+    by false other rest = rest
 
 -- past an item that passes the test, none does
 abbrev pub OnePasses : {X : Type 0} → (X → Bool) → List X → Type 0
@@ -100,10 +112,16 @@ module _ (s : Rows) where
       let unexpired = ltb-true time row.expires lasts in
       rw (lt-ltb s.time row.expires (omega (arith, later, unexpired)), there) refl
 
+  -- and so is a storage token
+  pub unexpired-before : (time : ℕ) (row : TokenRow) → s.time ≤ time → nat_lt time row.expires ≡ true → is_unexpired s row ≡ true
+  unexpired-before time row later lasts =
+      let unexpired = ltb-true time row.expires lasts in
+      lt-ltb s.time row.expires (omega (arith, later, unexpired))
+
   -- the live part's live part is itself
   pub live-agrees : Agree (live_part s) s
   live-agrees =
-      ap (λ sessions. record s { tokens = record { sessions = sessions } }) (filter-weaker (is_live s) (is_live s) s.tokens.sessions (each-all (λ row. is_live s row ≡ true → is_live s row ≡ true) s.tokens.sessions (λ row is. is)))
+      λ i. record s { tokens = record { sessions = filter-weaker (is_live s) (is_live s) s.tokens.sessions (each-all (λ row. is_live s row ≡ true → is_live s row ≡ true) s.tokens.sessions (λ row is. is)) i; tokens = filter-weaker (is_unexpired s) (is_unexpired s) s.tokens.tokens (each-all (λ row. is_unexpired s row ≡ true → is_unexpired s row ≡ true) s.tokens.tokens (λ row is. is)) i } }
 
   module _ (sound : IsSound s) where
     serials-fit : AllByRecursion (λ row. row.serial < 2 ^ 64) s.tokens.sessions
@@ -128,7 +146,11 @@ module _ (s : Rows) where
         tokens = record {
           sessions_rise = KeysRise-filter serial_of (is_live s) s.tokens.sessions sound.orderly.tokens.sessions_rise;
           sessions = each-filter (IsSessionOf s.next_id s.next_serial) (is_live s) s.tokens.sessions sound.orderly.tokens.sessions;
+          tokens_rise = KeysRise-filter token_serial (is_unexpired s) s.tokens.tokens sound.orderly.tokens.tokens_rise;
+          tokens = each-filter (IsTokenOf s.next_id s.next_serial) (is_unexpired s) s.tokens.tokens sound.orderly.tokens.tokens;
+          serials_differ = each-filter _ (is_unexpired s) s.tokens.tokens (each-weaken (λ row. knows serial_of row.serial s.tokens.sessions ≡ false) (λ row. knows serial_of row.serial (filter (is_live s) s.tokens.sessions) ≡ false) s.tokens.tokens (λ row. unknown-filtered serial_of (is_live s) row.serial s.tokens.sessions) sound.orderly.tokens.serials_differ);
         };
+        tokens_fit = each-filter (FitsTable s.content.tables) (is_unexpired s) s.tokens.tokens sound.orderly.tokens_fit;
         time_bound = sound.orderly.time_bound;
         charged_bound = sound.orderly.charged_bound;
       };

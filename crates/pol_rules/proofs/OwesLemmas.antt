@@ -7,20 +7,21 @@ use Rattle.pol_tables.specs.Table.{knows}
 use Rattle.pol_tables.proofs.ListLemmas.{each-all, each-weaken}
 use Rattle.pol_tokens.specs.Tokens.{TokenRows}
 use Rattle.pol_tokens.specs.declared.session.SessionRow.{SessionRow}
+use Rattle.pol_tokens.specs.declared.token.TokenRow.{TokenRow}
 use Rattle.pol_commands.specs.declared.command.Command.{Command}
 use Rattle.pol_commands.specs.declared.reply.Answer.{Answer}
 use Rattle.pol_commands.specs.declared.reply.Refusal.{Refusal}
 use Rattle.pol_state.specs.Changes.{changes_between, headed, id_change, in_turn, row_changes, serial_change}
 use Rattle.pol_state.specs.Rows.{Rows}
 use Rattle.pol_state.specs.Sound.{IsOrderly, IsSound}
-use Rattle.pol_state.proofs.ChangesLemmas.{sessions-kept}
+use Rattle.pol_state.proofs.ChangesLemmas.{sessions-kept, tokens-kept}
 use Rattle.pol_rules.specs.Acting.{done, reading, stamped, Acting}
-use Rattle.pol_rules.specs.Live.{is_live, live_part, live_tokens, Agree}
+use Rattle.pol_rules.specs.Live.{is_live, is_unexpired, live_part, live_tokens, Agree}
 use Rattle.pol_state.specs.Bounds.{over_limit, EachPasses}
 use Rattle.pol_rules.specs.Rules.{time_of}
 use Rattle.pol_rules.proofs.FairLemmas.{AreFair}
 use Rattle.pol_rules.proofs.LeadsLemmas.{leads-same, Leads}
-use Rattle.pol_rules.proofs.LiveLemmas.{filter-weaker, live-before}
+use Rattle.pol_rules.proofs.LiveLemmas.{filter-weaker, live-before, unexpired-before}
 use Rattle.pol_rules.proofs.SoundLemmas.{stamped-orderly, IsWithin}
 
 -- rows with these tokens
@@ -43,7 +44,7 @@ module _ (s : Rows) (command : Command) where
   pub record OwesRows (after live : Rows) : Type 0 where
     pub leads : IsSound s → Leads s command after
     pub same : IsSound s → DoSame s (stamped s command after) (stamped (live_part s) command live)
-    pub bounds : over_limit after ≡ over_limit live
+    pub bounds : IsSound s → over_limit after ≡ over_limit live
 
   -- what is owed of an action: besides, it keeps a sound state orderly where its rules pass, none of them tells that the
   -- run is full, and in the live part they are judged alike and the answer is the same
@@ -51,7 +52,7 @@ module _ (s : Rows) (command : Command) where
     pub rows : OwesRows action.after live.after
     pub orderly : IsSound s → IsWithin s command → EachPasses action.rules → IsOrderly (stamped s command action.after)
     pub fair : AreFair s action.rules live.rules
-    pub answer : action.answer ≡ live.answer
+    pub answer : IsSound s → action.answer ≡ live.answer
 
   -- rows that leave the principals alone bring none back
   pub none-returns : NoneReturns s s
@@ -68,12 +69,20 @@ module _ (s : Rows) (command : Command) where
           let parts = and_parts (nat_lt (time_of s command) row.expires) (knows principal_id row.principal after.access.principals) is in
           live-before s (time_of s command) row (omega arith) parts.0 (there parts.1)
 
-  -- rows that leave the sessions alone, and bring no session's principal back
+  -- and so were the storage tokens
+  pub tokens-after : (after : Rows) → filter (is_unexpired (stamped s command after)) s.tokens.tokens ≡ filter (is_unexpired (stamped s command after)) (filter (is_unexpired s) s.tokens.tokens)
+  tokens-after after =
+      sym (filter-weaker (is_unexpired (stamped s command after)) (is_unexpired s) s.tokens.tokens (each-all (λ row. is_unexpired (stamped s command after) row ≡ true → is_unexpired s row ≡ true) s.tokens.tokens before))
+    where
+      before : (row : TokenRow) → is_unexpired (stamped s command after) row ≡ true → is_unexpired s row ≡ true
+      before row is = unexpired-before s (time_of s command) row (omega arith) is
+
+  -- rows that leave the sessions and the storage tokens alone, and bring no session's principal back
   same-by : (after : Rows) → NoneReturns s after → DoSame s (stamped s command (with_tokens s.tokens after)) (stamped (live_part s) command (with_tokens (live_tokens s) after))
   unfolding changes_between
   same-by after none = record {
-    changes = λ i. headed (time_of s command) (id_change s after ++ serial_change s after) (in_turn (record (row_changes s after) { sessions = (sessions-kept s ∙ sym (sessions-kept (live_part s))) i }));
-    agree = λ i. with_tokens (record { sessions = live-after after none i }) (stamped s command after);
+    changes = λ i. headed (time_of s command) (id_change s after ++ serial_change s after) (in_turn (record (row_changes s after) { sessions = (sessions-kept s ∙ sym (sessions-kept (live_part s))) i; tokens = (tokens-kept s ∙ sym (tokens-kept (live_part s))) i }));
+    agree = λ i. with_tokens (record { sessions = live-after after none i; tokens = tokens-after after i }) (stamped s command after);
   }
 
   bounds-by : (after : Rows) → over_limit (with_tokens s.tokens after) ≡ over_limit (with_tokens (live_tokens s) after)
@@ -84,10 +93,10 @@ module _ (s : Rows) (command : Command) where
   owes-returning after none leads = record {
     leads = leads;
     same = λ sound. same-by after (none sound);
-    bounds = bounds-by after;
+    bounds = λ sound. bounds-by after;
   }
 
-  -- rows that leave the sessions and the principals alone
+  -- rows that leave the sessions, the storage tokens and the principals alone
   pub owes-apart : (after : Rows) → after.access.principals ≡ s.access.principals → (IsSound s → Leads s command (with_tokens s.tokens after)) → OwesRows (with_tokens s.tokens after) (with_tokens (live_tokens s) after)
   owes-apart after apart leads =
       owes-returning after (λ sound. subst (λ principals. NoneReturns s (record s { access = record s.access { principals = principals } })) (sym apart) none-returns) leads
@@ -107,5 +116,5 @@ module _ (s : Rows) (command : Command) where
     rows = owes-same;
     orderly = λ sound within passes. stamped-orderly s command sound.orderly within;
     fair = fair;
-    answer = refl;
+    answer = λ sound. refl;
   }

@@ -1,6 +1,7 @@
 -- The rows after an action, at the time of its command, are orderly.
 use Rattle.std.proofs.Common.{◌≡◌, ℕ, ◌+◌, ◌≤◌, ◌^◌, Bool, true, false, cond, None, Some, refl, sym, subst, arith, nat_lt, Option, List}
 use Rattle.std.proofs.lemmas.Bool.{ltb-false}
+use Rattle.std.specs.List.{AllByRecursion}
 use Rattle.pol_access.specs.Access.{AccessRows, principal_id}
 use Rattle.pol_access.proofs.SoundLemmas.{given-later}
 use Rattle.pol_tables.specs.Rising.{KeysBelow}
@@ -17,7 +18,7 @@ use Rattle.pol_names.specs.declared.scope.Scope.TheVariants as scope
 use Rattle.pol_commands.specs.declared.command.Command.{Command}
 use Rattle.pol_commands.specs.declared.reply.Refusal.TheVariants.{RunFull}
 use Rattle.pol_state.specs.Rows.{Rows}
-use Rattle.pol_state.specs.Sound.{AreNumbered, AreTied, IsGiven, IsOrderly, IsSessionOf, IsSound, IsSoundAccess, IsSoundTokens, NamesGiven}
+use Rattle.pol_state.specs.Sound.{AreNumbered, AreTied, IsGiven, IsOrderly, IsSessionOf, IsSound, IsSoundAccess, IsSoundTokens, IsTokenOf, FitsTable, NamesGiven}
 use Rattle.pol_rules.specs.Acting.{stamped, done}
 use Rattle.pol_rules.specs.Rules.{run_full, time_of}
 use Rattle.pol_rules.proofs.FoundLemmas.{found-holds}
@@ -45,6 +46,7 @@ stamped-orderly s command orderly within = record {
   content = orderly.content;
   ties = orderly.ties;
   tokens = orderly.tokens;
+  tokens_fit = orderly.tokens_fit;
   time_bound = within.time;
   charged_bound = within.charged;
 }
@@ -59,16 +61,20 @@ later-tokens : (low high serial : ℕ) (tokens : TokenRows) → low ≤ high →
 later-tokens low high serial tokens more sound = record {
   sessions_rise = sound.sessions_rise;
   sessions = each-weaken (IsSessionOf low serial) (IsSessionOf high serial) tokens.sessions (λ row known. record { below = known.below; principal = given-later low high row.principal more known.principal; scope = names-later low high row.scope more known.scope }) sound.sessions;
+  tokens_rise = sound.tokens_rise;
+  tokens = each-weaken (IsTokenOf low serial) (IsTokenOf high serial) tokens.tokens (λ row known. record { below = known.below; principal = given-later low high row.principal more known.principal; table = given-later low high row.table more known.table }) sound.tokens;
+  serials_differ = sound.serials_differ;
 }
 
 -- other rows of access and content, with more ids given out, are orderly at the command's time
-pub tables-orderly : (s : Rows) (command : Command) (access : AccessRows) (content : ContentRows) (next_id : ℕ) → IsSound s → IsWithin s command → s.next_id ≤ next_id → IsSoundAccess next_id access → IsSoundContent next_id content → AreTied access content
+pub tables-orderly : (s : Rows) (command : Command) (access : AccessRows) (content : ContentRows) (next_id : ℕ) → IsSound s → IsWithin s command → s.next_id ≤ next_id → IsSoundAccess next_id access → IsSoundContent next_id content → AreTied access content → AllByRecursion (FitsTable content.tables) s.tokens.tokens
     → IsOrderly (stamped s command (record s { access = access; content = content; next_id = next_id }))
-tables-orderly s command access content next_id sound within more access_sound content_sound tied = record {
+tables-orderly s command access content next_id sound within more access_sound content_sound tied fit = record {
   access = access_sound;
   content = content_sound;
   ties = tied;
   tokens = later-tokens s.next_id next_id s.next_serial s.tokens more sound.orderly.tokens;
+  tokens_fit = fit;
   time_bound = within.time;
   charged_bound = within.charged;
 }
@@ -94,8 +100,8 @@ module _ (s : Rows) (command : Command) (sound : IsSound s) (within : IsWithin s
   -- other rows of access are orderly at the command's time, and so are they with one more id given out
   pub access-orderly : (after : AccessRows) → IsSoundAccess s.next_id after → AreTied after s.content → IsOrderly (stamped s command (record s { access = after }))
   access-orderly after kept tied_after =
-      tables-orderly s command after s.content s.next_id sound within (omega arith) kept sound.orderly.content tied_after
+      tables-orderly s command after s.content s.next_id sound within (omega arith) kept sound.orderly.content tied_after sound.orderly.tokens_fit
 
   pub new-access-orderly : (after : AccessRows) → IsSoundAccess (s.next_id + 1) after → AreTied after s.content → IsOrderly (stamped s command (record s { access = after; next_id = s.next_id + 1 }))
   new-access-orderly after kept tied_after =
-      tables-orderly s command after s.content (s.next_id + 1) sound within (omega arith) kept (more_ids s.next_id (s.next_id + 1) s.content (omega arith) sound.orderly.content) tied_after
+      tables-orderly s command after s.content (s.next_id + 1) sound within (omega arith) kept (more_ids s.next_id (s.next_id + 1) s.content (omega arith) sound.orderly.content) tied_after sound.orderly.tokens_fit

@@ -4,16 +4,21 @@ use Rattle.pol_access.specs.Access.{principal_id}
 use Rattle.pol_tables.specs.Table.{knows}
 use Rattle.pol_tokens.specs.Tokens.{TokenRows}
 use Rattle.pol_tokens.specs.declared.session.SessionRow.{SessionRow}
+use Rattle.pol_tokens.specs.declared.token.TokenRow.{TokenRow}
 use Rattle.pol_state.specs.Rows.{Rows}
 
 -- whether a session is live: the state's time hasn't reached its expiry, and its principal is there
 abbrev pub is_live : Rows → SessionRow → Bool
 is_live s row = nat_lt s.time row.expires && knows principal_id row.principal s.access.principals
 
-abbrev pub live_tokens : Rows → TokenRows
-live_tokens s = record { sessions = filter (is_live s) s.tokens.sessions }
+-- and a storage token: it is live whether or not its principal and its table are there
+abbrev pub is_unexpired : Rows → TokenRow → Bool
+is_unexpired s row = nat_lt s.time row.expires
 
--- the state without sessions that aren't live
+abbrev pub live_tokens : Rows → TokenRows
+live_tokens s = record { sessions = filter (is_live s) s.tokens.sessions; tokens = filter (is_unexpired s) s.tokens.tokens }
+
+-- the state without sessions and storage tokens that aren't live
 abbrev pub live_part : Rows → Rows
 live_part s = record s { tokens = live_tokens s }
 

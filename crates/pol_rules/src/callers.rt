@@ -37,7 +37,7 @@ fn is_signed_in(state: &State, time: u64, caller: &Caller) -> bool
 
 /// The unexpired session of this text, where its principal is there.
 #[tactic(auto, unfolding(crate::specs::Rules::session_of))]
-pub(crate) fn session_of<'a>(state: &'a State, time: u64, text: &[u8]) -> Option<&'a SessionRow>
+pub fn session_of<'a>(state: &'a State, time: u64, text: &[u8]) -> Option<&'a SessionRow>
     ensures { option_copied result ≡ session_of state.now.rows time text.now }
 {
     let session = state.tokens().find_session(text, time)?;

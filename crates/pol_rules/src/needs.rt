@@ -149,7 +149,7 @@ fn first_unmet(asked: &Asked<'_>, needs: &[Need]) -> Result<Option<Need>, OutOfM
 }
 
 /// Whether the caller has what it needs.
-fn caller_may(asked: &Asked<'_>, time: u64, need: &Need) -> Result<bool, OutOfMemory>
+pub fn caller_may(asked: &Asked<'_>, time: u64, need: &Need) -> Result<bool, OutOfMemory>
     requires { IsSound asked.now.state.now.rows }
     ensures { let s = asked.now.state.now.rows in
         IfOk result (λ may. may ≡ caller_may s time asked.now.command.now.caller need.now) }

@@ -21,12 +21,13 @@ use Rattle.pol_content.specs.Content.{catalog_id, namespace_id}
 use Rattle.pol_content.specs.contracts.rows.CatalogRow as catalog
 use Rattle.pol_content.specs.contracts.rows.NamespaceRow as namespace
 use Rattle.pol_content.specs.declared.change.Change.{Change}
-use Rattle.pol_content.specs.declared.change.Change.TheVariants.{NextId, NextSerial, PutPrincipal, DropPrincipal, PutPrincipalRole, DropPrincipalRole, PutCatalog, DropCatalog, PutCatalogRole, DropCatalogRole, PutNamespace, DropNamespace, PutTable, DropTable, PutView, DropView, PutMember, DropMember, PutJoin, DropJoin, PutGrant, DropGrant, PutSession}
-use Rattle.pol_tokens.specs.Tokens.{serial_of}
+use Rattle.pol_content.specs.declared.change.Change.TheVariants.{NextId, NextSerial, PutPrincipal, DropPrincipal, PutPrincipalRole, DropPrincipalRole, PutCatalog, DropCatalog, PutCatalogRole, DropCatalogRole, PutNamespace, DropNamespace, PutTable, DropTable, PutView, DropView, PutMember, DropMember, PutJoin, DropJoin, PutGrant, DropGrant, PutSession, PutToken}
+use Rattle.pol_tokens.specs.Tokens.{serial_of, token_serial}
 use Rattle.pol_tokens.specs.contracts.session.SessionRow.{the_row}
+use Rattle.pol_tokens.specs.contracts.token.TokenRow as token
 use Rattle.pol_state.specs.Changes.{changes_between, headed, id_change, in_turn, row_changes, serial_change, RowChanges}
 use Rattle.pol_state.specs.Rows.{Rows}
-use Rattle.pol_state.specs.Sound.{IsSound, IsSessionOf}
+use Rattle.pol_state.specs.Sound.{IsSound, IsSessionOf, IsTokenOf}
 
 -- what isn't not so is so
 pub filter-twice : {X : Type 0} (test : X → Bool) (xs : List X) → filter (λ x. not (not (test x))) xs ≡ filter test xs
@@ -42,7 +43,7 @@ timed s time charged = record s { time = time; charged = charged }
 
 -- no changes of any kind
 abbrev pub none : RowChanges
-none = record { principals = []; principal_roles = []; catalogs = []; catalog_roles = []; namespaces = []; tables = []; views = []; members = []; joins = []; grants = []; sessions = [] }
+none = record { principals = []; principal_roles = []; catalogs = []; catalog_roles = []; namespaces = []; tables = []; views = []; members = []; joins = []; grants = []; sessions = []; tokens = [] }
 
 -- the changes of each kind of rows, and the counters', make the changes between two states
 pub made-of : (s t : Rows) (ids serials : List Change) (rows : RowChanges) → id_change s t ≡ ids → serial_change s t ≡ serials → row_changes s t ≡ rows → changes_between s t ≡ headed t.time (ids ++ serials) (in_turn rows)
@@ -63,10 +64,14 @@ still s = λ i. record {
   joins = fact_changes-itself join.the_row.coded join_cmp PutJoin DropJoin s.access.joins i;
   grants = fact_changes-itself grant.the_row.coded grant_cmp PutGrant DropGrant s.access.grants i;
   sessions = ap (map PutSession) (new_rows-itself the_row.coded s.tokens.sessions) i;
+  tokens = ap (map PutToken) (new_rows-itself token.the_row.coded s.tokens.tokens) i;
 }
 
 pub sessions-kept : (s : Rows) → (row_changes s s).sessions ≡ []
 sessions-kept s = ap (λ (made : RowChanges). made.sessions) (still s)
+
+pub tokens-kept : (s : Rows) → (row_changes s s).tokens ≡ []
+tokens-kept s = ap (λ (made : RowChanges). made.tokens) (still s)
 
 -- a counter that stays has no change, and one that rises has one
 pub counter-kept : (counter : ℕ) (change : Change) → cond (counter == counter) [] (change ∷ []) ≡ []
@@ -85,6 +90,16 @@ pub made-with_ids : (s t : Rows) (step : ℕ) (rows : RowChanges) → 0 < step �
 made-with_ids s t step rows some id serial made =
     made-of s t (NextId (s.next_id + step) ∷ []) [] rows (ap (λ next. cond (s.next_id == next) [] (NextId next ∷ [])) id ∙ counter-raised s.next_id step (NextId (s.next_id + step)) some) (ap (λ next. cond (s.next_serial == next) [] (NextSerial next ∷ [])) serial ∙ counter-kept s.next_serial (NextSerial s.next_serial)) made
 
+-- where serials are given out, and where ids are too
+pub made-with_serials : (s t : Rows) (step : ℕ) (rows : RowChanges) → 0 < step → t.next_id ≡ s.next_id → t.next_serial ≡ s.next_serial + step → row_changes s t ≡ rows → changes_between s t ≡ headed t.time (NextSerial (s.next_serial + step) ∷ []) (in_turn rows)
+made-with_serials s t step rows some id serial made =
+    made-of s t [] (NextSerial (s.next_serial + step) ∷ []) rows (ap (λ next. cond (s.next_id == next) [] (NextId next ∷ [])) id ∙ counter-kept s.next_id (NextId s.next_id)) (ap (λ next. cond (s.next_serial == next) [] (NextSerial next ∷ [])) serial ∙ counter-raised s.next_serial step (NextSerial (s.next_serial + step)) some) made
+
+pub made-with_both : (s t : Rows) (ids serials : ℕ) (rows : RowChanges) → 0 < ids → 0 < serials → t.next_id ≡ s.next_id + ids → t.next_serial ≡ s.next_serial + serials → row_changes s t ≡ rows
+    → changes_between s t ≡ headed t.time (NextId (s.next_id + ids) ∷ NextSerial (s.next_serial + serials) ∷ []) (in_turn rows)
+made-with_both s t ids serials rows some more id serial made =
+    made-of s t (NextId (s.next_id + ids) ∷ []) (NextSerial (s.next_serial + serials) ∷ []) rows (ap (λ next. cond (s.next_id == next) [] (NextId next ∷ [])) id ∙ counter-raised s.next_id ids (NextId (s.next_id + ids)) some) (ap (λ next. cond (s.next_serial == next) [] (NextSerial next ∷ [])) serial ∙ counter-raised s.next_serial serials (NextSerial (s.next_serial + serials)) more) made
+
 -- time and charges alone are no change
 pub changes-timed : (s : Rows) (time charged : ℕ) → changes_between s (timed s time charged) ≡ []
 changes-timed s time charged = made-in_place s (timed s time charged) none refl refl (still s)
@@ -93,3 +108,7 @@ changes-timed s time charged = made-in_place s (timed s time charged) none refl 
 pub serials-below : (s : Rows) → IsSound s → KeysBelow serial_of s.next_serial s.tokens.sessions
 serials-below s sound =
     each-weaken (IsSessionOf s.next_id s.next_serial) (λ row. serial_of row < s.next_serial) s.tokens.sessions (λ row known. known.below) sound.orderly.tokens.sessions
+
+pub token_serials-below : (s : Rows) → IsSound s → KeysBelow token_serial s.next_serial s.tokens.tokens
+token_serials-below s sound =
+    each-weaken (IsTokenOf s.next_id s.next_serial) (λ row. token_serial row < s.next_serial) s.tokens.tokens (λ row known. known.below) sound.orderly.tokens.tokens

@@ -69,11 +69,11 @@ fresh-access secret root role before one two three root_is role_is empty first s
     member-put secret before one two three (role-put secret before one two three (root-put secret before one two three empty root root_is first) role role_is second) third ∙ fresh-is secret
 
 -- the state that the code makes
-pub fresh-made : (secret : List ℕ) (access : AccessRows) (content : ContentRows) (tokens : TokenRows) → access ≡ (fresh_state secret).access → content ≡ record { catalogs = []; namespaces = []; tables = []; views = [] } → tokens.sessions ≡ []
+pub fresh-made : (secret : List ℕ) (access : AccessRows) (content : ContentRows) (tokens : TokenRows) → access ≡ (fresh_state secret).access → content ≡ record { catalogs = []; namespaces = []; tables = []; views = [] } → tokens ≡ record { sessions = []; tokens = [] }
     → record { access = access; content = content; tokens = tokens; time = 0; next_id = 3; next_serial = 0; charged = 0 } ≡ fresh_state secret
 unfolding fresh_state
 fresh-made secret access content tokens access_is content_is empty =
-    λ i. record { access = access_is i; content = content_is i; tokens = record { sessions = empty i }; time = 0; next_id = 3; next_serial = 0; charged = 0 }
+    λ i. record { access = access_is i; content = content_is i; tokens = empty i; time = 0; next_id = 3; next_serial = 0; charged = 0 }
 
 -- it is sound
 fresh-orderly : (secret : List ℕ) → IsOrderly (fresh_state secret)
@@ -112,7 +112,8 @@ fresh-orderly secret = record {
     views = record { numbered = record { rise = tt; given = tt }; ids_differ = tt; names_differ = tt; names_apart = tt; namespaces = tt; each = tt };
   };
   ties = record { role_catalogs = tt; grants_within = tt; catalog_admins = tt; ids_apart = record { catalogs = tt; namespaces = tt; tables = tt; views = tt } };
-  tokens = record { sessions_rise = tt; sessions = tt };
+  tokens = record { sessions_rise = tt; sessions = tt; tokens_rise = tt; tokens = tt; serials_differ = tt };
+  tokens_fit = tt;
   time_bound = lit≤ tt;
   charged_bound = lit≤ tt;
 }

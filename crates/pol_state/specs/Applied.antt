@@ -12,9 +12,10 @@ use Rattle.pol_tables.specs.Table.{rows_with, rows_without}
 use Rattle.pol_content.specs.Change.{puts}
 use Rattle.pol_content.specs.Content.{catalog_id, namespace_id}
 use Rattle.pol_content.specs.declared.change.Change.{Change}
-use Rattle.pol_content.specs.declared.change.Change.TheVariants.{Time, NextId, NextSerial, PutPrincipal, DropPrincipal, PutPrincipalRole, DropPrincipalRole, PutCatalog, DropCatalog, PutCatalogRole, DropCatalogRole, PutNamespace, DropNamespace, PutTable, DropTable, PutView, DropView, PutMember, DropMember, PutJoin, DropJoin, PutGrant, DropGrant, PutSession}
+use Rattle.pol_content.specs.declared.change.Change.TheVariants.{Time, NextId, NextSerial, PutPrincipal, DropPrincipal, PutPrincipalRole, DropPrincipalRole, PutCatalog, DropCatalog, PutCatalogRole, DropCatalogRole, PutNamespace, DropNamespace, PutTable, DropTable, PutView, DropView, PutMember, DropMember, PutJoin, DropJoin, PutGrant, DropGrant, PutSession, PutToken}
 use Rattle.pol_content.specs.declared.change.RowKind.TheVariants as kind
-use Rattle.pol_tokens.specs.Tokens.{serial_of}
+use Rattle.pol_tokens.specs.HeldTable.{rows_once}
+use Rattle.pol_tokens.specs.Tokens.{serial_of, token_serial}
 use Rattle.pol_state.specs.Rows.{Rows, Room}
 
 -- the rows once one change is made
@@ -42,7 +43,8 @@ changed s (PutJoin row) = record s { access = record s.access { joins = facts_wi
 changed s (DropJoin row) = record s { access = record s.access { joins = facts_without join.the_row.coded row s.access.joins } }
 changed s (PutGrant row) = record s { access = record s.access { grants = facts_with grant.the_row.coded row s.access.grants } }
 changed s (DropGrant row) = record s { access = record s.access { grants = facts_without grant.the_row.coded row s.access.grants } }
-changed s (PutSession row) = record s { tokens = record { sessions = rows_with serial_of row s.tokens.sessions } }
+changed s (PutSession row) = record s { tokens = record s.tokens { sessions = rows_once serial_of row s.tokens.sessions } }
+changed s (PutToken row) = record s { tokens = record s.tokens { tokens = rows_once token_serial row s.tokens.tokens } }
 
 -- the rows once all changes are made in their order, with this time, and this charge added
 abbrev pub applied : List Change → ℕ → ℕ → Rows → Rows
@@ -63,6 +65,7 @@ pub record HasRoom (changes : List Change) (room : Room) : Type 0 where
   pub joins : count_by (puts kind.Join) changes ≤ room.access.joins
   pub grants : count_by (puts kind.Grant) changes ≤ room.access.grants
   pub sessions : count_by (puts kind.Session) changes ≤ room.tokens.sessions
+  pub tokens : count_by (puts kind.Token) changes ≤ room.tokens.tokens
 
 -- no room is lost
 pub record KeepsRoom (old new : Room) : Type 0 where
@@ -72,6 +75,7 @@ pub record KeepsRoom (old new : Room) : Type 0 where
   pub tables : old.content.tables ≤ new.content.tables
   pub views : old.content.views ≤ new.content.views
   pub sessions : old.tokens.sessions ≤ new.tokens.sessions
+  pub tokens : old.tokens.tokens ≤ new.tokens.tokens
 
 -- a change takes room for the row that it puts, and no more
 pub record TakesRoom (change : Change) (old new : Room) : Type 0 where
@@ -86,3 +90,4 @@ pub record TakesRoom (change : Change) (old new : Room) : Type 0 where
   pub joins : old.access.joins ≤ new.access.joins + count_by (puts kind.Join) (change ∷ [])
   pub grants : old.access.grants ≤ new.access.grants + count_by (puts kind.Grant) (change ∷ [])
   pub sessions : old.tokens.sessions ≤ new.tokens.sessions + count_by (puts kind.Session) (change ∷ [])
+  pub tokens : old.tokens.tokens ≤ new.tokens.tokens + count_by (puts kind.Token) (change ∷ [])

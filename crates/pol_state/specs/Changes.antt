@@ -17,8 +17,9 @@ use Rattle.pol_content.specs.Content.{catalog_id, namespace_id}
 use Rattle.pol_content.specs.contracts.rows.CatalogRow as catalog
 use Rattle.pol_content.specs.contracts.rows.NamespaceRow as namespace
 use Rattle.pol_content.specs.declared.change.Change.{Change}
-use Rattle.pol_content.specs.declared.change.Change.TheVariants.{Time, NextId, NextSerial, PutPrincipal, DropPrincipal, PutPrincipalRole, DropPrincipalRole, PutCatalog, DropCatalog, PutCatalogRole, DropCatalogRole, PutNamespace, DropNamespace, PutTable, DropTable, PutView, DropView, PutMember, DropMember, PutJoin, DropJoin, PutGrant, DropGrant, PutSession}
+use Rattle.pol_content.specs.declared.change.Change.TheVariants.{Time, NextId, NextSerial, PutPrincipal, DropPrincipal, PutPrincipalRole, DropPrincipalRole, PutCatalog, DropCatalog, PutCatalogRole, DropCatalogRole, PutNamespace, DropNamespace, PutTable, DropTable, PutView, DropView, PutMember, DropMember, PutJoin, DropJoin, PutGrant, DropGrant, PutSession, PutToken}
 use Rattle.pol_tokens.specs.contracts.session.SessionRow as session
+use Rattle.pol_tokens.specs.contracts.token.TokenRow as token
 use Rattle.pol_state.specs.Rows.{Rows}
 
 -- the changes of the rows of each kind
@@ -34,14 +35,15 @@ pub record RowChanges : Type 0 where
   pub joins : List Change
   pub grants : List Change
   pub sessions : List Change
+  pub tokens : List Change
 
 -- all of them, in the order of the variants
 abbrev pub in_turn : RowChanges → List Change
 in_turn made =
     made.principals ++ (made.principal_roles ++ (made.catalogs ++ (made.catalog_roles ++ (made.namespaces
-    ++ (made.tables ++ (made.views ++ (made.members ++ (made.joins ++ (made.grants ++ made.sessions)))))))))
+    ++ (made.tables ++ (made.views ++ (made.members ++ (made.joins ++ (made.grants ++ (made.sessions ++ made.tokens))))))))))
 
--- the changes of the rows of each kind between two states; no session goes
+-- the changes of the rows of each kind between two states; no session goes, and no storage token
 abbrev pub row_changes : Rows → Rows → RowChanges
 row_changes s t = record {
   principals = table_changes principal.the_row.coded principal_id PutPrincipal DropPrincipal s.access.principals t.access.principals;
@@ -55,6 +57,7 @@ row_changes s t = record {
   joins = fact_changes join.the_row.coded join_cmp PutJoin DropJoin s.access.joins t.access.joins;
   grants = fact_changes grant.the_row.coded grant_cmp PutGrant DropGrant s.access.grants t.access.grants;
   sessions = map PutSession (new_rows session.the_row.coded s.tokens.sessions t.tokens.sessions);
+  tokens = map PutToken (new_rows token.the_row.coded s.tokens.tokens t.tokens.tokens);
 }
 
 -- the counters that differ

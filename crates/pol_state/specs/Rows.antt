@@ -41,6 +41,18 @@ root_row secret = record { id = 1; name = codes "root"; client_id = codes "root"
 abbrev pub service_admin_row : PrincipalRoleRow
 service_admin_row = record { id = 2; name = codes "service_admin" }
 
+-- the empty state, from which a list of changes makes a state
+unfoldable pub empty_state : Rows
+empty_state = record {
+  access = record { principals = []; principal_roles = []; catalog_roles = []; members = []; joins = []; grants = [] };
+  content = record { catalogs = []; namespaces = []; tables = []; views = [] };
+  tokens = record { sessions = []; tokens = [] };
+  time = 0;
+  next_id = 0;
+  next_serial = 0;
+  charged = 0;
+}
+
 -- the fresh state: these two rows, and root's membership
 unfoldable pub fresh_state : List ℕ → Rows
 fresh_state secret = record {
@@ -53,7 +65,7 @@ fresh_state secret = record {
     grants = [];
   };
   content = record { catalogs = []; namespaces = []; tables = []; views = [] };
-  tokens = record { sessions = [] };
+  tokens = record { sessions = []; tokens = [] };
   time = 0;
   next_id = 3;
   next_serial = 0;

@@ -2,7 +2,7 @@ ghost use Rattle.std.specs.Prelude.{◌≡◌, ◌≤◌, ◌+◌, [], ◌∷◌
 ghost use Rattle.pol_content.specs.Change.{puts};
 ghost use Rattle.pol_content.specs.declared.change.RowKind.TheVariants as kind;
 ghost use Rattle.pol_state.specs.Applied.{applied, changed, HasRoom, KeepsRoom, TakesRoom};
-ghost use Rattle.pol_state.specs.Rows.{fresh_state, root_row, service_admin_row};
+ghost use Rattle.pol_state.specs.Rows.{empty_state, fresh_state, root_row, service_admin_row};
 ghost use Rattle.pol_state.specs.Sound.{IsSound};
 
 use crate::texts::{digest, plain};
@@ -56,6 +56,22 @@ impl Model for State {
 }
 
 impl State {
+    /// The empty state: no rows, and each counter at 0. It takes no memory.
+    #[tactic(auto, unfolding(crate::specs::Rows::empty_state))]
+    pub fn empty(alloc: Global) -> State
+        ensures { result.rows ≡ empty_state }
+    {
+        State {
+            access: Access::new(alloc),
+            content: Content::new(alloc),
+            tokens: Tokens::new(alloc),
+            time: 0,
+            next_id: 0,
+            next_serial: 0,
+            charged: 0,
+        }
+    }
+
     /// The fresh state: principal `root` with this secret, principal role `service_admin`, and root's membership.
     pub fn fresh(alloc: Global, root_secret: &str) -> Result<State, OutOfMemory>
         ensures rows { IfOk result (λ state. state.rows ≡ fresh_state root_secret.now) }
@@ -86,7 +102,7 @@ impl State {
         &self.content
     }
 
-    /// Sessions.
+    /// Sessions and storage tokens.
     pub fn tokens(&self) -> &Tokens
         ensures { result.now.rows ≡ self.now.rows.tokens }
     {
@@ -140,7 +156,9 @@ impl State {
         self.content
             .reserve_views(count_put(changes, RowKind::View))?;
         self.tokens
-            .reserve_sessions(count_put(changes, RowKind::Session))
+            .reserve_sessions(count_put(changes, RowKind::Session))?;
+        self.tokens
+            .reserve_tokens(count_put(changes, RowKind::Token))
     }
 
     /// Makes the changes in their order, then takes the time and adds the charge. Takes no memory.
@@ -194,6 +212,7 @@ impl State {
                 self.access.drop_grant(&row);
             }
             Change::PutSession(row) => self.tokens.put_session(row),
+            Change::PutToken(row) => self.tokens.put_token(row),
         }
     }
 }

@@ -35,8 +35,9 @@ use Rattle.pol_state.specs.Rows.{Rows}
 use Rattle.pol_state.specs.Sound.{IsOrderly, IsSound}
 use Rattle.pol_rules.specs.Acting.{stamped}
 use Rattle.pol_rules.specs.Prologues.{namespace_row_at, table_row_at}
-use Rattle.pol_rules.specs.Rules.{given, name_taken, time_of}
+use Rattle.pol_rules.specs.Rules.{given, inside, name_taken, time_of}
 use Rattle.pol_rules.specs.TableRules.{bad_creation, format_key, location_asked, location_overlap}
+use Rattle.pol_rules.proofs.FitLemmas.{fit-dropped, fit-placed}
 use Rattle.pol_rules.proofs.FoundLemmas.{found-holds}
 use Rattle.pol_rules.proofs.RulesLemmas.{name-free}
 use Rattle.pol_rules.proofs.SoundLemmas.{next_id-some, orderly-done, tables-orderly, IsWithin}
@@ -141,24 +142,32 @@ module _ (s : Rows) (command : Command) where
           tables-orderly s command s.access (with_table s row).content (s.next_id + 1) sound within (omega arith) (access_more_ids s.next_id (s.next_id + 1) s.access (omega arith) sound.orderly.access)
           (subst (λ rows. IsSoundContent (s.next_id + 1) (record s.content { tables = rows })) (sym last) pushed)
           (put_table s.access s.content sound.orderly.ties row (λ old known. unknown-row old (ap (λ n. row_of table_id n s.content.tables) (sym id) ∙ known) unknown) (unknown-later s sound row.id (omega (arith, id))))
+          (fit-placed s sound row id)
         where
           unknown-row : (old : TableRow) → row_of table_id s.next_id s.content.tables ≡ Some old → knows table_id s.next_id s.content.tables ≡ false → catalog_of_namespace row.namespace s.content ≡ catalog_of_namespace old.namespace s.content
           unknown-row old known unknown = absurd (true≢false (sym (sym (is_some-row_of table_id s.next_id s.content.tables) ∙ ap is_some known) ∙ unknown))
 
-      pub orderly-create_table : (name : List ℕ) (levels : List (List ℕ)) (request : CreateTable) → EachPasses (create_table s command name levels request).rules → IsOrderly (stamped s command (create_table s command name levels request).after)
+      -- a new table that is put where its rules pass
+      pub orderly-placed : (name : List ℕ) (levels : List (List ℕ)) (request : CreateTable) (row : TableRow) → new_table s command name levels request ≡ Some row
+          → given (namespace_row_at s name levels) (λ (namespace : NamespaceRow). name_taken (part_named namespace.id request.name s.content) request.name) ≡ None → bad_creation request ≡ None
+          → inside s name (λ (catalog : CatalogRow). location_overlap s (location_asked levels request.location request.name catalog)) ≡ None → IsOrderly (stamped s command (with_table s row))
       unfolding namespace_row_at
-      orderly-create_table name levels request passes = orderly-done s command sound within (new_table s command name levels request) (with_table s) (λ row made.
+      orderly-placed name levels request row made free_passes creation overlap_passes =
           let parts = placed-parts s command name levels request row made in
           let location = location_asked levels request.location request.name parts.catalog in
           let at = ap (option_and_then (λ (catalog : CatalogRow). namespace_named catalog.id levels s.content)) parts.catalog_is ∙ parts.namespace_is in
-          let taken = sym (ap (λ one. given one (λ (namespace : NamespaceRow). name_taken (part_named namespace.id request.name s.content) request.name)) at) ∙ passes.1.1.1.1.0 in
+          let taken = sym (ap (λ one. given one (λ (namespace : NamespaceRow). name_taken (part_named namespace.id request.name s.content) request.name)) at) ∙ free_passes in
           let free = name-free (part_named parts.namespace.id request.name s.content) request.name taken in
-          let asked = creation-passes s request passes.1.1.1.1.1.0 in
-          let clear = location-clear s location (sym (ap (λ one. given one (λ (catalog : CatalogRow). location_overlap s (location_asked levels request.location request.name catalog))) parts.catalog_is) ∙ passes.1.1.1.1.1.1.1.1.0) in
-          subst (λ one. IsOrderly (stamped s command (with_table s one))) parts.row_is (orderly-with_table (table_placed s command request location parts.namespace) refl (namespace-there parts.catalog.id levels parts.namespace parts.namespace_is) free clear (placed-sound s command request location parts.namespace within.time asked)))
+          let asked = creation-passes s request creation in
+          let clear = location-clear s location (sym (ap (λ one. given one (λ (catalog : CatalogRow). location_overlap s (location_asked levels request.location request.name catalog))) parts.catalog_is) ∙ overlap_passes) in
+          subst (λ one. IsOrderly (stamped s command (with_table s one))) parts.row_is (orderly-with_table (table_placed s command request location parts.namespace) refl (namespace-there parts.catalog.id levels parts.namespace parts.namespace_is) free clear (placed-sound s command request location parts.namespace within.time asked))
+
+      pub orderly-create_table : (name : List ℕ) (levels : List (List ℕ)) (request : CreateTable) → EachPasses (create_table s command name levels request).rules → IsOrderly (stamped s command (create_table s command name levels request).after)
+      orderly-create_table name levels request passes =
+          orderly-done s command sound within (new_table s command name levels request) (with_table s) (λ row made. orderly-placed name levels request row made passes.1.1.1.1.0 passes.1.1.1.1.1.0 passes.1.1.1.1.1.1.1.1.0)
 
       -- a table that is dropped
       pub orderly-drop_table : (name : List ℕ) (identifier : Identifier) → EachPasses (drop_table s command name identifier).rules → IsOrderly (stamped s command (drop_table s command name identifier).after)
       orderly-drop_table name identifier passes = orderly-done s command sound within (table_row_at s name identifier) (without_table s) (λ row is.
           tables-orderly s command (without_table s row).access (without_table s row).content s.next_id sound within (omega arith) ((dropped_grants s.next_id s.access sound.orderly.access).1 (securable.Table row.id)) (dropped_table s.next_id row.id s.content sound.orderly.content)
-          (ties.dropped_table s.access s.content sound.orderly.ties row.id))
+          (ties.dropped_table s.access s.content sound.orderly.ties row.id) (fit-dropped s sound row.id))

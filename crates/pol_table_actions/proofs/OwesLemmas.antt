@@ -44,7 +44,7 @@ module _ (s : Rows) (command : Command) where
         leads-by s command (with_table s row) _ (table_changes s command sound row (placed-id s command name levels request row made)) refl));
     orderly = λ sound within passes. orderly-create_table s command sound within name levels request passes;
     fair = fair-on_namespace command _ name levels (fair-given (namespace_row_at s name levels) (λ namespace. fair-name_taken _ request.name) ⊳ fair-bad_creation request ⊳ fair-inside name (fair-bad_location levels request.location request.name) ⊳ fair-inside name (λ catalog. fair-location_outside (location_asked levels request.location request.name catalog) catalog) ⊳ fair-inside name (λ catalog. fair-location_overlap (location_asked levels request.location request.name catalog)) ⊳ fair-staged request.stage_create ⊳ fair-other_format request.properties ⊳ none-fair);
-    answer = refl;
+    answer = λ sound. refl;
   }
 
   pub owes-load_table : (name : List ℕ) (identifier : Identifier) (refs_only : Bool) → OwesAlike (λ t. load_table t command name identifier refs_only)
@@ -63,7 +63,7 @@ module _ (s : Rows) (command : Command) where
         (facts-dropped grant.the_row.coded grant_cmp DropGrant (λ grants. record after { access = record after.access { grants = grants } }) (λ grants fact. refl) (grant_names s.access.catalog_roles (referent.Securable (securable.Table row.id))) s.access.grants).is));
     orderly = λ sound within passes. orderly-drop_table s command sound within name identifier passes;
     fair = fair-at_table command _ name identifier none-fair;
-    answer = refl;
+    answer = λ sound. refl;
   }
 
   pub owes-report_metrics : (name : List ℕ) (identifier : Identifier) → OwesAlike (λ t. report_metrics t command name identifier)

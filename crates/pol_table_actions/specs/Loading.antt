@@ -1,5 +1,5 @@
 -- What is shown of a table, and loading one.
-use Rattle.std.specs.Prelude.{ℕ, Bool, true, false, List, [], filter, ◌==◌, option_map}
+use Rattle.std.specs.Prelude.{ℕ, Bool, true, false, List, [], filter, ◌==◌, Option, None, option_map}
 use Rattle.std.specs.List.{list_any}
 use Rattle.pol_access.specs.declared.privilege.Privilege.TheVariants.{TableReadProperties}
 use Rattle.pol_commands.specs.declared.command.Command.{Command}
@@ -11,6 +11,7 @@ use Rattle.pol_meta.specs.declared.metadata.TableMetadata.{TableMetadata}
 use Rattle.pol_meta.specs.declared.reference.NamedRef.{NamedRef}
 use Rattle.pol_names.specs.declared.identifier.Identifier.{Identifier}
 use Rattle.pol_table_rows.specs.declared.row.TableRow.{TableRow}
+use Rattle.pol_tokens.specs.declared.token.TokenRow.{TokenRow}
 use Rattle.pol_rules.specs.Acting.{Acting, reading}
 use Rattle.pol_rules.specs.Prologues.{at_table, table_row_at}
 use Rattle.pol_state.specs.Rows.{Rows}
@@ -33,9 +34,13 @@ abbrev pub metadata_shown : Bool → TableMetadata → TableMetadata
 metadata_shown false meta = meta
 metadata_shown true meta = with_named_snapshots meta
 
--- the answer that shows a table
+-- the answer that shows a table, with the storage token that was issued, if one was
+abbrev pub loaded_with : Bool → Option TokenRow → TableRow → Answer
+loaded_with refs_only token row = TableLoaded (metadata_location row) (metadata_shown refs_only row.metadata) token
+
+-- and that which has no storage token
 abbrev pub loaded : Bool → TableRow → Answer
-loaded refs_only row = TableLoaded (metadata_location row) (metadata_shown refs_only row.metadata)
+loaded refs_only row = loaded_with refs_only None row
 
 -- loading a table
 abbrev pub load_table : Rows → Command → List ℕ → Identifier → Bool → Acting

@@ -60,7 +60,7 @@ pub fn create_table(
 
 /// The metadata of a new table, which has no location yet: that is judged after what the table is made of.
 #[tactic(auto, unfolding(crate::specs::Creation::metadata_at, pol_rules::specs::TableRules::bad_creation))]
-fn described(asked: &Asked<'_>, request: &CreateTable) -> Result<TableMetadata, Undone>
+pub fn described(asked: &Asked<'_>, request: &CreateTable) -> Result<TableMetadata, Undone>
     ensures { Judges (bad_creation request.now) (λ metadata.
         metadata ≡ metadata_at asked.now.state.now.rows asked.now.command.now request.now []) result }
 {
@@ -105,7 +105,7 @@ fn properties_of(given: &Properties) -> Result<Properties, OutOfMemory>
 
 /// The row of a new table at its location, under the next id.
 #[tactic(auto, unfolding(crate::specs::Creation::metadata_at, pol_meta::specs::Creation::created))]
-fn table_placed(
+pub fn table_placed(
     asked: &Asked<'_>,
     namespace: &NamespaceRow,
     request: &CreateTable,

@@ -2,7 +2,7 @@ ghost use Rattle.std.specs.Prelude.{◌≡◌, filter, IfOk};
 ghost use Rattle.pol_commands.specs.declared.reply.Answer.TheVariants.{TableLoaded};
 ghost use Rattle.pol_rules.specs.Judged.{Acts};
 ghost use Rattle.pol_state.specs.Sound.{IsSound};
-ghost use Rattle.pol_table_actions.specs.Loading.{is_referenced, load_table, loaded, metadata_location, metadata_shown, with_named_snapshots};
+ghost use Rattle.pol_table_actions.specs.Loading.{is_referenced, load_table, loaded, loaded_with, metadata_location, metadata_shown, with_named_snapshots};
 
 use pol_access::Privilege;
 use pol_commands::Answer;
@@ -11,6 +11,7 @@ use pol_meta::{NamedRef, Snapshot, TableMetadata, metadata_file};
 use pol_names::{Identifier, Plain};
 use pol_rules::prologues::at_table;
 use pol_rules::rules::{Acted, Asked, Undone, unchanged};
+use pol_tokens::TokenRow;
 use pol_types::{Listed, OutOfMemory, Text};
 use std::alloc::Global;
 
@@ -30,15 +31,29 @@ pub fn load_table(
     Ok(unchanged(asked.alloc, answer))
 }
 
-/// The answer that shows a table. It shares the metadata where all of it is shown.
+/// The answer that shows a table, without a storage token.
 pub(crate) fn loaded(alloc: Global, row: &TableRow, refs_only: bool) -> Result<Answer, OutOfMemory>
     ensures { IfOk result (λ answer. answer ≡ loaded refs_only row.now) }
+{
+    loaded_with(alloc, row, refs_only, None)
+}
+
+/// The answer that shows a table, with the storage token that was issued, if one was. It shares the metadata where all
+/// of it is shown.
+pub fn loaded_with(
+    alloc: Global,
+    row: &TableRow,
+    refs_only: bool,
+    token: Option<TokenRow>,
+) -> Result<Answer, OutOfMemory>
+    ensures { IfOk result (λ answer. answer ≡ loaded_with refs_only token row.now) }
 {
     let metadata_location = metadata_location(alloc, row)?;
     let metadata = metadata_shown(alloc, &row.metadata, refs_only)?;
     Ok(Answer::TableLoaded {
         metadata_location,
         metadata,
+        token,
     })
 }
 

@@ -1,2 +1,4 @@
-mod SessionLemmas
+pub mod ChainLemmas
+pub mod HeldLemmas
 pub mod TextLemmas
+pub mod WalkLemmas

@@ -1,6 +1,8 @@
 ghost use Rattle.std.proofs.Common.{rules};
 ghost use Rattle.pol_types.specs.Exact.{exactness};
 
+use crate::text::token_text;
+use crate::{Held, TOKEN_LENGTH};
 use pol_names::Scope;
 use pol_tables::Keyed;
 use pol_types::Exact;
@@ -31,5 +33,27 @@ impl Keyed for SessionRow {
 
     fn key(&self) -> u64 {
         self.serial
+    }
+}
+
+impl Held for SessionRow {
+    ghost holder = { λ row. row.principal };
+
+    ghost expiry = { λ row. row.expires };
+
+    ghost word_a = { λ row. row.word_a };
+
+    ghost word_b = { λ row. row.word_b };
+
+    fn holder(&self) -> u64 {
+        self.principal
+    }
+
+    fn expiry(&self) -> u64 {
+        self.expires
+    }
+
+    fn text(&self) -> [u8; TOKEN_LENGTH] {
+        token_text(self.serial, self.word_a, self.word_b)
     }
 }

@@ -218,6 +218,7 @@ module _ (s : Rows) (command : Command) (sound : IsSound s) (within : IsWithin s
       tables-orderly s command s.access (with_view s row).content (s.next_id + 1) sound within (omega arith) (access_more_ids s.next_id (s.next_id + 1) s.access (omega arith) sound.orderly.access)
       (subst (λ rows. IsSoundContent (s.next_id + 1) (record s.content { views = rows })) (sym last) pushed)
       (ties.put_view s.access s.content sound.orderly.ties row (λ old known. unknown-row old (ap (λ n. row_of view_id n s.content.views) (sym id) ∙ known) unknown) (unknown-later s sound row.id (omega (arith, id))))
+      sound.orderly.tokens_fit
     where
       unknown-row : (old : ViewRow) → row_of view_id s.next_id s.content.views ≡ Some old → knows view_id s.next_id s.content.views ≡ false → catalog_of_namespace row.namespace s.content ≡ catalog_of_namespace old.namespace s.content
       unknown-row old known unknown = absurd (true≢false (sym (sym (is_some-row_of view_id s.next_id s.content.views) ∙ ap is_some known) ∙ unknown))
@@ -237,7 +238,7 @@ module _ (s : Rows) (command : Command) (sound : IsSound s) (within : IsWithin s
   pub orderly-drop_view : (name : List ℕ) (identifier : Identifier) → EachPasses (drop_view s command name identifier).rules → IsOrderly (stamped s command (drop_view s command name identifier).after)
   orderly-drop_view name identifier passes = orderly-done s command sound within (view_row_at s name identifier) (without_view s) (λ row is.
       tables-orderly s command (without_view s row).access (without_view s row).content s.next_id sound within (omega arith) ((dropped_grants s.next_id s.access sound.orderly.access).1 (securable.View row.id)) (content.dropped_view s.next_id s.content sound.orderly.content row.id)
-      (ties.dropped_view s.access s.content sound.orderly.ties row.id))
+      (ties.dropped_view s.access s.content sound.orderly.ties row.id) sound.orderly.tokens_fit)
 
   -- a view that is renamed
   pub orderly-rename_view : (name : List ℕ) (source destination : Identifier) → EachPasses (rename_view s command name source destination).rules → IsOrderly (stamped s command (rename_view s command name source destination).after)
@@ -255,7 +256,8 @@ module _ (s : Rows) (command : Command) (sound : IsSound s) (within : IsWithin s
       (tables-orderly s command s.access (with_altered s new).content s.next_id sound within (omega arith) sound.orderly.access
       (content.renamed_view s.next_id s.content sound.orderly.content new parts.old own free (namespace-there s sound parts.catalog.id destination.namespace parts.namespace parts.namespace_is) (record { metadata = itself.metadata; placed = itself.placed }))
       (ties.put_view s.access s.content sound.orderly.ties new (λ other known.
-      into ∙ sym (ap (λ (one : ViewRow). catalog_of_namespace one.namespace s.content) (some_is other parts.old (sym known ∙ own)) ∙ lies)) (own-apart parts.old own))))
+      into ∙ sym (ap (λ (one : ViewRow). catalog_of_namespace one.namespace s.content) (some_is other parts.old (sym known ∙ own)) ∙ lies)) (own-apart parts.old own))
+      sound.orderly.tokens_fit))
 
   -- a view that is committed to
   pub orderly-replace_view : (name : List ℕ) (commit : ViewCommit) → EachPasses (replace_view s command name commit).rules → IsOrderly (stamped s command (replace_view s command name commit).after)
@@ -269,4 +271,5 @@ module _ (s : Rows) (command : Command) (sound : IsSound s) (within : IsWithin s
       (tables-orderly s command s.access (with_altered s new).content s.next_id sound within (omega arith) sound.orderly.access
       (content.replaced_view s.next_id s.content sound.orderly.content new parts.old own refl refl itself)
       (ties.put_view s.access s.content sound.orderly.ties new (λ other known.
-      ap (λ (one : ViewRow). catalog_of_namespace one.namespace s.content) (some_is parts.old other (sym own ∙ known))) (own-apart parts.old own))))
+      ap (λ (one : ViewRow). catalog_of_namespace one.namespace s.content) (some_is parts.old other (sym own ∙ known))) (own-apart parts.old own))
+      sound.orderly.tokens_fit))

@@ -56,7 +56,7 @@ module _ (s : Rows) (command : Command) where
         leads-by s command (with_view s row) _ (view_changes s command sound row (placed-id s command name levels request row made)) refl));
     orderly = λ sound within passes. orderly-create_view s command sound within name levels request passes;
     fair = fair-on_namespace command _ name levels (fair-given (namespace_row_at s name levels) (λ namespace. fair-name_taken _ request.name) ⊳ fair-inside name (fair-bad_location levels request.location request.name) ⊳ fair-inside name (λ catalog. fair-location_outside (location_asked levels request.location request.name catalog) catalog) ⊳ none-fair);
-    answer = refl;
+    answer = λ sound. refl;
   }
 
   pub owes-load_view : (name : List ℕ) (identifier : Identifier) → OwesAlike (λ t. load_view t command name identifier)
@@ -75,7 +75,7 @@ module _ (s : Rows) (command : Command) where
         (facts-dropped grant.the_row.coded grant_cmp DropGrant (λ grants. record after { access = record after.access { grants = grants } }) (λ grants fact. refl) (grant_names s.access.catalog_roles (referent.Securable (securable.View row.id))) s.access.grants).is));
     orderly = λ sound within passes. orderly-drop_view s command sound within name identifier passes;
     fair = fair-at_view command _ name identifier none-fair;
-    answer = refl;
+    answer = λ sound. refl;
   }
 
   -- the view that is renamed has the id of one that is there
@@ -104,7 +104,7 @@ module _ (s : Rows) (command : Command) where
         ⊳ fair-inside name (fair-no_view source)
         ⊳ fair-given (namespace_row_at s name destination.namespace) (λ (namespace : NamespaceRow). fair-name_taken (part_named namespace.id destination.name s.content) destination.name)
         ⊳ none-fair;
-    answer = refl;
+    answer = λ sound. refl;
   }
 
   pub owes-replace_view : (name : List ℕ) (commit : ViewCommit) → OwesAlike (λ t. replace_view t command name commit)
@@ -120,5 +120,5 @@ module _ (s : Rows) (command : Command) where
         ⊳ fair-inside name (λ catalog. fair-given (made_at s command name commit) (λ (one : MadeView). fair-outside (moved_to one.before one.made) catalog))
         ⊳ fair-unserved commit.updates
         ⊳ none-fair);
-    answer = refl;
+    answer = λ sound. refl;
   }

@@ -11,7 +11,7 @@ returns c =
     let principal = c.in_ok-principal.field-0.now in
     let judged = rw (c.as_str.ensures, c.as_str-2.ensures) at c.in_ok-principal.ensures in
     let time_is = c.time_of-time.ensures in (
-      none-refused s command scopes c.args.client_id.now c.args.secret.now principal judged.0 judged.1 c.in_ok-scopes_there.ensures.0,
+      none-refused s command scopes c.args.client_id.now c.args.secret.now principal judged.0 judged.1 c.in_ok-scopes_there.ensures.0 c.in_ok-sessions_open.ensures.0,
       ap (λ serial. Some (SessionOpened serial command.words.a command.words.b)) c.next_serial-serial.ensures,
       c.from.ensures ∙ c.in_ok-vec.ensures.items
           ∙ changes-made s command scopes principal c.next_serial-serial.result c.in_ok-scope.scope c.time_of-time.result c.next_serial-serial.ensures c.in_ok-scope.ensures time_is

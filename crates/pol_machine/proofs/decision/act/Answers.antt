@@ -18,7 +18,7 @@ returns-in-CreatePrincipal c =
 
 pub returns-in-CreateTable : goal.returns-in-CreateTable
 returns-in-CreateTable c =
-    subst (λ (action : Action). Acts c.args.asked.now (λ s command. acting s command action) c.create_table.result) (sym c.in-CreateTable.is) c.create_table.ensures
+    subst (λ (action : Action). Acts c.args.asked.now (λ s command. acting s command action) c.creating.result) (sym c.in-CreateTable.is) c.creating.ensures
 
 pub returns-in-CommitTable : goal.returns-in-CommitTable
 returns-in-CommitTable c =

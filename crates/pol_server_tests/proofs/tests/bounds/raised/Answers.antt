@@ -23,7 +23,8 @@ raised-sound secret serial charged bound within = record {
     access = (fresh-sound secret).orderly.access;
     content = (fresh-sound secret).orderly.content;
     ties = (fresh-sound secret).orderly.ties;
-    tokens = record { sessions_rise = (fresh-sound secret).orderly.tokens.sessions_rise; sessions = tt };
+    tokens = record { sessions_rise = (fresh-sound secret).orderly.tokens.sessions_rise; sessions = tt; tokens_rise = (fresh-sound secret).orderly.tokens.tokens_rise; tokens = tt; serials_differ = tt };
+    tokens_fit = tt;
     time_bound = lit≤ tt;
     charged_bound = omega (arith, within);
   };
@@ -43,6 +44,7 @@ no-room serial room = record {
   joins = omega arith;
   grants = omega arith;
   sessions = omega arith;
+  tokens = omega arith;
 }
 
 pub apply-requires-clause-sound : goal.apply-requires-clause-sound

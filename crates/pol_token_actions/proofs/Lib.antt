@@ -1,0 +1,4 @@
+pub mod ChangesLemmas
+pub mod IssuedLemmas
+pub mod OwesLemmas
+pub mod WriteLemmas

@@ -1,0 +1,4 @@
+pub mod DataLemmas
+pub mod FairTokenLemmas
+pub mod HolderLemmas
+pub mod LiveTokenLemmas
