@@ -1,25 +1,21 @@
 """The catalogue's rules written a second time, as a plain program, so that the proved one can be compared with it.
 
 `Rules.answer` answers one request after another. Of what the program draws at random, and of what its clock says, it
-takes the program's word, which is told by the first answer that shows it. No session expires here, and of the bounds on
-quantities only those on allowed locations, on what a table or a view has, and on tables in a transaction are known, but
-for a metadata's weight."""
+takes the program's word, which is told by the first answer that shows it. So nothing expires here; `foretold.py` has
+rules over a known clock. Of the bounds on quantities those on sessions and storage tokens, on allowed locations, on
+what a table or a view has, and on tables in a transaction are known, but for a metadata's weight."""
 
-import hashlib
-import json
 import re
-from dataclasses import dataclass, field
 
 import views
-from privileges import GRANTABLE, IMPLIED, PRIVILEGES
+from management import FIRST_GRANTS, Management, digest_of
+from privileges import IMPLIED
 from reading import (
     Refused,
-    body_of,
     compact,
     covers,
     dotted,
     form_pairs,
-    is_name,
     is_namespace,
     is_plain,
     is_utf8,
@@ -27,7 +23,6 @@ from reading import (
     location_below,
     location_of,
     location_text,
-    meeting,
     name_segment,
     namespace_segment,
     object_at,
@@ -44,12 +39,27 @@ from reading import (
     unreadable,
 )
 from routes import ENDPOINTS, route_of
+from rows import (
+    SESSION_LIFE,
+    TOKEN_LIFE,
+    Catalog,
+    Expiry,
+    Moment,
+    Namespace,
+    Principal,
+    Session,
+    StorageToken,
+    Table,
+    View,
+    part_there,
+    plain,
+    refuse_missing,
+)
 from tables import NotMade, created, request_of
-from updates import LEFT_OUT, NotApplied, Unmet, identifier, judge, metadata_file, read_commit, read_transaction, updated
+from updates import LEFT_OUT, NotApplied, Unmet, identifier, judge, read_commit, read_transaction, updated
 
-plain = meeting(is_plain)
 BASE = b"default-base-location"
-FIRST_GRANTS = ("CATALOG_MANAGE_ACCESS", "CATALOG_MANAGE_CONTENT")
+MOST_LIVE = 10_000
 SCOPE = b"PRINCIPAL_ROLE:"
 # What a table, or a view, has at most of each of its parts, by the keys of these and their names in refusals.
 PARTS = [(key, key.replace("-", " "), 1000) for key in ("schemas", "partition-specs", "sort-orders", "refs")]
@@ -60,125 +70,6 @@ TOKEN = {
     "issued_token_type": "urn:ietf:params:oauth:token-type:access_token",
     "token_type": "bearer",
 }
-
-
-@dataclass
-class Principal:
-    id: int
-    client_id: bytes
-    digest: bytes
-
-
-@dataclass
-class Catalog:
-    id: int
-    base: list
-    allowed: list
-    properties: dict
-    roles: dict
-    namespaces: dict = field(default_factory=dict)
-
-
-@dataclass
-class Namespace:
-    id: int
-    properties: dict
-    tables: dict = field(default_factory=dict)
-    views: dict = field(default_factory=dict)
-
-    def parts(self, kind):
-        """The tables or the views in it."""
-        return {"table": self.tables, "view": self.views}[kind]
-
-
-@dataclass
-class Table:
-    id: int
-    location: list
-    metadata: dict
-    version: int = 0
-
-    def committed(self):
-        return {"metadata": self.metadata, "metadata-location": metadata_file(self.metadata, self.version)}
-
-    def loaded(self):
-        return {"config": {}, **self.committed(), "storage-credentials": []}
-
-    def credentials(self, config):
-        """The members of an answer that a storage token stands in."""
-        return {"storage-credentials": [{"config": config, "prefix": location_text(self.location)}]}
-
-    def is_moved(self, former):
-        return self.metadata["location"] != former.metadata["location"]
-
-
-@dataclass
-class View:
-    id: int
-    metadata: dict
-    version: int = 0
-
-    def loaded(self):
-        place = metadata_file(self.metadata, self.version, "view-uuid")
-        return {"metadata": self.metadata, "metadata-location": place}
-
-
-class Moment:
-    """A moment of the program's clock."""
-
-    told = None
-
-    def learn(self, answered):
-        if self.told is None:
-            self.told = answered if type(answered) is int else "no moment was told"
-        return self.told
-
-
-@dataclass
-class Request:
-    """A request, with the token of its bearer, and the answer's body, from which what was drawn is read."""
-
-    method: str
-    target: bytes
-    bearer: str
-    content: bytes
-    answered: str = ""
-    fields: tuple = ()
-
-    @property
-    def query(self):
-        return self.target.partition(b"?")[2]
-
-    def shown(self, value):
-        """A value as JSON, in which moments that weren't told yet are those of the answer."""
-        try:
-            answered = json.loads(self.answered)
-        except ValueError:
-            answered = None
-        return compact(with_moments(value, answered))
-
-    @property
-    def is_delegated(self):
-        """Whether a storage token is asked for."""
-        lists = [value for name, value in self.fields if name.lower() == "x-iceberg-access-delegation"]
-        return any(word.strip().lower() == "vended-credentials" for value in lists for word in value.split(","))
-
-    def body(self):
-        return body_of(self.content)
-
-
-def digest_of(secret):
-    return hashlib.sha256(secret).digest()
-
-
-def named(key):
-    """The reader of a body that holds one name, in an object under this key."""
-    return lambda body: required(body, key, lambda value, path: required(object_at(value, path), "name", plain, path))
-
-
-principal_name = named("principal")
-principal_role_name = named("principalRole")
-catalog_role_name = named("catalogRole")
 
 
 def new_catalog(value, path):
@@ -195,17 +86,7 @@ def new_catalog(value, path):
     return name, kind, base, properties, allowed
 
 
-def new_grant(value, path):
-    """The type and privilege of a grant, and the namespace and the name that it is on, where there are such."""
-    value = object_at(value, path)
-    kind = required(value, "type", meeting(lambda word: word.decode() in GRANTABLE), path).decode()
-    privilege = required(value, "privilege", meeting(lambda word: word.decode() in GRANTABLE[kind]), path).decode()
-    namespace = required(value, "namespace", levels, path) if kind != "catalog" else None
-    key = {"table": "tableName", "view": "viewName"}.get(kind)
-    return kind, privilege, namespace, required(value, key, meeting(is_name), path) if key else None
-
-
-class Rules:
+class Rules(Management):
     """The rows of a catalogue, and what requests are answered over them."""
 
     def __init__(self, root_secret):
@@ -218,15 +99,38 @@ class Rules:
         self.joins = []
         self.grants = []
         self.sessions = {}
+        self.storage_tokens = {}
 
     def answer(self, request):
         """The status of the answer to a request, and its body, if it has one."""
         try:
-            action, segments = route_of(request.method, request.target.partition(b"?")[0])
-            status, body = getattr(self, action)(request, *segments)
+            request.action, segments = route_of(request.method, request.target.partition(b"?")[0])
+            status, body = getattr(self, request.action)(request, *segments)
         except Refused as refused:
             status, body = refused.status, refused.body
         return status, None if request.method == "HEAD" else body
+
+    # What the program's clock and its draws say
+
+    def begin(self, request):
+        """The request was read: its moment is that of the clock, which isn't known."""
+        request.moment = Moment()
+
+    def moment_of(self, request):
+        """The catalogue's time when the rules of a request are judged."""
+        if request.moment is None:
+            self.begin(request)
+        return request.moment
+
+    def drawn(self, request, key, form):
+        """What the program drew, as its answer tells it under a key. An answer that tells none isn't the due one."""
+        found = re.search(f'"{re.escape(key)}":"({form})"', request.answered)
+        return found.group(1) if found else "nothing was drawn"
+
+    def new_token(self, request, key):
+        """The text of a new session or storage token."""
+        self.next_serial += 1
+        return self.drawn(request, key, "%016x[0-9a-f]{32}" % (self.next_serial - 1))
 
     # Sessions and needs
 
@@ -243,6 +147,7 @@ class Rules:
         return self.session_of_client(request, form[b"client_id"], digest_of(form[b"client_secret"]), words)
 
     def session_of_client(self, request, client_id, digest, words):
+        now = self.moment_of(request)
         clients = [row for row in self.principals.values() if (row.client_id, row.digest) == (client_id, digest)]
         if not clients:
             return 401, compact({"error": "invalid_client"})
@@ -251,17 +156,26 @@ class Rules:
         is_scope = all(word.startswith(SCOPE) for word in words)
         if not is_scope or any((clients[0].id, role) not in self.members for role in roles):
             return 400, compact({"error": "invalid_scope"})
-        token = drawn(request, r'"access_token":"(%016x[0-9a-f]{32})"' % self.next_serial)
-        self.next_serial += 1
-        self.sessions[token] = (clients[0].id, None if not words or everything in words else roles)
+        opened = [row.opened for row in self.sessions.values() if row.principal == clients[0].id]
+        refuse_too_many(opened, now, SESSION_LIFE)
+        token = self.new_token(request, "access_token")
+        self.sessions[token] = Session(clients[0].id, None if not words or everything in words else roles, now)
         return 200, compact({"access_token": token, **TOKEN})
+
+    def session(self, request):
+        """The caller's session, whose principal is there."""
+        session, now = self.sessions.get(request.bearer), self.moment_of(request)
+        if session is None or now.is_past(session.opened, SESSION_LIFE):
+            refuse("Unauthenticated")
+        if session.principal not in [row.id for row in self.principals.values()]:
+            refuse("Unauthenticated")
+        return session
 
     def active_roles(self, request):
         """The roles that count in the caller's session."""
-        principal, scope = self.sessions.get(request.bearer, (None, None))
-        if principal not in [row.id for row in self.principals.values()]:
-            refuse("Unauthenticated")
-        return {role for member, role in self.members if member == principal and (scope is None or role in scope)}
+        session = self.session(request)
+        roles = {role for member, role in self.members if member == session.principal}
+        return roles if session.scope is None else roles & set(session.scope)
 
     def in_realm(self, request):
         if self.principal_roles[b"service_admin"] not in self.active_roles(request):
@@ -284,13 +198,17 @@ class Rules:
         above = [path[:depth] for depth in range(1, len(path) + 1)]
         chain = [("catalog", catalog.id)] + [("namespace", catalog.namespaces[part].id) for part in above]
         chain += [(kind, found.id)] if found else []
-        joined = {catalog_role for role, catalog_role in self.joins if role in roles}
-        held = {grant[1] for grant in self.grants if grant[0] in joined and grant[2] in chain}
-        if not any(privilege in IMPLIED[word] for word in held):
+        if not self.may(roles, privilege, chain):
             where = b"namespace %b/%b" % (name, dotted(path)) if path else b"catalogue %b" % name
             where = b"%b %b/%b" % (kind.encode(), name, dotted([*path, part])) if found else where
             refuse("Forbidden", b"%b on %b" % (privilege.encode(), where))
         return catalog
+
+    def may(self, roles, privilege, chain):
+        """Whether one of these roles has a privilege on what a chain ends with: it, and all that contains it."""
+        joined = {catalog_role for role, catalog_role in self.joins if role in roles}
+        held = {grant[1] for grant in self.grants if grant[0] in joined and grant[2] in chain}
+        return any(privilege in IMPLIED[word] for word in held)
 
     def new_id(self):
         self.next_id += 1
@@ -434,14 +352,17 @@ class Rules:
     def create_table(self, request, segment, second):
         name, path = plain_segment(segment), namespace_segment(second)
         asked = request_of(request.content)
+        self.in_catalog(request, name, "TABLE_CREATE", path)
         if request.is_delegated:
-            self.in_catalog(request, name, "TABLE_CREATE", path)
-        row, namespace = self.in_namespace(request, name, path, "TABLE_READ_DATA" if request.is_delegated else "TABLE_CREATE")
+            self.in_catalog(request, name, "TABLE_READ_DATA", path)
+        row, namespace = self.in_namespace(request, name, path, "TABLE_CREATE")
         refuse_taken(namespace, asked["name"])
         version = asked["properties"].pop(b"format-version", b"2")
-        metadata = made(asked, request)
+        metadata = self.made(asked, request)
         location = location_asked(row, path, asked)
         refuse_overlap(location, self.tables())
+        if request.is_delegated:
+            self.refuse_more_tokens(request)
         if asked["staged"]:
             refuse("Unsupported", b"stage-create")
         if version != b"2":
@@ -449,7 +370,14 @@ class Rules:
         refuse_many(asked["properties"])
         table = Table(self.new_id(), location, metadata | {"location": location_text(location)})
         namespace.tables[asked["name"]] = table
-        return 200, request.shown(self.shown_table(request, table))
+        return 200, request.shown(self.shown_table(request, table, row, path))
+
+    def made(self, asked, request):
+        """The metadata of a new table, with the uuid that was drawn."""
+        try:
+            return created(asked, self.drawn(request, "table-uuid", UUID), self.moment_of(request))
+        except NotMade as why:
+            refuse_update(0, 0, why)
 
     def tables(self):
         """All tables, of whatever catalogue."""
@@ -467,10 +395,13 @@ class Rules:
         shown = query_value(request.query, b"snapshots")
         if shown not in (None, b"all", b"refs"):
             unreadable("snapshots")
+        self.in_catalog(request, place[0], "TABLE_READ_PROPERTIES", *place[1:])
         if request.is_delegated:
-            self.in_catalog(request, place[0], "TABLE_READ_PROPERTIES", *place[1:])
-        _, table = self.at_part(request, *place, "TABLE_READ_DATA" if request.is_delegated else "TABLE_READ_PROPERTIES")
-        loaded = self.shown_table(request, table)
+            self.in_catalog(request, place[0], "TABLE_READ_DATA", *place[1:])
+        _, table = self.at_part(request, *place, "TABLE_READ_PROPERTIES")
+        if request.is_delegated:
+            self.refuse_more_tokens(request)
+        loaded = self.shown_table(request, table, self.catalogs[place[0]], place[1])
         if shown == b"refs":
             loaded["metadata"] = with_named_snapshots(loaded["metadata"])
         return 200, request.shown(loaded)
@@ -478,21 +409,31 @@ class Rules:
     def load_credentials(self, request, segment, second, third):
         place = plain_segment(segment), namespace_segment(second), name_segment(third)
         _, table = self.at_part(request, *place, "TABLE_READ_DATA")
-        return 200, request.shown(table.credentials(self.vended(request)))
+        self.refuse_more_tokens(request)
+        return 200, request.shown(table.credentials(self.issued(request, table, self.catalogs[place[0]], place[1])))
 
-    def shown_table(self, request, table):
-        """What is shown of a table, with a storage token where one is asked for."""
+    def shown_table(self, request, table, row, path):
+        """What is shown of a table at a path of a catalogue, with a storage token where one is asked for."""
         if not request.is_delegated:
             return table.loaded()
-        config = self.vended(request)
+        config = self.issued(request, table, row, path)
         return table.loaded() | table.credentials(config) | {"config": config}
 
-    def vended(self, request):
-        """What a client is told of a storage token, with the words and the expiry that the answer tells."""
-        token = drawn(request, r'"lake\.token":"(%016x[0-9a-f]{32})"' % self.next_serial)
-        expires = drawn(request, r'"lake\.expires-at-ms":"([0-9]+)"')
-        self.next_serial += 1
-        return {"lake.expires-at-ms": expires, "lake.token": token}
+    def refuse_more_tokens(self, request):
+        """Refuses one more storage token of the caller's principal, where it has too many."""
+        principal = self.session(request).principal
+        issued = [row.issued for row in self.storage_tokens.values() if row.principal == principal]
+        refuse_too_many(issued, self.moment_of(request), TOKEN_LIFE)
+
+    def issued(self, request, table, row, path):
+        """What a client is told of a new storage token of a table at a path of a catalogue."""
+        above = [row.namespaces[path[:depth]].id for depth in range(1, len(path) + 1)]
+        chain = [("catalog", row.id), *(("namespace", id) for id in above), ("table", table.id)]
+        is_writing = self.may(self.active_roles(request), "TABLE_WRITE_DATA", chain)
+        text, now = self.new_token(request, "lake.token"), self.moment_of(request)
+        principal = self.session(request).principal
+        self.storage_tokens[text] = StorageToken(principal, table.id, table.moves, table.location, is_writing, now)
+        return {"lake.expires-at-ms": Expiry(now), "lake.token": text}
 
     def head_table(self, request, segment, second, third):
         place = plain_segment(segment), namespace_segment(second), name_segment(third)
@@ -535,7 +476,7 @@ class Rules:
             refuse_missing(row, path)
         former = [part_there(row, path, part, "table") for path, part in places]
         refuse_twice(places)
-        after = committed(former, changes, Moment())
+        after = committed(former, changes, self.moment_of(request))
         moved = [table for table, before in zip(after, former) if table.is_moved(before)]
         for table in moved:
             refuse_outside(row, table.location)
@@ -581,8 +522,8 @@ class Rules:
         refuse_taken(namespace, asked["name"])
         location = location_asked(row, path, asked)
         refuse_many(asked["properties"])
-        uuid = drawn(request, f'"view-uuid":"({UUID})"')
-        metadata = views.created(asked, uuid, Moment()) | {"location": location_text(location)}
+        uuid = self.drawn(request, "view-uuid", UUID)
+        metadata = views.created(asked, uuid, self.moment_of(request)) | {"location": location_text(location)}
         namespace.views[asked["name"]] = View(self.new_id(), metadata)
         return 200, request.shown(namespace.views[asked["name"]].loaded())
 
@@ -600,7 +541,7 @@ class Rules:
         asked = views.read_commit(request.content)
         namespace, view = self.at_part(request, name, path, part, "VIEW_WRITE_PROPERTIES")
         refuse_unmet(view, asked["requirements"], 0)
-        metadata = replaced(view, asked["updates"], Moment())
+        metadata = replaced(view, asked["updates"], self.moment_of(request))
         if metadata["location"] != view.metadata["location"]:
             refuse_outside(self.catalogs[name], location_of(metadata["location"]))
         refuse_left_out([asked])
@@ -621,259 +562,38 @@ class Rules:
     # Objects
 
     def access(self, request, path):
-        """What is asked for of an object isn't done yet, but its path is read."""
+        """What an object is asked for isn't done yet, but whether it may be asked for is judged."""
         segments = [segment_text(segment) for segment in path.split(b"/")]
         try:
-            location_below(segments)
+            location = location_below(segments)
         except Refused:
             unreadable("path")
+        token = self.storage_token(request)
+        if not covers(token.location, location):
+            refuse("NotCovered")
+        if request.method in ("PUT", "DELETE") and not token.is_writing:
+            refuse("NotWritable")
         refuse("Not built")
 
-    # Principals and principal roles
-
-    def principal(self, name):
-        if name not in self.principals:
-            refuse("NoSuchRole", name)
-        return self.principals[name]
-
-    def principal_role(self, name):
-        if name not in self.principal_roles:
-            refuse("NoSuchRole", name)
-        return self.principal_roles[name]
-
-    def shown_principal(self, name):
-        return {"clientId": self.principals[name].client_id, "name": name}
-
-    def credentials(self, status, name, secret):
-        shown = {"clientId": self.principals[name].client_id, "clientSecret": secret}
-        return status, compact({"credentials": shown, "principal": self.shown_principal(name)})
-
-    def list_principals(self, request):
-        self.in_realm(request)
-        return 200, compact({"principals": [self.shown_principal(name) for name in sorted(self.principals)]})
-
-    def create_principal(self, request):
-        name = principal_name(request.body())
-        self.in_realm(request)
-        if name in self.principals:
-            refuse("NameTaken", name)
-        client_id = drawn(request, r'"clientId":"([0-9a-f]{16})"').encode()
-        secret = drawn(request, r'"clientSecret":"([0-9a-f]{32})"').encode()
-        self.principals[name] = Principal(self.new_id(), client_id, digest_of(secret))
-        return self.credentials(201, name, secret)
-
-    def get_principal(self, request, segment):
-        name = plain_segment(segment)
-        self.in_realm(request)
-        self.principal(name)
-        return 200, compact(self.shown_principal(name))
-
-    def drop_principal(self, request, segment):
-        name = plain_segment(segment)
-        self.in_realm(request)
-        row = self.principal(name)
-        if name == b"root":
-            refuse("Reserved", name)
-        del self.principals[name]
-        self.members = [member for member in self.members if member[0] != row.id]
-        return 204, None
-
-    def rotate(self, request, segment):
-        name = plain_segment(segment)
-        self.in_realm(request)
-        row = self.principal(name)
-        secret = drawn(request, r'"clientSecret":"([0-9a-f]{32})"').encode()
-        row.digest = digest_of(secret)
-        return self.credentials(200, name, secret)
-
-    def list_members(self, request, segment):
-        name = plain_segment(segment)
-        self.in_realm(request)
-        row = self.principal(name)
-        return 200, roles_listed(self.principal_roles, [role for member, role in self.members if member == row.id])
-
-    def add_member(self, request, segment):
-        name = plain_segment(segment)
-        role_name = principal_role_name(request.body())
-        self.in_realm(request)
-        add(self.members, (self.principal(name).id, self.principal_role(role_name)))
-        return 201, ""
-
-    def end_member(self, request, segment, second):
-        name, role_name = plain_segment(segment), plain_segment(second)
-        self.in_realm(request)
-        member = (self.principal(name).id, self.principal_role(role_name))
-        if member not in self.members:
-            refuse("NoSuchRole", role_name)
-        if (name, role_name) == (b"root", b"service_admin"):
-            refuse("Reserved", name)
-        self.members.remove(member)
-        return 204, None
-
-    def list_principal_roles(self, request):
-        self.in_realm(request)
-        return 200, roles_listed(self.principal_roles, self.principal_roles.values())
-
-    def create_principal_role(self, request):
-        name = principal_role_name(request.body())
-        self.in_realm(request)
-        if name in self.principal_roles:
-            refuse("NameTaken", name)
-        self.principal_roles[name] = self.new_id()
-        return 201, ""
-
-    def get_principal_role(self, request, segment):
-        name = plain_segment(segment)
-        self.in_realm(request)
-        self.principal_role(name)
-        return 200, compact({"name": name})
-
-    def drop_principal_role(self, request, segment):
-        name = plain_segment(segment)
-        self.in_realm(request)
-        role = self.principal_role(name)
-        if name == b"service_admin":
-            refuse("Reserved", name)
-        del self.principal_roles[name]
-        self.members = [member for member in self.members if member[1] != role]
-        self.joins = [join for join in self.joins if join[0] != role]
-        return 204, None
-
-    # Roles of catalogues, joins and grants
-
-    def managed(self, request, name):
-        """The catalogue of a name whose access the caller manages."""
-        return self.in_catalog(request, name, "CATALOG_MANAGE_ACCESS")
-
-    def forget_catalog_role(self, role):
-        self.joins = [join for join in self.joins if join[1] != role]
-        self.grants = [grant for grant in self.grants if grant[0] != role]
-
-    def list_joins(self, request, segment, second):
-        role_name, name = plain_segment(segment), plain_segment(second)
-        row = self.managed(request, name)
-        role = self.principal_role(role_name)
-        return 200, roles_listed(row.roles, [joined for other, joined in self.joins if other == role])
-
-    def add_join(self, request, segment, second):
-        role_name, name = plain_segment(segment), plain_segment(second)
-        joined_name = catalog_role_name(request.body())
-        row = self.managed(request, name)
-        add(self.joins, (self.principal_role(role_name), catalog_role(row, joined_name)))
-        return 201, ""
-
-    def end_join(self, request, segment, second, third):
-        role_name, name, joined_name = plain_segment(segment), plain_segment(second), plain_segment(third)
-        row = self.managed(request, name)
-        join = (self.principal_role(role_name), catalog_role(row, joined_name))
-        if join not in self.joins:
-            refuse("NoSuchRole", joined_name)
-        if (role_name, joined_name) == (b"service_admin", b"catalog_admin"):
-            refuse("Reserved", joined_name)
-        self.joins.remove(join)
-        return 204, None
-
-    def list_catalog_roles(self, request, segment):
-        row = self.managed(request, plain_segment(segment))
-        return 200, roles_listed(row.roles, row.roles.values())
-
-    def create_catalog_role(self, request, segment):
-        name = plain_segment(segment)
-        role_name = catalog_role_name(request.body())
-        row = self.managed(request, name)
-        if role_name in row.roles:
-            refuse("NameTaken", role_name)
-        row.roles[role_name] = self.new_id()
-        return 201, ""
-
-    def get_catalog_role(self, request, segment, second):
-        name, role_name = plain_segment(segment), plain_segment(second)
-        catalog_role(self.managed(request, name), role_name)
-        return 200, compact({"name": role_name})
-
-    def drop_catalog_role(self, request, segment, second):
-        name, role_name = plain_segment(segment), plain_segment(second)
-        row = self.managed(request, name)
-        role = catalog_role(row, role_name)
-        if role_name == b"catalog_admin":
-            refuse("Reserved", role_name)
-        del row.roles[role_name]
-        self.forget_catalog_role(role)
-        return 204, None
-
-    def list_grants(self, request, segment, second):
-        name, role_name = plain_segment(segment), plain_segment(second)
-        row = self.managed(request, name)
-        role = catalog_role(row, role_name)
-        paths = {namespace.id: path for path, namespace in row.namespaces.items()}
-        parts = {
-            found.id: {"namespace": path, f"{kind}Name": part}
-            for path, namespace in row.namespaces.items()
-            for kind in ("table", "view")
-            for part, found in namespace.parts(kind).items()
-        }
-        listed = []
-        for _, privilege, (kind, id) in sorted(filter(lambda grant: grant[0] == role, self.grants), key=place_of_grant):
-            within = {"namespace": paths[id]} if kind == "namespace" else parts.get(id, {})
-            listed.append({**within, "privilege": privilege, "type": kind})
-        return 200, compact({"grants": listed})
-
-    def grant(self, request, name, role_name):
-        """The catalogue of a name, and the grant that a body names, of its role, on what is there."""
-        kind, privilege, path, part = required(request.body(), "grant", new_grant)
-        row = self.managed(request, name)
-        refuse_missing(row, path or ())
-        on = ("namespace", row.namespaces[path].id) if path else ("catalog", row.id)
-        if part is not None:
-            on = (kind, part_there(row, path, part, kind).id)
-        return row, (catalog_role(row, role_name), privilege, on)
-
-    def add_grant(self, request, segment, second):
-        _, grant = self.grant(request, plain_segment(segment), plain_segment(second))
-        add(self.grants, grant)
-        return 201, ""
-
-    def revoke(self, request, segment, second):
-        name, role_name = plain_segment(segment), plain_segment(second)
-        row, grant = self.grant(request, name, role_name)
-        if grant not in self.grants:
-            refuse("NoSuchRole", grant[1].encode())
-        if role_name == b"catalog_admin" and grant[1] in FIRST_GRANTS and grant[2] == ("catalog", row.id):
-            refuse("Reserved", role_name)
-        self.grants.remove(grant)
-        return 201, ""
-
-
-def drawn(request, pattern):
-    """What the program drew, as its answer tells it. An answer that tells none is another one than is due."""
-    found = re.search(pattern, request.answered)
-    return found.group(1) if found else "nothing was drawn"
-
-
-def with_moments(value, answered):
-    """A value in which moments that weren't told yet are those at their places in an answer."""
-    if isinstance(value, Moment):
-        return value.learn(answered)
-    if isinstance(value, dict):
-        found = answered if isinstance(answered, dict) else {}
-        return {key: with_moments(part, found.get(key)) for key, part in value.items()}
-    if isinstance(value, list):
-        found = answered if isinstance(answered, list) else []
-        return [with_moments(*pair) for pair in zip(value, [*found, *[None] * len(value)])]
-    return value
+    def storage_token(self, request):
+        """The caller's storage token, whose table is there and didn't move since."""
+        token, now = self.storage_tokens.get(request.bearer), self.moment_of(request)
+        if token is None or now.is_past(token.issued, TOKEN_LIFE):
+            refuse("TokenUnknown")
+        if (token.table, token.moves) not in [(table.id, table.moves) for table in self.tables()]:
+            refuse("TokenUnknown")
+        return token
 
 
 def refuse_update(table, update, why):
     raise Refused("UpdateRefused", f"Update {update} of table {table} refused: {why}")
 
 
-def made(asked, request):
-    """The metadata of a new table, with the uuid that its answer tells."""
-    uuid = drawn(request, f'"table-uuid":"({UUID})"')
-    try:
-        return created(asked, uuid, Moment())
-    except NotMade as why:
-        refuse_update(0, 0, why)
+def refuse_too_many(moments, now, life):
+    """Refuses one more beside what was opened or issued at these moments, of which those count that didn't expire."""
+    live = 0 if len(moments) < MOST_LIVE else sum(not now.is_past(moment, life) for moment in moments)
+    if live >= MOST_LIVE:
+        refuse("TooManyTokens", b"%d" % live)
 
 
 def with_named_snapshots(metadata):
@@ -894,10 +614,11 @@ def committed(former, changes, moment):
             metadata = updated(table.metadata, updates, table.version, moment)
         except NotApplied as refused:
             refuse_update(place, refused.place, refused.why)
-        after.append(Table(table.id, table.location, metadata, table.version + bool(updates)))
+        after.append(Table(table.id, table.location, metadata, table.version + bool(updates), table.moves))
     for place, (table, before) in enumerate(zip(after, former)):
         if table.is_moved(before):
             table.location = location_of(table.metadata["location"], place)
+            table.moves += 1
     return after
 
 
@@ -915,31 +636,6 @@ def replaced(view, updates, moment):
         return views.updated(view.metadata, updates, moment)
     except NotApplied as refused:
         refuse_update(0, refused.place, refused.why)
-
-
-def add(facts, fact):
-    if fact not in facts:
-        facts.append(fact)
-
-
-def catalog_role(row, name):
-    if name not in row.roles:
-        refuse("NoSuchRole", name)
-    return row.roles[name]
-
-
-def refuse_missing(row, path):
-    """Refuses a path that isn't there by its first part that isn't."""
-    for depth in range(1, len(path) + 1):
-        if path[:depth] not in row.namespaces:
-            refuse("NoNamespace", dotted(path[:depth]))
-
-
-def part_there(row, path, part, kind):
-    """The table or the view of a name in a namespace of a catalogue that is there."""
-    if part not in row.namespaces[path].parts(kind):
-        refuse({"table": "NoTable", "view": "NoView"}[kind], dotted([*path, part]))
-    return row.namespaces[path].parts(kind)[part]
 
 
 def refuse_taken(namespace, part):
@@ -990,14 +686,3 @@ def refuse_large(metadata):
 def refuse_many(properties):
     if len(properties) > 1000:
         refuse("Limit", b"properties 1000")
-
-
-def place_of_grant(grant):
-    """Grants are listed by privilege, then by what they are on: the catalogue first, then namespaces and then tables or
-    views, each by their ids."""
-    _, privilege, on = grant
-    return PRIVILEGES.index(privilege), on
-
-
-def roles_listed(names, ids):
-    return compact({"roles": [{"name": name} for name in sorted(names) if names[name] in ids]})
