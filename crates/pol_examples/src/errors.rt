@@ -42,16 +42,19 @@ fn push_quoted(alloc: Global, letter: char, quoted: &mut String) -> Result<(), A
     }
 }
 
-/// The token that a body gives (RFC 6749, section 5.1).
+/// The token that a body gives: that of a session (RFC 6749, section 5.1), or a storage token.
 pub(crate) fn given_token(alloc: Global, body: &[u8]) -> Result<Text, Unread> {
     let Ok(text) = str::from_utf8(body) else {
         return Err(Unread::NoToken);
     };
-    let Some((_, rest)) = text.split_once("\"access_token\":\"") else {
-        return Err(Unread::NoToken);
-    };
-    let Some((token, _)) = rest.split_once('"') else {
-        return Err(Unread::NoToken);
-    };
+    let token = behind_key(text, "\"access_token\":\"").or(behind_key(text, "\"lake.token\":\""));
+    let token = token.ok_or(Unread::NoToken)?;
     Ok(Text::from(String::from_str(alloc, token)?))
+}
+
+/// What stands between a key of a text and the next quote.
+fn behind_key<'a>(text: &'a str, key: &str) -> Option<&'a str> {
+    let (_, rest) = text.split_once(key)?;
+    let (value, _) = rest.split_once('"')?;
+    Some(value)
 }

@@ -1,5 +1,5 @@
 //! Numbers in lines.
-use pol_values::Unread;
+use pol_values::{Unread, unescaped_text};
 use std::alloc::Global;
 
 /// A number below 2^64 in decimal digits, or in hexadecimal ones behind `0x`.
@@ -14,10 +14,11 @@ pub(crate) fn number_of(text: &str) -> Result<u64, Unread> {
     }
 }
 
-/// The numbers between single spaces.
+/// The numbers between single spaces of a text with escapes.
 pub(crate) fn numbers(alloc: Global, text: &str) -> Result<Vec<u64>, Unread> {
+    let text = unescaped_text(alloc, text)?;
     let mut numbers = Vec::new(alloc);
-    for word in text.split(' ') {
+    for word in text.as_str().split(' ') {
         numbers.push(number_of(word)?)?;
     }
     Ok(numbers)

@@ -87,11 +87,16 @@ fn digit(byte: u8) -> Option<u8>
     }
 }
 
-/// Adds a generated text: `COUNT*TEXT` or `FIRST..END,TEXT`.
+/// Adds a generated text: `COUNT*TEXT`, `COUNT:TEXT` or `FIRST..END,TEXT`.
 fn push_generated(alloc: Global, inner: &str, bytes: &mut Vec<u8>) -> Result<(), Unread> {
     if let Some((count, text)) = inner.split_once('*') {
         if let Some(count) = number(count) {
             return push_repeated(alloc, count, text, bytes);
+        }
+    }
+    if let Some((count, text)) = inner.split_once(':') {
+        if let Some(count) = number(count) {
+            return push_counted(alloc, count, text, bytes);
         }
     }
     let (range, text) = inner.split_once(',').ok_or(Unread::Escape)?;
@@ -134,6 +139,42 @@ fn push_numbered(
         bytes.extend_from_slice(text.as_slice())?;
     }
     Ok(())
+}
+
+/// Adds a text so many times, with 16 hexadecimal digits in place of each `#FIRST+STEP#`.
+fn push_counted(alloc: Global, count: u64, text: &str, bytes: &mut Vec<u8>) -> Result<(), Unread> {
+    for place in 0..count {
+        let text = counted(alloc, text, place)?;
+        let text = unescaped_plain(alloc, text.as_str())?;
+        bytes.extend_from_slice(text.as_slice())?;
+    }
+    Ok(())
+}
+
+/// The text at a place, counted from 0, with the digits of its numbers.
+fn counted(alloc: Global, text: &str, place: u64) -> Result<String, Unread> {
+    let mut written = String::new(alloc);
+    let mut rest = text;
+    while let Some((before, after)) = rest.split_once('#') {
+        let (numbers, behind) = after.split_once('#').ok_or(Unread::Escape)?;
+        let (first, step) = numbers.split_once('+').ok_or(Unread::Escape)?;
+        let first = number(first).ok_or(Unread::Escape)?;
+        let step = number(step).ok_or(Unread::Escape)?;
+        let found = number_at(first, step, place).ok_or(Unread::Escape)?;
+        let digits = format!(in alloc; "{found:016x}")?;
+        written.push_str(before)?;
+        written.push_str(digits.as_str())?;
+        rest = behind;
+    }
+    written.push_str(rest)?;
+    Ok(written)
+}
+
+/// The number at a place of those that begin with the first and grow by a step; `None` where it is none of 64 bits.
+fn number_at(first: u64, step: u64, place: u64) -> Option<u64>
+    ensures { IfSome result (λ found. found ≡ first + step * place) }
+{
+    step.checked_mul(place)?.checked_add(first)
 }
 
 /// The bytes that a text with escapes of single bytes stands for.
