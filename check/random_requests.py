@@ -5,10 +5,11 @@ from random import Random
 from urllib.parse import urlencode
 
 from odd_values import ODD_VALUES, places_in
+from messages import is_session
 from privileges import GRANTABLE, PRIVILEGES
 from random_clients import RandomClients, shown
 from random_tables import RandomTables
-from routes import ROUTES
+from routes import CATALOG, MANAGEMENT, ROUTES
 
 NAMES = {
     "prefix": ["lake", "lake", "lake", "sea", "pond"],
@@ -36,15 +37,45 @@ ODD_TEXTS += ["[" * depth + "]" * depth for depth in (126, 127, 200)]
 WAREHOUSES = ["", "warehouse", "x=1&warehouse=lake", "w%61rehouse=lake", "warehouse=%ff", "warehouse=la+ke"]
 SNAPSHOTS = ["snapshots=all", "snapshots=refs", "snapshots=", "snapshots=x", "snapshots=refs&snapshots=all"]
 PURGES = ["purgeRequested=true", "purgeRequested=false", "purgeRequested=", "purgeRequested=1"]
-DELEGATIONS = ["vended-credentials", "remote-signing, Vended-Credentials", "remote-signing", "vended", ",vended-credentials "]
+DELEGATIONS = ["vended-credentials", "remote-signing, Vended-Credentials", ",vended-credentials "]
+ODD_DELEGATIONS = ["remote-signing", "vended", "", '"vended-credentials"', "vended credentials"]
 PARENTS = ["", "parent=", "parent=%ff", "parent=%1F"]
 SCOPES = ["ALL", "readers", "readers", "writers", "service_admin", "", "no one"]
+
+# What every second seed begins with: a catalogue with tables, and a principal that may read their data.
+LAKE = {"name": "lake", "properties": {"default-base-location": "lake://b"}}
+SCHEMA = {"type": "struct", "fields": []}
+OPENING = [
+    ("POST", f"{MANAGEMENT}/catalogs", {"catalog": LAKE}),
+    ("POST", f"{CATALOG}/lake/namespaces", {"namespace": ["a"]}),
+    ("POST", f"{CATALOG}/lake/namespaces", {"namespace": ["B"]}),
+    ("POST", f"{CATALOG}/lake/namespaces/a/tables", {"name": "t", "schema": SCHEMA}),
+    ("POST", f"{CATALOG}/lake/namespaces/a/tables", {"name": "t0", "schema": SCHEMA}),
+    ("POST", f"{CATALOG}/lake/namespaces/B/tables", {"name": "u", "schema": SCHEMA}),
+    ("POST", f"{MANAGEMENT}/principals", {"principal": {"name": "ann"}}),
+    ("POST", f"{MANAGEMENT}/principal-roles", {"principalRole": {"name": "readers"}}),
+    ("PUT", f"{MANAGEMENT}/principals/ann/principal-roles", {"principalRole": {"name": "readers"}}),
+    ("POST", f"{MANAGEMENT}/catalogs/lake/catalog-roles", {"catalogRole": {"name": "reads"}}),
+    ("PUT", f"{MANAGEMENT}/principal-roles/readers/catalog-roles/lake", {"catalogRole": {"name": "reads"}}),
+    (
+        "PUT",
+        f"{MANAGEMENT}/catalogs/lake/catalog-roles/reads/grants",
+        {"grant": {"type": "catalog", "privilege": "TABLE_READ_DATA"}},
+    ),
+]
 
 # How often a request of a method is asked, one of these actions, and one that isn't built.
 WEIGHTS = {"GET": 2, "HEAD": 2, "POST": 4, "PUT": 5, "DELETE": 0.7}
 OFTEN = {"create_table": 8, "load_table": 8, "commit_table": 24, "commit_transaction": 12}
+OFTEN |= {"load_credentials": 12, "access": 6}
 OFTEN |= {"create_view": 8, "load_view": 8, "replace_view": 24}
 NOT_BUILT = 0.15
+
+
+def session_form(client_id, secret):
+    """The form by which a client asks for a token."""
+    pairs = {"grant_type": "client_credentials", "client_id": client_id, "client_secret": secret}
+    return urlencode(pairs).encode()
 
 
 class RandomRequests:
@@ -56,7 +87,10 @@ class RandomRequests:
         self.clients = RandomClients(seed)
         self.known = ()
         self.tokens = []
+        self.storage_tokens = []
+        self.storage_token = ()
         self.secrets = {"root": "s3cr3t"}
+        self.opening = self.opened() if seed % 2 else iter(())
 
     def seldom(self, often=0.05):
         return self.random.random() < often
@@ -64,20 +98,45 @@ class RandomRequests:
     def pick(self, usual, odd, often=0.05):
         return self.random.choice(odd if self.seldom(often) else usual)
 
+    def opened(self):
+        """The requests that every second seed begins with, each once the one before was answered."""
+        yield "POST", f"{CATALOG}/oauth/tokens", [], session_form("root", self.secrets["root"]), None
+        for method, target, body in OPENING:
+            fields = [("authorization", f"Bearer {self.tokens[0]}")]
+            yield method, target, fields, json.dumps(body).encode(), self.tokens[0]
+        for client_id, secret in list(self.secrets.items()):
+            yield "POST", f"{CATALOG}/oauth/tokens", [], session_form(client_id, secret), None
+
     def next(self):
         """The method, target, fields, content and bearer of a request."""
+        return next(self.opening, None) or self.any()
+
+    def any(self):
         weights = [OFTEN.get(row[2], WEIGHTS[row[0]]) if row[2] else NOT_BUILT for row in ROUTES]
         method, path, action, *form = self.random.choices(ROUTES, weights)[0]
         self.known = self.clients.turn(action)
+        known = self.storage_tokens[-40:] if action == "access" else []
+        self.storage_token = self.random.choice(known) if known and not self.seldom() else ()
         target = self.target_of(path, action)
         content = self.content_of(action, *form)
         if self.seldom(0.02):
             method = self.random.choice(["GET", "POST", "PUT", "DELETE", "HEAD", "PATCH", "get"])
         fields, bearer = self.bearer()
-        if self.seldom(0.03):
+        if self.seldom(0.3 if action in ("create_table", "load_table") else 0.02):
             name = self.random.choice(["x-iceberg-access-delegation", "X-Iceberg-Access-Delegation"])
-            fields = [*fields, (name, self.random.choice(DELEGATIONS))]
+            fields = [*fields, (name, self.pick(DELEGATIONS, ODD_DELEGATIONS, 0.2))]
         return method, target, fields, content, bearer
+
+    def learn(self, method, target, content, status, answered):
+        """Has later requests know what a request was answered: tokens and secrets, tables and views."""
+        given = json.loads(answered) if status < 300 and answered else {}
+        if is_session(answered):
+            self.tokens.append(given["access_token"])
+        if "credentials" in given:
+            self.secrets[given["credentials"]["clientId"]] = given["credentials"]["clientSecret"]
+        for part in given.get("storage-credentials", []):
+            self.storage_tokens.append((part["config"]["lake.token"], part["prefix"]))
+        self.clients.learn(method, target, content, status, answered)
 
     # Targets
 
@@ -91,7 +150,7 @@ class RandomRequests:
 
     def segment(self, parameter):
         if parameter == "*path":
-            return "b/x"
+            return self.object_path()
         on = "view" if parameter == "view" else "table"
         known = dict(zip(("prefix", "namespace", on), self.known)) if not self.seldom(0.02) else {}
         if parameter == "namespace":
@@ -100,6 +159,16 @@ class RandomRequests:
             return self.encoded(known[parameter])
         odd = ODD_TABLES if parameter in ("table", "view") else ODD_NAMES
         return self.encoded(self.pick(NAMES.get(parameter, ["t"]), odd))
+
+    def object_path(self):
+        """A path below the location that a storage token was issued for, mostly, or beside it."""
+        places = [place for _, place in self.storage_tokens] or TABLE_LOCATIONS
+        is_below = self.storage_token and not self.seldom(0.15)
+        place = self.storage_token[1] if is_below else self.random.choice(places)
+        *above, last = place.removeprefix("lake://").split("/")
+        usual = [[*above, last, "x"], [*above, last, "d", "é y"], [*above, last]]
+        odd = [above, [*above, last + "0"], [*above, last[:-1], "x"], [*above, last, ""], [*above, last, "..", "x"]]
+        return "/".join(map(self.encoded, self.pick(usual, odd, 0.2)))
 
     def encoded(self, text):
         """A text as a segment, in which more bytes than need be may be encoded, and seldom wrongly."""
@@ -264,6 +333,8 @@ class RandomRequests:
         if not self.tokens or kind > 0.93:
             return ([], None) if kind > 0.97 else ([("authorization", "Bearer zz")], "zz")
         token = self.random.choice(self.tokens[-12:]) if self.seldom(0.6) else self.tokens[0]
+        if self.storage_token or self.storage_tokens and self.seldom(0.01):
+            token, _ = self.storage_token or self.storage_tokens[-1]
         name = self.random.choice(["authorization", "Authorization", "AUTHORIZATION"])
         fields = [(name, f"{self.random.choice(['Bearer', 'bearer', 'BEARER'])} {token}")]
         other = ("authorization", "Bearer zz")
