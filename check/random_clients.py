@@ -20,7 +20,7 @@ SHOWN = {
     "load_view": views.metadata,
     "replace_view": views.metadata,
 }
-ON_TABLES = ("load_table", "load_credentials", "commit_table", "commit_transaction", "rename_table")
+ON_TABLES = ("load_table", "load_credentials", "drop_table", "commit_table", "commit_transaction", "rename_table")
 ON_VIEWS = ("load_view", "replace_view", "rename_view")
 
 

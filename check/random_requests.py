@@ -115,7 +115,7 @@ class RandomRequests:
         weights = [OFTEN.get(row[2], WEIGHTS[row[0]]) if row[2] else NOT_BUILT for row in ROUTES]
         method, path, action, *form = self.random.choices(ROUTES, weights)[0]
         self.known = self.clients.turn(action)
-        known = self.storage_tokens[-40:] if action == "access" else []
+        known = self.storage_tokens[-self.random.choice([2, 40]) :] if action == "access" else []
         self.storage_token = self.random.choice(known) if known and not self.seldom() else ()
         target = self.target_of(path, action)
         content = self.content_of(action, *form)

@@ -1,5 +1,5 @@
 //! Texts with escapes, and bytes as they are shown.
-ghost use Rattle.std.specs.Prelude.{◌≤◌, ◌<◌, IfOk, length};
+ghost use Rattle.std.specs.Prelude.{◌≡◌, ◌≤◌, ◌<◌, ◌+◌, ◌*◌, IfOk, length};
 ghost use Rattle.std.specs.Option.{IfSome};
 
 use crate::unread::Unread;
