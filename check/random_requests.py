@@ -64,12 +64,11 @@ OPENING = [
     ),
 ]
 
-# How often a request of a method is asked, one of these actions, and one that isn't built.
+# How often a request of a method is asked, and one of these actions.
 WEIGHTS = {"GET": 2, "HEAD": 2, "POST": 4, "PUT": 5, "DELETE": 0.7}
 OFTEN = {"create_table": 8, "load_table": 8, "commit_table": 24, "commit_transaction": 12}
 OFTEN |= {"load_credentials": 12, "access": 6}
 OFTEN |= {"create_view": 8, "load_view": 8, "replace_view": 24}
-NOT_BUILT = 0.15
 
 
 def session_form(client_id, secret):
@@ -112,7 +111,7 @@ class RandomRequests:
         return next(self.opening, None) or self.any()
 
     def any(self):
-        weights = [OFTEN.get(row[2], WEIGHTS[row[0]]) if row[2] else NOT_BUILT for row in ROUTES]
+        weights = [OFTEN.get(row[2], WEIGHTS[row[0]]) for row in ROUTES]
         method, path, action, *form = self.random.choices(ROUTES, weights)[0]
         self.known = self.clients.turn(action)
         known = self.storage_tokens[-self.random.choice([2, 40]) :] if action == "access" else []

@@ -22,8 +22,7 @@ CATALOG_FORM = {
 ROLE_FORM = {"principalRole": {"name": "role"}}
 CATALOG_ROLE_FORM = {"catalogRole": {"name": "catalog_role"}}
 
-# Each method of each path, with its action, and the form of its body where that is JSON; one without an action isn't
-# built.
+# Each method of each path, with its action, and the form of its body where that is JSON.
 ROUTES = [
     ("POST", f"{CATALOG}/oauth/tokens", "open_session"),
     ("GET", f"{CATALOG}/config", "get_config"),
@@ -111,6 +110,4 @@ def route_of(method, path):
     rows = [row for row in rows if row[0] == method]
     if not rows:
         refuse("Wrong method")
-    if rows[0][1] is None:
-        refuse("Not built")
     return rows[0][1:]
