@@ -108,9 +108,9 @@ class RandomRequests:
 
     def next(self):
         """The method, target, fields, content and bearer of a request."""
-        return next(self.opening, None) or self.any()
+        return next(self.opening, None) or self.picked()
 
-    def any(self):
+    def picked(self):
         weights = [OFTEN.get(row[2], WEIGHTS[row[0]]) for row in ROUTES]
         method, path, action, *form = self.random.choices(ROUTES, weights)[0]
         self.known = self.clients.turn(action)
