@@ -1,1 +1,2 @@
+mod ChainLemmas
 pub mod OrderLemmas

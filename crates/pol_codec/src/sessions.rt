@@ -3,7 +3,7 @@ ghost use Rattle.std.specs.Prelude.{⊤};
 ghost use Rattle.pol_codec.specs.Rows as rows;
 
 use crate::Rows;
-use pol_forms::{ByteForm, CodecRefused, Coder, Common, ListOf, Unread, write_variant};
+use pol_forms::{CodecRefused, Coder, Common, ListOf, Unread, write_variant};
 use pol_locations::Location;
 use pol_names::Scope;
 use pol_tokens::{SessionRow, TokenRow};
@@ -70,28 +70,30 @@ impl Coder<SessionRow> for Rows {
 impl Coder<TokenRow> for Rows {
     ghost form = { rows.token };
 
+    ghost rule = { λ row. ⊤ };
+
     fn write(row: &TokenRow, written: &mut Vec<u8>) -> Result<(), OutOfMemory> {
-        row.serial.write(written)?;
-        row.word_a.write(written)?;
-        row.word_b.write(written)?;
-        row.principal.write(written)?;
-        row.table.write(written)?;
-        row.moves.write(written)?;
-        row.location.write(written)?;
-        row.write.write(written)?;
-        row.expires.write(written)
+        Common::write(&row.serial, written)?;
+        Common::write(&row.word_a, written)?;
+        Common::write(&row.word_b, written)?;
+        Common::write(&row.principal, written)?;
+        Common::write(&row.table, written)?;
+        Common::write(&row.moves, written)?;
+        Common::write(&row.location, written)?;
+        Common::write(&row.write, written)?;
+        Common::write(&row.expires, written)
     }
 
     fn read(alloc: Global, unread: &mut Unread<'_>) -> Result<TokenRow, CodecRefused> {
-        let serial = u64::read(alloc, unread)?;
-        let word_a = u64::read(alloc, unread)?;
-        let word_b = u64::read(alloc, unread)?;
-        let principal = u64::read(alloc, unread)?;
-        let table = u64::read(alloc, unread)?;
-        let moves = u64::read(alloc, unread)?;
-        let location = Location::read(alloc, unread)?;
-        let write = bool::read(alloc, unread)?;
-        let expires = u64::read(alloc, unread)?;
+        let serial: u64 = Common::read(alloc, unread)?;
+        let word_a: u64 = Common::read(alloc, unread)?;
+        let word_b: u64 = Common::read(alloc, unread)?;
+        let principal: u64 = Common::read(alloc, unread)?;
+        let table: u64 = Common::read(alloc, unread)?;
+        let moves: u64 = Common::read(alloc, unread)?;
+        let location: Location = Common::read(alloc, unread)?;
+        let write: bool = Common::read(alloc, unread)?;
+        let expires: u64 = Common::read(alloc, unread)?;
         Ok(TokenRow {
             serial,
             word_a,
