@@ -1,9 +1,8 @@
 -- The answers to replies and refusals: statuses and JSON texts.
-use Rattle.std.specs.Prelude.{ℕ, ◌/◌, List, ◌++◌, Option, Some, None, false, codes}
+use Rattle.std.specs.Prelude.{ℕ, ◌/◌, List, ◌++◌, Option, Some, None, codes}
 use Rattle.serde_json.specs.Data.{Data, number, unsigned, string, object, member, no_members}
 use Rattle.serde_json.specs.Written.{compact_text}
 use Rattle.pol_http.specs.declared.answer.Answer.{Answer}
-use Rattle.pol_http.specs.declared.answer.Body.{Body}
 use Rattle.pol_http.specs.declared.answer.Body.TheVariants.{Nothing, Json, Token}
 use Rattle.pol_http.specs.declared.head.HeadRefused.{HeadRefused}
 use Rattle.pol_http.specs.declared.head.HeadRefused.TheVariants.{BadHead, LengthNeeded, BodyTooLong}
@@ -20,12 +19,9 @@ use Rattle.pol_answers.specs.Refusals.{kind_of, message_of, status_of}
 use Rattle.pol_answers.specs.TableJson as table_json
 use Rattle.pol_answers.specs.TableJson.{committed_json, identifiers_json, loaded_json}
 use Rattle.pol_answers.specs.ViewJson.{shown_json}
+use Rattle.pol_json_answers.specs.JsonAnswers.{answer_with, error_answer, json_answer}
 use Rattle.pol_tokens.specs.declared.session.TheConstants.{SESSION_LIFE}
 use Rattle.pol_tokens.specs.Text.{text_of_token}
-
--- an answer that leaves the connection open
-abbrev pub answer_with : ℕ → Body → Answer
-answer_with code content = record { status = code; body = content; close = false; head_only = false }
 
 -- the JSON of an access token (RFC 6749, section 5.1; RFC 8693, section 2.2.1), which lasts so many seconds
 abbrev pub token_json : List ℕ → Data
@@ -47,16 +43,6 @@ token_error_json error = object (member (codes "error") (string error) no_member
 unfoldable pub token_error : ℕ → List ℕ → Answer
 token_error code error = answer_with code (Json (compact_text (token_error_json error)))
 
--- the JSON of any other error (Iceberg REST OpenAPI, IcebergErrorResponse)
-abbrev pub error_json : ℕ → List ℕ → List ℕ → Data
-error_json code message kind =
-    object (member (codes "error") (object (member (codes "code") (number (unsigned code))
-    (member (codes "message") (string message) (member (codes "type") (string kind) no_members)))) no_members)
-
--- the answer to any other error
-unfoldable pub error_answer : ℕ → List ℕ → List ℕ → Answer
-error_answer code message kind = answer_with code (Json (compact_text (error_json code message kind)))
-
 -- the answer to what is refused with that status and message: a refused token request has no type of error
 abbrev pub told_answer : ℕ → List ℕ → Option (List ℕ) → Answer
 told_answer code message None = token_error code message
@@ -66,11 +52,8 @@ told_answer code message (Some kind) = error_answer code message kind
 abbrev pub refused_answer : Refusal → Answer
 refused_answer why = told_answer (status_of why) (message_of why) (kind_of why)
 
--- an answer of JSON
-unfoldable pub json_answer : ℕ → Data → Answer
-json_answer code json = answer_with code (Json (compact_text json))
-
--- the answer to a command that is done; of what has ended or is there nothing is told
+-- the answer to a command that is done; of what has ended or is there nothing is told. That an access is allowed is told to
+-- nobody: what was asked for by it is done then, and answered
 abbrev pub done_answer : Done → Answer
 done_answer (SessionOpened serial word_a word_b) = session_answer (text_of_token serial word_a word_b)
 done_answer (ConfigTold catalog) = json_answer 200 (config_json catalog)
@@ -114,7 +97,7 @@ done_answer JoinEnded = answer_with 204 Nothing
 done_answer (GrantsListed grants) = json_answer 200 (grants_json grants)
 done_answer GrantAdded = answer_with 201 Nothing
 done_answer GrantRevoked = answer_with 201 Nothing
-done_answer AccessAllowed = error_answer 501 (codes "Not built") (codes "UnsupportedOperationException")
+done_answer AccessAllowed = answer_with 204 Nothing
 
 -- the answer to a reply
 unfoldable pub answer_of : Reply → Answer

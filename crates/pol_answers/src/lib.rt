@@ -1,7 +1,6 @@
 //! The texts of answers to replies and refusals.
 #![tactic(auto)]
 
-mod error_body;
 mod json;
 mod management_json;
 mod refusals;

@@ -11,7 +11,7 @@ pub(crate) const NOT_FOUND: &str = "NotFoundException";
 
 pub(crate) const SERVICE_UNAVAILABLE: &str = "ServiceUnavailableException";
 
-pub(crate) const UNSUPPORTED_OPERATION: &str = "UnsupportedOperationException";
+const UNSUPPORTED_OPERATION: &str = "UnsupportedOperationException";
 
 const ALREADY_EXISTS: &str = "AlreadyExistsException";
 

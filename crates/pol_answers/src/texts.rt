@@ -2,10 +2,10 @@
 ghost use Rattle.std.specs.Prelude.{◌≡◌, IfOk, string_bytes};
 ghost use Rattle.serde_json.specs.View.{view};
 ghost use Rattle.pol_tokens.specs.Text.{text_of_token};
+ghost use Rattle.pol_json_answers.specs.JsonAnswers as made;
 ghost use Rattle.pol_answers.specs.ManagementJson.{credentials_json};
 ghost use Rattle.pol_answers.specs.Texts as spec;
 
-use crate::error_body::{answer_with, error_answer, json_answer, text_of, token_error};
 use crate::json::{
     ToJson, catalogs_json, config_json, namespace_json, namespaces_json, updated_json,
 };
@@ -13,13 +13,13 @@ use crate::management_json::{
     credentials_json as principal_json, grants_json, principals_json, roles_json,
 };
 use crate::refusals::{
-    BAD_REQUEST, NOT_FOUND, SERVICE_UNAVAILABLE, UNSUPPORTED_OPERATION, kind_of, message_of,
-    status_of,
+    BAD_REQUEST, NOT_FOUND, SERVICE_UNAVAILABLE, kind_of, message_of, status_of,
 };
 use crate::table_json::{committed_json, credentials_json, identifiers_json, loaded_json};
 use crate::view_json::shown_json;
 use pol_commands::{Answer as Done, Refusal, Reply};
 use pol_http::{Answer, Body, HeadRefused};
+use pol_json_answers::{answer_with, error_answer, json_answer, text_of};
 use pol_names::Plain;
 use pol_requests::RouteRefused;
 use pol_tokens::{SESSION_LIFE, token_text};
@@ -134,9 +134,8 @@ fn done_answer(alloc: Global, done: &Done) -> Result<Answer, OutOfMemory>
         | Done::PrincipalDropped
         | Done::RoleDropped
         | Done::MemberEnded
-        | Done::JoinEnded => Ok(answer_with(204, Body::Nothing)),
-        // What an allowed access asks for isn't served yet.
-        Done::AccessAllowed => error_answer(alloc, 501, "Not built", UNSUPPORTED_OPERATION),
+        | Done::JoinEnded
+        | Done::AccessAllowed => Ok(answer_with(204, Body::Nothing)),
     }
 }
 
@@ -149,7 +148,7 @@ fn credentials_answer(
     secret: &Text,
     name: &Plain,
 ) -> Result<Answer, OutOfMemory>
-    ensures { IfOk result (λ answer. answer ≡ spec.json_answer code
+    ensures { IfOk result (λ answer. answer ≡ made.json_answer code
         (credentials_json client_id.now secret.now name.now)) }
 {
     let json = principal_json(alloc, client_id.as_str(), secret.as_str(), name.as_str())?;
@@ -204,6 +203,22 @@ fn refused_answer(alloc: Global, refusal: &Refusal) -> Result<Answer, OutOfMemor
         Some(kind) => error_answer(alloc, status_of(refusal), message.as_str(), kind),
         None => token_error(alloc, status_of(refusal), message.as_str()),
     }
+}
+
+/// The answer to a refused token request (RFC 6749, section 5.2).
+#[tactic(auto, unfolding(crate::specs::Texts::token_error))]
+fn token_error(alloc: Global, code: u16, error: &str) -> Result<Answer, OutOfMemory>
+    ensures { IfOk result (λ answer. answer ≡ spec.token_error code error.now) }
+{
+    let json = token_error_json(alloc, error)?;
+    Ok(answer_with(code, Body::Json(text_of(alloc, &json)?)))
+}
+
+/// The JSON of a refused token request.
+fn token_error_json(alloc: Global, error: &str) -> Result<Value, AllocError>
+    ensures { IfOk result (λ json. view json ≡ spec.token_error_json error.now) }
+{
+    json!(in alloc; {"error": error})
 }
 
 /// The answer to a request that has no plan.
