@@ -1,8 +1,10 @@
 pub mod FieldLemmas
+pub mod ObjectLemmas
 pub mod QueryLemmas
 pub mod RouteLemmas
 pub mod ScopeLemmas
 pub mod SegmentLemmas
 pub mod TableLemmas
 pub mod TargetLemmas
+pub mod VerbLemmas
 pub mod WalkLemmas

@@ -12,3 +12,4 @@ pub mod Segment
 pub mod Tables
 pub mod Target
 pub mod TokenForm
+pub mod Verbs

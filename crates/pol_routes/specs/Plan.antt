@@ -20,6 +20,7 @@ use Rattle.pol_routes.specs.Request.{Request}
 use Rattle.pol_routes.specs.Requests.{action_of}
 use Rattle.pol_routes.specs.Route.{row_of}
 use Rattle.pol_routes.specs.Target.{path_of}
+use Rattle.pol_routes.specs.Verbs.{verb_of}
 
 -- whose a request is: a token request is nobody's
 abbrev pub caller_for : Endpoint → Caller → Caller
@@ -38,7 +39,7 @@ caller_for (Object request) caller = caller
 unfoldable pub served_plan : ℕ → Caller → Request → Service → Result Planned RouteRefused
 served_plan charge caller request service =
     action_of request service.endpoint
-    >>= λ action. Ok (record { caller = caller_for service.endpoint caller; action = action; words = words_drawn service.endpoint request.delegated service.words; charge = charge })
+    >>= λ action. Ok (record { caller = caller_for service.endpoint caller; action = action; words = words_drawn service.endpoint request.delegated service.words; charge = charge; verb = verb_of service.endpoint })
 
 -- the request that a message makes by a row of the table
 abbrev pub request_by : Entry → Message → Request

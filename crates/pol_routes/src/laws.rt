@@ -3,7 +3,7 @@ ghost use Rattle.std.specs.Prelude.{◌≡◌, codes};
 ghost use Rattle.pol_routes.specs.declared.plans.TheConstants.{REQUEST_CHARGE};
 ghost use Rattle.pol_routes.specs.declared.routed.TheConstants.{CATALOG, CATALOG_ROLE, NAMESPACE, PREFIX, PRINCIPAL, ROLE, TABLE, VIEW};
 ghost use Rattle.pol_routes.specs.declared.token_form.TheConstants.{SCOPE_LIMIT};
-ghost use Rattle.pol_routes.specs.Laws.{EachRowIsServed};
+ghost use Rattle.pol_routes.specs.Laws.{EachRowIsServed, VerbsAskForAccess};
 
 /// A request is charged 512 beside its bytes, and a token request has at most 16 scopes.
 pub fn bounds_are_those()
@@ -27,4 +27,9 @@ pub fn parameters_are_those()
 /// and no other row is found in its place.
 pub fn each_row_is_served()
     ensures { EachRowIsServed }
+{}
+
+/// A request for objects asks for access as its verb needs it: a put and a delete to write, and any other to read.
+pub fn verbs_ask_for_access()
+    ensures { VerbsAskForAccess }
 {}

@@ -16,6 +16,7 @@ mod segment;
 mod tables;
 mod target;
 mod token_form;
+mod verb;
 
 pub use bearer::caller_of;
 pub use plans::{Planned, REQUEST_CHARGE, command_of, plan};
@@ -23,3 +24,4 @@ pub use query::query_value;
 pub use routes::Routes;
 pub use segment::{name_segment, namespace_segment, plain_segment, segment_text};
 pub use target::{path_of, query_of};
+pub use verb::Verb;

@@ -9,7 +9,7 @@ use pol_commands::Action;
 use pol_locations::{Location, LocationRefused};
 use pol_requests::{ObjectRequest, Unplanned, unreadable};
 use pol_tokens::Act;
-use pol_types::{OutOfMemory, Text};
+use pol_types::{Listed, OutOfMemory, Text};
 use std::alloc::Global;
 
 /// Whether the bearer of a storage token may do what is asked for.
@@ -49,7 +49,7 @@ fn object_path(alloc: Global, target: &[u8]) -> Result<Location, Unplanned>
 }
 
 /// The texts of the segments of a path behind its first, each decoded by itself.
-fn segment_texts(alloc: Global, path: &[u8]) -> Result<Vec<Text>, Unplanned>
+fn segment_texts(alloc: Global, path: &[u8]) -> Result<Listed<Text>, Unplanned>
     ensures { Meets (spec.texts_behind path.now) result }
 {
     let mut texts = Vec::new(alloc);
@@ -57,7 +57,7 @@ fn segment_texts(alloc: Global, path: &[u8]) -> Result<Vec<Text>, Unplanned>
         let text = segment_text(alloc, segment)?;
         push(&mut texts, text)?;
     }
-    Ok(texts)
+    Ok(Listed::from(texts))
 }
 
 /// Adds a text to others.

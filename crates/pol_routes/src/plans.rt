@@ -1,5 +1,5 @@
 //! What a message asks of the catalogue, and the command of such a plan.
-ghost use Rattle.std.specs.Prelude.{◌≡◌, IsUtf8};
+ghost use Rattle.std.specs.Prelude.{◌≡◌, IfOk, IsUtf8};
 ghost use Rattle.pol_http.specs.Message.{Message};
 ghost use Rattle.pol_http.specs.Next.{IsMessageAt, LiesWithin};
 ghost use Rattle.pol_requests.specs.Refused.{Meets};
@@ -7,6 +7,7 @@ ghost use Rattle.pol_routes.specs.Plan as spec;
 ghost use Rattle.pol_routes.specs.Request.{request_of};
 ghost use Rattle.pol_routes.specs.Route as route;
 ghost use Rattle.pol_routes.specs.Target.{path_of};
+ghost use Rattle.pol_routes.specs.Verbs.{IsActionOf};
 
 use crate::bearer::caller_of;
 use crate::delegation::{is_delegated, words_drawn};
@@ -14,6 +15,7 @@ use crate::requests::action_of;
 use crate::routed::Routed;
 use crate::routes::Routes;
 use crate::target;
+use crate::verb::{Verb, verb_of};
 use httparse::spans::Span;
 use pol_commands::{Action, Caller, Command, Words4};
 use pol_http::Head;
@@ -33,6 +35,9 @@ pub struct Planned {
     pub words: u8,
     /// What the request counts towards the bound of a run: its bytes and `REQUEST_CHARGE`.
     pub charge: u64,
+    /// What is done with objects where the action is allowed; there exactly for a request for objects. What is put are
+    /// the bytes of the message's body.
+    pub verb: Option<Verb>,
 }
 
 /// The plan of the message of which these are the ranges: its route, its method, and then what it holds, in this order.
@@ -45,8 +50,9 @@ pub fn plan(
     body: Span,
 ) -> Result<Planned, Unplanned>
     requires { LiesWithin bytes.now head.now body body.end }
-    ensures { (message : Message) → IsMessageAt bytes.now head.now body body.end message
+    ensures plan { (message : Message) → IsMessageAt bytes.now head.now body body.end message
         → Meets (spec.plan_of message) result }
+    ensures verb { IfOk result (λ planned. IsActionOf planned.verb planned.action) }
 {
     let target = head.target.of(bytes);
     let row = row_of(routes, head.method.of(bytes), target)?;
@@ -72,7 +78,7 @@ fn row_of(routes: &Routes, method: &[u8], target: &[u8]) -> Result<&'static Row,
 }
 
 /// The plan of a request by what such requests ask for.
-#[tactic(auto, using(pol_requests::proofs::RefusedLemmas::chained), unfolding(crate::specs::Plan::served_plan))]
+#[tactic(auto, using(pol_requests::proofs::RefusedLemmas::chained, crate::proofs::VerbLemmas::asked_by), unfolding(crate::specs::Plan::served_plan))]
 fn served_plan(
     alloc: Global,
     service: Service,
@@ -80,7 +86,8 @@ fn served_plan(
     caller: Caller,
     message: &Routed<'_>,
 ) -> Result<Planned, Unplanned>
-    ensures { Meets (spec.served_plan charge caller (request_of message.now) service) result }
+    ensures plan { Meets (spec.served_plan charge caller (request_of message.now) service) result }
+    ensures verb { IfOk result (λ planned. IsActionOf planned.verb planned.action) }
 {
     let Service { endpoint, words } = service;
     Ok(Planned {
@@ -88,6 +95,7 @@ fn served_plan(
         caller: caller_for(endpoint, caller),
         words: words_drawn(endpoint, message.delegated, words),
         charge,
+        verb: verb_of(endpoint),
     })
 }
 
