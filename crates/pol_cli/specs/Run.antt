@@ -2,12 +2,14 @@
 use Rattle.std.specs.Prelude.{◌≡◌, ◌⊎◌, ◌<◌, ⊤, ℕ, List, [], ◌∷◌, length, IfSome, IsSome}
 use Rattle.std.specs.Io.KnownBytes.{Consumes}
 use Rattle.pol_state.specs.Rows.{fresh_state}
-use Rattle.pol_shared.specs.Seen.{GoesOnAlone, Seen}
+use Rattle.pol_object_store.specs.ObjectHistory.{no_objects}
 use Rattle.pol_server.specs.Ends.{Ends}
 use Rattle.pol_server.specs.Link.{ServesLink, taken_bound}
+use Rattle.pol_server.specs.Stores.{BothGoOnAlone}
 use Rattle.pol_server.specs.declared.served.Ending.{Ending}
 use Rattle.pol_server.specs.declared.served.Ending.TheVariants as ending
 use Rattle.pol_server.specs.declared.served.Served.{Served}
+use Rattle.pol_server.specs.declared.stores.Stores.{Stores}
 use Rattle.pol_wire.specs.Faults.{Rises}
 use Rattle.pol_cli.specs.declared.report.Reason.{Reason}
 use Rattle.pol_cli.specs.declared.report.Reason.TheVariants.{Done, ReadFault, WriteFault, Usage, NoMemory, InputCut, Spent}
@@ -38,25 +40,29 @@ reason_of ending.NoMemory = NoMemory
 abbrev pub report_of : Reason → List ServedLink → Report
 report_of reason served = record { status = status_of reason; reason = reason; served = served }
 
--- the link was served by the founding pass, and is reported by how it ended
-pub record IsServed (old : Seen) (before after : Ends) (new : Seen) (report : Report) : Type 0 where
+-- the link was served by the founding passes, and is reported by how it ended
+pub record IsServed (old : Stores) (before after : Ends) (new : Stores) (report : Report) : Type 0 where
   pub served : Served
   pub link : ServesLink before after old new served
   pub report_is : report ≡ report_of (reason_of served.ending) (record { worker = 0; served = served } ∷ [])
 
 -- the link was served, or memory was wanting before it was called
-abbrev pub Serves : Seen → Ends → Ends → Seen → Report → Type 0
+abbrev pub Serves : Stores → Ends → Ends → Stores → Report → Type 0
 Serves old before after new report =
     IsServed old before after new report ⊎ ((after ≡ before) × (report ≡ report_of NoMemory []))
 
--- what the founding pass, the only one, has seen of a fresh catalogue of this root secret
-abbrev pub seen_fresh : List ℕ → Seen
-seen_fresh secret = record { base = fresh_state secret; number = 0; made = 1; front = [] }
+-- what the founding passes, the only ones, have seen of a fresh catalogue of this root secret and of no objects
+abbrev pub stores_fresh : List ℕ → Stores
+stores_fresh secret = record {
+  catalogue = record { base = fresh_state secret; number = 0; made = 1; front = [] };
+  objects = record { base = no_objects; number = 0; made = 1; front = [] };
+}
 
--- what a run over a fresh catalogue of this root secret reports, and does to its link. Nobody else enters anything
+-- what a run over a fresh catalogue of this root secret and no objects reports, and does to its link. Nobody else enters
+-- anything
 abbrev pub RunsLink : List ℕ → Ends → Ends → Report → Type 0
 RunsLink secret before after report =
-    (new : Seen) × Serves (seen_fresh secret) before after new report × GoesOnAlone 0 [] new.front
+    (new : Stores) × Serves (stores_fresh secret) before after new report × BothGoOnAlone (stores_fresh secret) new
 
 -- a fault of the source or the sink is told only where its count rose, and a spent link only where 2^40 bytes were taken
 pub record HasCause (before after : Ends) (reason : Reason) : Type 0 where

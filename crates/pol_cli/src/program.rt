@@ -11,8 +11,9 @@ ghost use Rattle.pol_cli.specs.declared.words.Plan.TheVariants.{ExecFresh};
 use crate::given::words_given;
 use crate::report::{Reason, Report, ServedLink, reason_of};
 use crate::words::{Words, plan_of};
-use pol_server::serve_connection;
+use pol_server::{Stores, serve_connection};
 use pol_shared::Shared;
+use pol_shared_objects::Objects;
 use pol_types::OutOfMemory;
 use pol_wire::{Clock, Draw, Link, Sink, Source};
 use std::alloc::Global;
@@ -57,8 +58,9 @@ pub fn run_given<R: AllocGlobal, S: Source, K: Sink, C: Clock, W: Draw>(
 
 /// Runs the program, and hands every device back.
 ///
-/// Words that are no command line touch no device. `exec` serves its link over a fresh catalogue; its status is told
-/// by how the link ended, or that memory was wanting before it was called, and then no device was touched.
+/// Words that are no command line touch no device. `exec` serves its link over a fresh catalogue and no objects; its
+/// status is told by how the link ended, or that memory was wanting before it was called, and then no device was
+/// touched.
 pub fn run<R: AllocGlobal, S: Source, K: Sink, C: Clock, W: Draw>(
     rt: &R,
     words: &Words,
@@ -88,7 +90,7 @@ pub fn run<R: AllocGlobal, S: Source, K: Sink, C: Clock, W: Draw>(
     }
 }
 
-/// Serves the link over a fresh catalogue of this root secret.
+/// Serves the link over a fresh catalogue of this root secret, and no objects.
 fn exec_fresh<S: Source, K: Sink, C: Clock, W: Draw>(
     alloc: Global,
     root_secret: &str,
@@ -100,32 +102,38 @@ fn exec_fresh<S: Source, K: Sink, C: Clock, W: Draw>(
     ensures untouched { result.served ≡ [] → link.new ≡ link.old }
 {
     match Shared::fresh(alloc, root_secret) {
-        Ok(mut catalogue) => {
-            let report = exec(alloc, &mut catalogue, link);
-            drop(catalogue.close());
+        Ok(catalogue) => {
+            let mut stores = Stores {
+                catalogue,
+                objects: Objects::empty(alloc),
+            };
+            let report = exec(alloc, &mut stores, link);
+            drop(stores.catalogue.close());
+            drop(stores.objects.close());
             report
         }
         Err(OutOfMemory) => Report::of(Reason::NoMemory, Vec::new(alloc)),
     }
 }
 
-/// Serves the link over a catalogue.
+/// Serves the link over these stores.
 fn exec<S: Source, K: Sink, C: Clock, W: Draw>(
     alloc: Global,
-    catalogue: &mut Shared,
+    stores: &mut Stores,
     link: &mut Link<S, K, C, W>,
 ) -> Report
-    ensures serves { Serves catalogue.old
+    ensures serves { Serves stores.old
         (ends_of S.left S.faults K.given K.faults C.moments W.words W.faults link.old)
-        (ends_of S.left S.faults K.given K.faults C.moments W.words W.faults link.new) catalogue.new result }
-    ensures made { catalogue.new.made ≡ catalogue.old.made }
+        (ends_of S.left S.faults K.given K.faults C.moments W.words W.faults link.new) stores.new result }
+    ensures made { stores.new.catalogue.made ≡ stores.old.catalogue.made }
+    ensures objects_made { stores.new.objects.made ≡ stores.old.objects.made }
     ensures untouched { result.served ≡ [] → link.new ≡ link.old }
 {
     let mut links = Vec::new(alloc);
     let Ok(()) = links.reserve(1) else {
         return Report::of(Reason::NoMemory, links);
     };
-    let served = serve_connection(alloc, catalogue, link);
+    let served = serve_connection(alloc, stores, link);
     let reason = reason_of(served.ending);
     let Ok(()) = links.push(ServedLink { worker: 0, served }) else {
         unreachable!()

@@ -1,28 +1,23 @@
 -- What went on between two moments, and between the second and a third.
 use Rattle.std.proofs.Common.{◌≡◌, ◌<◌, ◌≤◌, ◌+◌, ◌-◌, ◌^◌, ℕ, List, [], ◌∷◌, ◌++◌, map, length, Option, sym, ap, subst, ◌∙◌, inl, inr, arith, append-nil, append_assoc, length-append}
-use Rattle.std.specs.List.{flat_map, AllByRecursion}
+use Rattle.std.specs.List.{flat_map}
 use Rattle.std.specs.Io.KnownBytes.{Appends, Consumes}
 use Rattle.std.proofs.KnownBytes.{Appends-trans, Appends-nil, Consumes-nil, Consumes-trans}
 use Rattle.std.proofs.lemmas.Grind.{flat_map-append}
 use Rattle.std.proofs.lemmas.List.{map-append}
 use Rattle.pol_http.specs.Message.{IsMessage, Message, print_message}
-use Rattle.pol_shared.specs.Seen.{HasSeen, Seen, entry_number}
-use Rattle.pol_shared.proofs.SeenLemmas.{seen-same, seen-trans}
 use Rattle.pol_wire.proofs.StreamsLemmas.{IsShifted-nil, IsShifted-trans}
 use Rattle.pol_wire.specs.Streams.{IsShifted}
 use Rattle.pol_server.specs.Link.{EndsLastText}
 use Rattle.pol_server.specs.Serving.{Continues, Finishes, FitsEnding, Goes, Handles, Standing, told_text}
-use Rattle.pol_server.specs.Turn.{IsAnswered, NoneCloses, Turn, catalogue_place, catalogue_places, output_of, place_of}
+use Rattle.pol_server.specs.Stores.{HasSeenBoth}
+use Rattle.pol_server.specs.Turn.{AreOrdered, IsAnswered, NoneCloses, Turn, output_of, place_of}
 use Rattle.pol_server.specs.declared.served.Ending.{Ending}
 use Rattle.pol_server.specs.declared.served.Ending.TheVariants.{Ended, Cut, Closed, ReadFault, WriteFault, Spent, NoMemory}
 use Rattle.pol_server.specs.declared.served.Place.{Place}
 use Rattle.pol_server.proofs.EndsLemmas.{rises-earlier}
-use Rattle.pol_server.proofs.TurnLemmas.{answered-longer, each-append, failed_draws-append, last-append, ordered-append}
-
--- the places of turns and of later ones
-places-both : (turns others : List Turn) → catalogue_places (map place_of (turns ++ others)) ≡ catalogue_places (map place_of turns) ++ catalogue_places (map place_of others)
-places-both turns others =
-    ap catalogue_places (map-append place_of turns others) ∙ flat_map-append catalogue_place (map place_of turns) (map place_of others)
+use Rattle.pol_server.proofs.StoresLemmas.{both-same, both-trans}
+use Rattle.pol_server.proofs.TurnLemmas.{answered-later, both-ordered, each-append, failed_draws-append, last-append}
 
 -- an equation of texts, and then one more
 joined : {A : Type 0} (f : Turn → List A) (turns others : List Turn) (first out middle more last : List A)
@@ -33,17 +28,7 @@ joined f turns others first out middle more last one two =
     ∙ ap (λ back. flat_map f turns ++ back) two ∙ sym (append_assoc (flat_map f turns) (flat_map f others) last)
     ∙ ap (λ front. front ++ last) (sym (flat_map-append f turns others))
 
--- turns are answered in what a pass has seen
-abbrev pub answered-in : Seen → List Turn → Type 0
-answered-in seen turns = AllByRecursion (IsAnswered seen.base seen.number seen.front) turns
-
 module _ (a b c : Standing) (turns others : List Turn) where
-  answered-both : (places : List ℕ) → HasSeen b.seen c.seen places → answered-in b.seen turns → answered-in c.seen others → answered-in c.seen (turns ++ others)
-  answered-both places more answered later =
-      let grown : answered-in (record b.seen { front = b.seen.front ++ more.front.0 }) turns = answered-longer b.seen.base b.seen.number b.seen.front more.front.0 turns answered in
-      let moved : answered-in (record b.seen { front = c.seen.front }) turns = subst (λ front. answered-in (record b.seen { front = front }) turns) (sym more.front.1) grown in
-      each-append (IsAnswered c.seen.base c.seen.number c.seen.front) turns others (subst (λ seen. answered-in seen turns) (sym more.same) moved) later
-
   -- what went on between a first and a second moment, and between the second and a third
   pub goes-trans : (taken later out more : List ℕ) → Goes a b turns taken out → Goes b c others later more → Goes a c (turns ++ others) (taken ++ later) (out ++ more)
   goes-trans taken later out more first second = record {
@@ -57,14 +42,14 @@ module _ (a b c : Standing) (turns others : List Turn) where
     draws = λ below.
         let early : b.ends.draw_faults < 2 ^ 64 - 1 = omega (arith, second.draw_faults, below) in
         omega (arith, first.draws early, second.draws below, failed_draws-append turns others);
-    catalogue = subst (HasSeen a.seen c.seen) (sym (places-both turns others)) (seen-trans entry_number a.seen b.seen c.seen (catalogue_places (map place_of turns)) (catalogue_places (map place_of others)) first.catalogue second.catalogue);
+    stores = subst (HasSeenBoth a.seen c.seen) (sym (map-append place_of turns others)) (both-trans a.seen b.seen c.seen (map place_of turns) (map place_of others) first.stores second.stores);
     cut = joined (λ turn. print_message turn.message) turns others a.buffer taken b.buffer later c.buffer first.cut second.cut;
     places = second.places ∙ ap (λ front. front ++ map place_of others) first.places ∙ append_assoc a.places (map place_of turns) (map place_of others)
         ∙ ap (λ back. a.places ++ back) (sym (map-append place_of turns others));
     budget = omega (arith, first.budget, second.budget, length-append taken later);
     whole = each-append _ turns others first.whole second.whole;
-    answered = answered-both (catalogue_places (map place_of others)) second.catalogue first.answered second.answered;
-    ordered = ordered-append (length a.seen.front) turns others (length b.seen.front) (length c.seen.front) first.ordered second.ordered;
+    answered = each-append (IsAnswered c.seen) turns others (answered-later b.seen c.seen (map place_of others) turns second.stores first.answered) second.answered;
+    ordered = both-ordered a.seen b.seen c.seen turns others first.ordered second.ordered;
   }
 
 -- a link that goes on twice goes on
@@ -122,11 +107,14 @@ pub record Stays (a b : Standing) : Type 0 where
   pub budget : b.budget ≡ a.budget
 
 module _ (a b : Standing) where
-  stays-seen : b.seen ≡ a.seen → HasSeen a.seen b.seen []
-  stays-seen same = subst (λ seen. HasSeen a.seen seen []) (sym same) (seen-same entry_number a.seen)
+  stays-seen : b.seen ≡ a.seen → HasSeenBoth a.seen b.seen []
+  stays-seen same = subst (λ seen. HasSeenBoth a.seen seen []) (sym same) (both-same a.seen)
 
-  stays-ordered : b.seen ≡ a.seen → length a.seen.front ≤ length b.seen.front
-  stays-ordered same = omega (arith, ap (λ seen. length seen.front) same)
+  stays-ordered : b.seen ≡ a.seen → AreOrdered a.seen b.seen []
+  stays-ordered same = record {
+    catalogue = omega (arith, ap (λ seen. length seen.catalogue.front) same);
+    objects = omega (arith, ap (λ seen. length seen.objects.front) same);
+  }
 
   -- giving bytes alone
   pub goes-given : (out : List ℕ) → Stays a b → b.ends ≡ record a.ends { given = b.ends.given; sink_faults = b.ends.sink_faults }
@@ -140,7 +128,7 @@ module _ (a b : Standing) where
     sink_faults = kept;
     draw_faults = omega (arith, ap (λ ends. ends.draw_faults) same);
     draws = λ below. omega (arith, ap (λ ends. ends.draw_faults) same);
-    catalogue = stays-seen stays.seen;
+    stores = stays-seen stays.seen;
     cut = append-nil a.buffer ∙ sym stays.buffer;
     places = stays.places ∙ sym (append-nil a.places);
     budget = omega (arith, stays.budget);
@@ -162,7 +150,7 @@ module _ (a b : Standing) where
     sink_faults = omega (arith, ap (λ ends. ends.sink_faults) same);
     draw_faults = omega (arith, ap (λ ends. ends.draw_faults) same);
     draws = λ below. omega (arith, ap (λ ends. ends.draw_faults) same);
-    catalogue = stays-seen seen;
+    stores = stays-seen seen;
     cut = sym grown;
     places = places ∙ sym (append-nil a.places);
     budget = spent;
@@ -184,11 +172,11 @@ module _ (a b : Standing) where
     sink_faults = omega (arith, ap (λ ends. ends.sink_faults) handles.same);
     draw_faults = handles.kept;
     draws = λ below. omega (arith, handles.draws below);
-    catalogue = subst (HasSeen a.seen b.seen) (sym (append-nil (catalogue_place (place_of handles.turn)))) handles.catalogue;
+    stores = handles.stores;
     cut = append-nil a.buffer ∙ front ∙ ap (λ message. print_message message ++ b.buffer) (sym handles.message_is) ∙ ap (λ bytes. bytes ++ b.buffer) (sym (append-nil (print_message handles.turn.message)));
     places = added ∙ ap (λ place. a.places ++ place ∷ []) handles.place_is;
     budget = omega (arith, budget);
     whole = (subst IsMessage (sym handles.message_is) whole, tt);
     answered = (handles.answered, tt);
-    ordered = (handles.from, handles.below);
+    ordered = handles.ordered;
   }

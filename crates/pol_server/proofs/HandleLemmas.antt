@@ -1,6 +1,6 @@
 -- One message: what was read for it, and how it was answered.
-use Rattle.std.proofs.Common.{◌≡◌, ◌<◌, ◌≤◌, ◌+◌, ◌-◌, ◌^◌, ◌⊎◌, ℕ, Bool, List, [], ◌∷◌, ◌++◌, length, take, Option, Some, None, Result, Ok, Err, Vec, Global, refl, sym, ap, subst, ◌∙◌, inl, inr, arith, length-append}
-use Rattle.std.specs.Prelude.{IfOk, IfSome, slice_get}
+use Rattle.std.proofs.Common.{◌≡◌, ◌≢◌, ◌<◌, ◌≤◌, ◌+◌, ◌-◌, ◌^◌, ◌⊎◌, ℕ, Bool, List, [], ◌∷◌, ◌++◌, length, take, Option, Some, None, Result, Ok, Err, Vec, Global, refl, sym, ap, subst, ◌∙◌, inl, inr, arith, length-append}
+use Rattle.std.specs.Prelude.{⊤, IfOk, IfSome, slice_get}
 use Rattle.std.specs.Option.{option_map}
 use Rattle.std.specs.Result.{result_ok}
 use Rattle.std.proofs.Math.Seq.{get_or-append_seam, take-append_seam, take-length}
@@ -14,22 +14,32 @@ use Rattle.pol_machine.specs.Machine.{reply_of}
 use Rattle.pol_commands.specs.declared.command.Command.{Command}
 use Rattle.pol_commands.specs.declared.command.Words4.{Words4}
 use Rattle.pol_commands.specs.declared.reply.Refusal.TheVariants as refusal
+use Rattle.pol_commands.specs.declared.reply.Reply.{Reply}
 use Rattle.pol_commands.specs.declared.reply.Reply.TheVariants.{Refused}
+use Rattle.pol_requests.specs.Refused.{Meets}
 use Rattle.pol_requests.specs.declared.refused.RouteRefused.{RouteRefused}
+use Rattle.pol_requests.specs.declared.refused.Unplanned.{Unplanned}
+use Rattle.pol_requests.specs.declared.refused.Unplanned.TheVariants as plan
 use Rattle.pol_answers.specs.Texts.{answer_of, draw_fault_answer, refusal_answer}
 use Rattle.pol_routes.specs.Plan.{command_of, plan_of}
 use Rattle.pol_routes.specs.declared.plans.Planned.{Planned}
+use Rattle.pol_routes.specs.declared.verb.Verb.{Verb}
+use Rattle.pol_shared.specs.Accessed.{access_allowed}
 use Rattle.pol_shared.specs.History.{state_at}
 use Rattle.pol_shared.specs.Seen.{HasSeen, Seen, entry_number}
 use Rattle.pol_shared.specs.declared.entry.Entry.{Entry}
 use Rattle.pol_shared.proofs.SeenLemmas.{seen-push, seen-same, seen-trans}
+use Rattle.pol_shared_objects.specs.SeenObjects.{HasSeenObjects, SeenObjects, object_entry_number}
 use Rattle.pol_wire.proofs.StreamsLemmas.{IsShifted-nil}
 use Rattle.pol_wire.specs.Streams.{IsShifted}
 use Rattle.pol_server.specs.Ends.{Ends, Reads}
-use Rattle.pol_server.specs.Serving.{DrawsWords, Handles, IsEntered, text_by}
-use Rattle.pol_server.specs.Turn.{framed, full, is_head, stepped, text_of, undrawn, unplanned, without_memory, four_words}
+use Rattle.pol_server.specs.Serving.{DrawsWords, Handles, IsEntered, IsUnplannedAs, text_by}
+use Rattle.pol_server.specs.Stores.{HasSeenBoth}
+use Rattle.pol_server.specs.Turn.{AreOrdered, Case, IsAnswered, IsEnteredAt, Turn, failed_in, framed, full, is_head, place_by, stepped, text_of, undrawn, unplanned, without_memory, four_words}
 use Rattle.pol_server.specs.declared.served.Place.{Place}
-use Rattle.pol_server.specs.declared.served.Place.TheVariants.{Catalogue, NoEntry}
+use Rattle.pol_server.specs.declared.served.Place.TheVariants.{Catalogue, Object, NoEntry}
+use Rattle.pol_server.specs.declared.stores.Stores.{Stores}
+use Rattle.pol_server.proofs.StoresLemmas.{seen-longer}
 
 -- what holds of the bytes of a result holds of those that it keeps
 pub kept-text : {E : Type 0} (message : Message) (answer : Answer) (close head_only : Bool) (result : Result (Vec ℕ Global) E) → close ≡ closes message.head → head_only ≡ is_head message
@@ -48,11 +58,27 @@ pub moment-command : (planned : Planned) (moment : ℕ) (words : Words4) → (co
 unfolding command_of
 moment-command planned moment words = refl
 
+pub action-command : (planned : Planned) (moment : ℕ) (words : Words4) → (command_of planned moment words).action ≡ planned.action
+unfolding command_of
+action-command planned moment words = refl
+
 pub charge-command : (planned : Planned) (moment : ℕ) (words : Words4) → (command_of planned moment words).charge ≡ planned.charge
 unfolding command_of
 charge-command planned moment words = refl
 
-module _ (ends : Ends) (seen : Seen) (message : Message) where
+-- no access is asked for where there is no verb
+pub no-verb : (asked : Option Verb) → asked ≡ None → (reply : Reply) → ⊤ → (verb : Verb) → asked ≡ Some verb → reply ≢ access_allowed
+no-verb None is reply also verb some told = cc
+no-verb (Some other) is reply also verb some told = cc
+
+-- nothing was entered
+pub seen-nowhere : (before after : Stores) → HasSeen before.catalogue after.catalogue [] → HasSeenObjects before.objects after.objects [] → HasSeenBoth before after (NoEntry ∷ [])
+seen-nowhere before after catalogue objects = record { catalogue = catalogue; objects = objects }
+
+quiet : (seen : Stores) → HasSeenBoth seen seen (NoEntry ∷ [])
+quiet seen = seen-nowhere seen seen (seen-same entry_number seen.catalogue) (seen-same object_entry_number seen.objects)
+
+module _ (ends : Ends) (seen : Stores) (message : Message) where
   -- memory was wanting before the clock was read
   pub handles-nothing : Handles ends ends seen seen message NoEntry None
   handles-nothing = record {
@@ -63,10 +89,9 @@ module _ (ends : Ends) (seen : Seen) (message : Message) where
     words = IsShifted-nil ends.words;
     kept = omega arith;
     draws = λ below. omega arith;
-    catalogue = seen-same entry_number seen;
+    stores = quiet seen;
     answered = record { reads = inl (refl, refl); answer = refl };
-    from = tt;
-    below = omega arith;
+    ordered = record { catalogue = (tt, omega arith); objects = (tt, omega arith) };
     place_is = refl;
     text_is = refl;
   }
@@ -82,22 +107,26 @@ module _ (ends : Ends) (seen : Seen) (message : Message) where
     words = IsShifted-nil ends.words;
     kept = omega arith;
     draws = λ below. omega arith;
-    catalogue = seen-same entry_number seen;
+    stores = quiet seen;
     answered = record { why = why; refused = refused; moments = refl; words = refl; answer = text_is };
-    from = tt;
-    below = omega arith;
+    ordered = record { catalogue = (tt, omega arith); objects = (tt, omega arith) };
     place_is = refl;
     text_is = refl;
   }
 
-  -- the plan was refused, and the text was made or not
-  pub handles-refusal : {E : Type 0} (why : RouteRefused) (result : Result (Vec ℕ Global) E) (close head_only : Bool) → plan_of message ≡ Err why → close ≡ closes message.head → head_only ≡ is_head message
-      → IfOk result (λ bytes. bytes.items ≡ answer_text (framed close head_only (refusal_answer why)))
-      → Handles ends ends seen seen message NoEntry (option_map (λ bytes. bytes.items) (result_ok result))
-  handles-refusal why (Ok bytes) close head_only refused closing heading text_is =
-      handles-refused why (Some bytes.items) refused
-      (text_is ∙ ap (λ close. answer_text (framed close head_only (refusal_answer why))) closing ∙ ap (λ head_only. answer_text (framed (closes message.head) head_only (refusal_answer why))) heading)
-  handles-refusal why (Err error) close head_only refused closing heading text_is = handles-nothing
+  -- there is no plan
+  framed-some : (close head_only : Bool) (answer : Answer) (text : Option (List ℕ)) → close ≡ closes message.head → head_only ≡ is_head message
+      → IfSome text (λ bytes. bytes ≡ answer_text (framed close head_only answer)) → IfSome text (λ bytes. bytes ≡ text_of message answer)
+  framed-some close head_only answer None closing heading is = tt
+  framed-some close head_only answer (Some bytes) closing heading is =
+      is ∙ ap (λ close. answer_text (framed close head_only answer)) closing ∙ ap (λ head_only. answer_text (framed (closes message.head) head_only answer)) heading
+
+  pub handles-unplanned : (why : Unplanned) (close head_only : Bool) (place : Place) (text : Option (List ℕ)) → Meets (plan_of message) (Err why) → close ≡ closes message.head → head_only ≡ is_head message
+      → IsUnplannedAs why close head_only place text → Handles ends ends seen seen message place text
+  handles-unplanned (plan.Refused why) close head_only place text refused closing heading is =
+      subst (λ place. Handles ends ends seen seen message place text) (sym is.0) (handles-refused why text refused (framed-some close head_only (refusal_answer why) text closing heading is.1))
+  handles-unplanned plan.OutOfMemory close head_only place text refused closing heading is =
+      subst (λ place. Handles ends ends seen seen message place text) (sym is.0) (subst (λ text. Handles ends ends seen seen message NoEntry text) (sym is.1) handles-nothing)
 
 -- reading the clock leaves the draw
 pub reads-draws : (old now : Ends) (moment : ℕ) → Reads old now moment → now.draw_faults ≡ old.draw_faults
@@ -129,133 +158,164 @@ module _ (old now new : Ends) (moment : ℕ) where
           → new ≡ record old { moments = new.moments; words = new.words; draw_faults = new.draw_faults }
       same-both first second = second ∙ sym (ap as_of (ap (λ ends. ends.moments) second)) ∙ ap as_read first
 
--- what a pass has seen grows no shorter
-seen-longer : (old new : Seen) (places : List ℕ) → HasSeen old new places → length old.front ≤ length new.front
-seen-longer old new places seen = omega (arith, ap length seen.front.1, length-append old.front seen.front.0)
+module _ (old new : Ends) (seen : Stores) (message : Message) (plan : Planned) (moment : ℕ) (words : List ℕ) (planned : plan_of message ≡ Ok plan) (read : IsReadFor old new moment words) where
+  -- the message's turn, by how it was answered
+  abbrev pub turn-as : Case → List ℕ → Turn
+  turn-as case answer = record { message = message; moments = moment ∷ []; words = words; case = case; answer = answer }
 
-module _ (old new : Ends) (seen : Seen) (message : Message) (plan : Planned) (moment : ℕ) (words : List ℕ) (planned : plan_of message ≡ Ok plan) (read : IsReadFor old new moment words) where
-  -- memory was wanting
-  wanting : (after : Seen) → HasSeen seen after [] → length words ≡ plan.words → Handles old new seen after message NoEntry None
-  wanting after more drawn = record {
-    turn = record { message = message; moments = moment ∷ []; words = words; case = without_memory; answer = INSUFFICIENT_STORAGE.now };
+  -- a message for which no draw failed
+  pub handles-as : (after : Stores) (case : Case) (answer : List ℕ) (text : Option (List ℕ)) → failed_in case ≡ 0 → text_by text ≡ answer → HasSeenBoth seen after (place_by case ∷ [])
+      → IsAnswered after (turn-as case answer) → AreOrdered seen after (turn-as case answer ∷ []) → Handles old new seen after message (place_by case) text
+  handles-as after case answer text drawn text_is more answered ordered = record {
+    turn = turn-as case answer;
     message_is = refl;
     same = read.same;
     moments = read.moments;
     words = read.words_are;
     kept = read.kept;
-    draws = λ below. omega (arith, read.kept);
-    catalogue = more;
-    answered = record { reads = inr (plan, moment, record { planned = planned; moments = refl; words = drawn }); answer = refl };
-    from = tt;
-    below = seen-longer seen after [] more;
+    draws = λ below. omega (arith, read.kept, drawn);
+    stores = more;
+    answered = answered;
+    ordered = ordered;
     place_is = refl;
-    text_is = refl;
+    text_is = text_is;
   }
 
   -- a draw failed
   pub handles-undrawn : (text : Option (List ℕ)) → length words < plan.words → (new.draw_faults < 2 ^ 64 - 1 → old.draw_faults + 1 ≤ new.draw_faults)
       → IfSome text (λ bytes. bytes ≡ text_of message draw_fault_answer) → Handles old new seen seen message NoEntry text
   handles-undrawn text few draws text_is = record {
-    turn = record { message = message; moments = moment ∷ []; words = words; case = undrawn; answer = text_by text };
+    turn = turn-as undrawn (text_by text);
     message_is = refl;
     same = read.same;
     moments = read.moments;
     words = read.words_are;
     kept = read.kept;
     draws = draws;
-    catalogue = seen-same entry_number seen;
+    stores = quiet seen;
     answered = record { plan = plan; planned = planned; moments = refl; words = few; answer = made-or-not text _ text_is };
-    from = tt;
-    below = omega arith;
+    ordered = record { catalogue = (tt, omega arith); objects = (tt, omega arith) };
     place_is = refl;
     text_is = refl;
   }
 
-  module _ (after : Seen) (drawn : length words ≡ plan.words) where
-    abbrev command : Command
+  module _ (drawn : length words ≡ plan.words) where
+    abbrev pub command : Command
     command = command_of plan moment (four_words words)
 
-    abbrev entry : Entry
-    entry = record { number = seen.number; command = command }
+    abbrev pub entry : Entry
+    entry = record { number = seen.catalogue.number; command = command }
 
-    there : (front : List Entry) → slice_get (front ++ entry ∷ []) (length front) ≡ Some entry
+    -- the catalogue with the command behind what was seen of it then
+    abbrev pub with-entry : List Entry → Seen
+    with-entry front = record seen.catalogue { front = front ++ entry ∷ [] }
+
+    pub there : (front : List Entry) → slice_get (front ++ entry ∷ []) (length front) ≡ Some entry
     there front =
         let within : length front < length (front ++ entry ∷ []) = omega (arith, length-append front (entry ∷ [])) in
         slice_get-get_or (front ++ entry ∷ []) (length front) entry within
         ∙ ap (λ found. Some found) (get_or-append_seam front entry [] entry)
 
-    -- the command was entered behind what was seen then
-    handles-done : (front : List Entry) (bytes : List ℕ) → HasSeen seen (record seen { front = front }) [] → (state_at seen.base front).charged + command.charge ≤ 2 ^ 30
-        → bytes ≡ text_of message (answer_of (reply_of (state_at seen.base front) command)) → Handles old new seen (record seen { front = front ++ entry ∷ [] }) message (Catalogue (length front)) (Some bytes)
-    handles-done front bytes more room text_is =
-        let before : state_at seen.base (take (length front) (front ++ entry ∷ [])) ≡ state_at seen.base front = ap (state_at seen.base) (take-append_seam front (entry ∷ [])) in
-        record {
-          turn = record { message = message; moments = moment ∷ []; words = words; case = stepped (length front); answer = bytes };
-          message_is = refl;
-          same = read.same;
-          moments = read.moments;
-          words = read.words_are;
-          kept = read.kept;
-          draws = λ below. omega (arith, read.kept);
-          catalogue = seen-trans entry_number seen (record seen { front = front }) (record seen { front = front ++ entry ∷ [] }) [] (length front ∷ []) more (seen-push entry_number (record seen { front = front }) entry refl);
-          answered = record {
-            plan = plan;
-            moment = moment;
-            entry = entry;
-            read = record { planned = planned; moments = refl; words = drawn };
-            entry_is = refl;
-            there = there front;
-            has_room = subst (λ s. s.charged + plan.charge ≤ 2 ^ 30) (sym before) (subst (λ charge. (state_at seen.base front).charged + charge ≤ 2 ^ 30) (charge-command plan moment (four_words words)) room);
-            answer = text_is ∙ ap (λ s. text_of message (answer_of (reply_of s command))) (sym before);
-          };
-          from = seen-longer seen (record seen { front = front }) [] more;
-          below = omega (arith, length-append front (entry ∷ []));
-          place_is = refl;
-          text_is = refl;
-        }
+    pub reply-there : (front : List Entry) → reply_of (state_at seen.catalogue.base (take (length front) (front ++ entry ∷ []))) command ≡ reply_of (state_at seen.catalogue.base front) command
+    reply-there front = ap (λ front. reply_of (state_at seen.catalogue.base front) command) (take-append_seam front (entry ∷ []))
 
-    -- the run was full
-    handles-full : (charged : ℕ) (bytes : List ℕ) → HasSeen seen after [] → charged ≡ (state_at after.base after.front).charged → 2 ^ 30 < charged + command.charge
-        → bytes ≡ text_of message (answer_of (Refused (refusal.RunFull charged command.charge))) → Handles old new seen after message NoEntry (Some bytes)
-    handles-full charged bytes more charged_is over text_is = record {
-      turn = record { message = message; moments = moment ∷ []; words = words; case = full (length after.front); answer = bytes };
-      message_is = refl;
-      same = read.same;
-      moments = read.moments;
-      words = read.words_are;
-      kept = read.kept;
-      draws = λ below. omega (arith, read.kept);
-      catalogue = more;
-      answered = record {
-        plan = plan;
-        moment = moment;
-        charged = charged;
-        read = record { planned = planned; moments = refl; words = drawn };
-        within = omega arith;
-        charged_is = charged_is ∙ ap (λ front. (state_at after.base front).charged) (sym (take-length after.front));
-        full = subst (λ charge. 2 ^ 30 < charged + charge) (charge-command plan moment (four_words words)) over;
-        answer = text_is ∙ ap (λ charge. text_of message (answer_of (Refused (refusal.RunFull charged charge)))) (charge-command plan moment (four_words words));
-      };
-      from = seen-longer seen after [] more;
-      below = omega arith;
-      place_is = refl;
-      text_is = refl;
+    pub room-there : (front : List Entry) → (state_at seen.catalogue.base front).charged + command.charge ≤ 2 ^ 30
+        → (state_at seen.catalogue.base (take (length front) (front ++ entry ∷ []))).charged + plan.charge ≤ 2 ^ 30
+    room-there front room =
+        subst (λ front. (state_at seen.catalogue.base front).charged + plan.charge ≤ 2 ^ 30) (sym (take-append_seam front (entry ∷ [])))
+        (subst (λ charge. (state_at seen.catalogue.base front).charged + charge ≤ 2 ^ 30) (charge-command plan moment (four_words words)) room)
+
+    -- the command was entered behind what was seen then
+    abbrev pub entered-at : (objects : SeenObjects) (front : List Entry) (case : Case) (answer : List ℕ) → (state_at seen.catalogue.base front).charged + command.charge ≤ 2 ^ 30
+        → IsEnteredAt (record { catalogue = with-entry front; objects = objects }) (turn-as case answer) (length front)
+    entered-at objects front case answer room = record {
+      plan = plan;
+      moment = moment;
+      entry = entry;
+      read = record { planned = planned; moments = refl; words = drawn };
+      entry_is = refl;
+      there = there front;
+      has_room = room-there front room;
     }
 
-    -- what came of the command
-    pub handles-entered : (close head_only : Bool) (place : Place) (text : Option (List ℕ)) → close ≡ closes message.head → head_only ≡ is_head message
-        → IsEntered seen after command close head_only place text → Handles old new seen after message place text
-    handles-entered close head_only (Catalogue place) (Some bytes) closing heading is =
-        let text_is : bytes ≡ text_of message (answer_of (reply_of (state_at seen.base is.before) command)) =
-        is.rendered ∙ ap (λ close. answer_text (framed close head_only (answer_of (reply_of (state_at seen.base is.before) command)))) closing
-        ∙ ap (λ head_only. answer_text (framed (closes message.head) head_only (answer_of (reply_of (state_at seen.base is.before) command)))) heading in
+    pub seen-entry : (front : List Entry) → HasSeen seen.catalogue (record seen.catalogue { front = front }) [] → HasSeen seen.catalogue (with-entry front) (length front ∷ [])
+    seen-entry front more =
+        seen-trans entry_number seen.catalogue (record seen.catalogue { front = front }) (with-entry front) [] (length front ∷ []) more
+        (seen-push entry_number (record seen.catalogue { front = front }) entry refl)
+
+    -- and so it is in order behind what was seen before
+    pub entry-low : (front : List Entry) → HasSeen seen.catalogue (record seen.catalogue { front = front }) [] → length seen.catalogue.front ≤ length front
+    entry-low front more = seen-longer entry_number seen.catalogue (record seen.catalogue { front = front }) [] more
+
+    pub entry-high : (front : List Entry) → length front + 1 ≤ length (front ++ entry ∷ [])
+    entry-high front = omega (arith, length-append front (entry ∷ []))
+
+    -- memory was wanting
+    wanting : (after : Stores) → HasSeen seen.catalogue after.catalogue [] → after.objects ≡ seen.objects → Handles old new seen after message NoEntry None
+    wanting after more same =
+        let none : HasSeenObjects seen.objects after.objects [] = subst (λ objects. HasSeenObjects seen.objects objects []) (sym same) (seen-same object_entry_number seen.objects) in
+        handles-as after without_memory INSUFFICIENT_STORAGE.now None refl refl (seen-nowhere seen after more none)
+        (record { reads = inr (plan, moment, record { planned = planned; moments = refl; words = drawn }); answer = refl })
+        (record {
+          catalogue = (tt, seen-longer entry_number seen.catalogue after.catalogue [] more);
+          objects = (tt, seen-longer object_entry_number seen.objects after.objects [] none);
+        })
+
+    -- the command was entered, and answered by its reply
+    handles-done : (front : List Entry) (bytes : List ℕ) → HasSeen seen.catalogue (record seen.catalogue { front = front }) [] → (state_at seen.catalogue.base front).charged + command.charge ≤ 2 ^ 30
+        → ((verb : Verb) → plan.verb ≡ Some verb → reply_of (state_at seen.catalogue.base front) command ≢ access_allowed)
+        → bytes ≡ text_of message (answer_of (reply_of (state_at seen.catalogue.base front) command)) → Handles old new seen (record seen { catalogue = with-entry front }) message (Catalogue (length front)) (Some bytes)
+    handles-done front bytes more room other text_is =
+        handles-as (record seen { catalogue = with-entry front }) (stepped (length front)) bytes (Some bytes) refl refl
+        (record { catalogue = seen-entry front more; objects = seen-same object_entry_number seen.objects })
+        (record {
+          entered = entered-at seen.objects front (stepped (length front)) bytes room;
+          other = λ verb some. subst (λ reply. reply ≢ access_allowed) (sym (reply-there front)) (other verb some);
+          answer = text_is ∙ ap (λ reply. text_of message (answer_of reply)) (sym (reply-there front));
+        })
+        (record { catalogue = (entry-low front more, entry-high front); objects = (tt, omega arith) })
+
+    -- the run was full
+    handles-full : (after : Seen) (charged : ℕ) (bytes : List ℕ) → HasSeen seen.catalogue after [] → charged ≡ (state_at after.base after.front).charged → 2 ^ 30 < charged + command.charge
+        → bytes ≡ text_of message (answer_of (Refused (refusal.RunFull charged command.charge))) → Handles old new seen (record seen { catalogue = after }) message NoEntry (Some bytes)
+    handles-full after charged bytes more charged_is over text_is =
+        handles-as (record seen { catalogue = after }) (full (length after.front)) bytes (Some bytes) refl refl
+        (record { catalogue = more; objects = seen-same object_entry_number seen.objects })
+        (record {
+          plan = plan;
+          moment = moment;
+          charged = charged;
+          read = record { planned = planned; moments = refl; words = drawn };
+          within = omega arith;
+          charged_is = charged_is ∙ ap (λ front. (state_at after.base front).charged) (sym (take-length after.front));
+          full = subst (λ charge. 2 ^ 30 < charged + charge) (charge-command plan moment (four_words words)) over;
+          answer = text_is ∙ ap (λ charge. text_of message (answer_of (Refused (refusal.RunFull charged charge)))) (charge-command plan moment (four_words words));
+        })
+        (record { catalogue = (seen-longer entry_number seen.catalogue after [] more, omega arith); objects = (tt, omega arith) })
+
+    -- the text of a reply, framed as the message asks
+    framed-as : (close head_only : Bool) (answer : Answer) (text : List ℕ) → close ≡ closes message.head → head_only ≡ is_head message → text ≡ answer_text (framed close head_only answer) → text ≡ text_of message answer
+    framed-as close head_only answer text closing heading is =
+        is ∙ ap (λ close. answer_text (framed close head_only answer)) closing ∙ ap (λ head_only. answer_text (framed (closes message.head) head_only answer)) heading
+
+    -- what came of the command, where the objects stayed as they were
+    pub handles-entered : (Also : Reply → Type 0) (after : Stores) (close head_only : Bool) (place : Place) (text : Option (List ℕ)) → close ≡ closes message.head → head_only ≡ is_head message
+        → ((reply : Reply) → Also reply → (verb : Verb) → plan.verb ≡ Some verb → reply ≢ access_allowed) → after.objects ≡ seen.objects
+        → IsEntered Also seen.catalogue after.catalogue command close head_only place text → Handles old new seen after message place text
+    handles-entered Also after close head_only (Catalogue place) (Some bytes) closing heading other same is =
+        let text_is = framed-as close head_only (answer_of (reply_of (state_at seen.catalogue.base is.before) command)) bytes closing heading is.rendered.1 in
+        let enters = is.enters in
+        let after_is : after ≡ record seen { catalogue = with-entry is.before } = λ i. record { catalogue = enters i; objects = same i } in
         subst (λ place. Handles old new seen after message (Catalogue place) (Some bytes)) (sym is.place_is)
-        (subst (λ after. Handles old new seen after message (Catalogue (length is.before)) (Some bytes)) (sym is.enters) (handles-done is.before bytes is.seen is.has_room text_is))
-    handles-entered close head_only (Catalogue place) None closing heading is = absurd is
-    handles-entered close head_only NoEntry (Some bytes) closing heading (charged, charge, is) =
-        let text_is : bytes ≡ text_of message (answer_of (Refused (refusal.RunFull charged command.charge))) =
-        is.rendered ∙ ap (λ charge. answer_text (framed close head_only (answer_of (Refused (refusal.RunFull charged charge))))) is.charge_is
-        ∙ ap (λ close. answer_text (framed close head_only (answer_of (Refused (refusal.RunFull charged command.charge))))) closing
-        ∙ ap (λ head_only. answer_text (framed (closes message.head) head_only (answer_of (Refused (refusal.RunFull charged command.charge))))) heading in
-        handles-full charged bytes is.seen is.charged_is (subst (λ charge. 2 ^ 30 < charged + charge) is.charge_is is.full) text_is
-    handles-entered close head_only NoEntry None closing heading is = wanting after is drawn
+        (subst (λ after. Handles old new seen after message (Catalogue (length is.before)) (Some bytes)) (sym after_is)
+        (handles-done is.before bytes is.seen is.has_room (λ verb some. other (reply_of (state_at seen.catalogue.base is.before) command) is.rendered.0 verb some) text_is))
+    handles-entered Also after close head_only (Catalogue place) None closing heading other same is = absurd is
+    handles-entered Also after close head_only (Object access place) text closing heading other same is = absurd is
+    handles-entered Also after close head_only NoEntry (Some bytes) closing heading other same (charged, charge, is) =
+        let rendered : bytes ≡ answer_text (framed close head_only (answer_of (Refused (refusal.RunFull charged command.charge)))) =
+        is.rendered.1 ∙ ap (λ charge. answer_text (framed close head_only (answer_of (Refused (refusal.RunFull charged charge))))) is.charge_is in
+        let after_is : after ≡ record seen { catalogue = after.catalogue } = λ i. record { catalogue = after.catalogue; objects = same i } in
+        subst (λ after. Handles old new seen after message NoEntry (Some bytes)) (sym after_is)
+        (handles-full after.catalogue charged bytes is.seen is.charged_is (subst (λ charge. 2 ^ 30 < charged + charge) is.charge_is is.full)
+        (framed-as close head_only (answer_of (Refused (refusal.RunFull charged command.charge))) bytes closing heading rendered))
+    handles-entered Also after close head_only NoEntry None closing heading other same is = wanting after is same

@@ -1,3 +1,5 @@
+pub mod AccessLemmas
+pub mod AlikeLemmas
 pub mod CauseLemmas
 pub mod EndsLemmas
 pub mod GoesLemmas
@@ -5,4 +7,7 @@ pub mod HandleLemmas
 pub mod MovesLemmas
 pub mod OutputLemmas
 pub mod ServeLemmas
+pub mod SpotLemmas
+pub mod StopsLemmas
+pub mod StoresLemmas
 pub mod TurnLemmas

@@ -10,9 +10,9 @@ use Rattle.pol_http.specs.declared.head.HeadRefused.{HeadRefused}
 use Rattle.pol_http.proofs.MessageLemmas.{head_of_message, known_not_refused}
 use Rattle.pol_wire.specs.Faults.{Rises}
 use Rattle.std.proofs.KnownBytes.{Appends-nil}
-use Rattle.pol_shared.specs.Seen.{Seen}
 use Rattle.pol_server.specs.declared.connection.Connection.{Connection}
 use Rattle.pol_server.specs.Ends.{Ends}
+use Rattle.pol_server.specs.declared.stores.Stores.{Stores}
 use Rattle.pol_server.specs.Link.{IsRestWithoutMemory, IsToldBefore, IsUnfinishedRest}
 use Rattle.pol_server.specs.Serving.{GivesAll, ReadsOn, standing, Continues, Finishes, FitsEnding, Goes, Handles, IsToldAsked, Moves, Says, Standing, text_by, told_text}
 use Rattle.pol_server.specs.Turn.{LastCloses, NoneCloses, Turn, output_of, told_before}
@@ -169,7 +169,7 @@ module _ (a b : Standing) (now : Ends) (message : Message) (place : Place) (text
   ]
 
 -- the source gave some bytes, or stopped
-pub reads-on : (before after : Ends) (old new : Connection) (seen : Seen) → ReadsOn before after old new → Continues (standing before seen old) (standing after seen new)
+pub reads-on : (before after : Ends) (old new : Connection) (seen : Stores) → ReadsOn before after old new → Continues (standing before seen old) (standing after seen new)
 reads-on before after old new seen reads = record {
   turns = [];
   taken = reads.taken;

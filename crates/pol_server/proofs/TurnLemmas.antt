@@ -1,15 +1,24 @@
--- Turns in a history that goes on, and turns that follow others.
-use Rattle.std.proofs.Common.{◌≡◌, ◌<◌, ◌≤◌, ◌+◌, ◌^◌, ℕ, List, [], ◌∷◌, ◌++◌, length, take, Some, sym, ap, subst, ◌∙◌, arith, length-append, append_assoc}
-use Rattle.std.specs.Prelude.{slice_get}
+-- Turns in histories that go on, and turns that follow others.
+use Rattle.std.proofs.Common.{◌≡◌, ◌≢◌, ◌<◌, ◌≤◌, ◌+◌, ◌^◌, ℕ, List, [], ◌∷◌, ◌++◌, length, take, Some, sym, ap, subst, ◌∙◌, arith, length-append, append_assoc}
+use Rattle.std.specs.Prelude.{false, slice_get}
 use Rattle.std.specs.List.{AllByRecursion}
 use Rattle.std.proofs.lemmas.List.{take-append-le, get_or_append_left}
 use Rattle.std.proofs.lemmas.Option.{slice_get_within, slice_get-get_or}
 use Rattle.pol_machine.specs.Machine.{reply_of}
-use Rattle.pol_state.specs.Rows.{Rows}
 use Rattle.pol_answers.specs.Texts.{answer_of}
+use Rattle.pol_objects.specs.Machine.{object_reply}
+use Rattle.pol_object_answers.specs.ObjectAnswers.{object_answer_of}
+use Rattle.pol_object_store.specs.ObjectHistory.{object_state_at}
+use Rattle.pol_object_store.specs.declared.entry.ObjectEntry.{ObjectEntry}
+use Rattle.pol_shared.specs.Accessed.{access_allowed}
 use Rattle.pol_shared.specs.History.{state_at}
 use Rattle.pol_shared.specs.declared.entry.Entry.{Entry}
-use Rattle.pol_server.specs.Turn.{AnsweredAs, Case, IsAnswered, IsFrom, IsFullAt, IsOrdered, IsStepped, LastCloses, NoneCloses, Turn, failed_draws, full, low_after, stepped, text_of, undrawn, unplanned, without_memory}
+use Rattle.pol_server.specs.Actions.{tells_change}
+use Rattle.pol_server.specs.Stores.{HasSeenBoth}
+use Rattle.pol_server.specs.Turn.{AnsweredAs, AreOrdered, Case, IsActed, IsAllowedAt, IsAnswered, IsDoneAt, IsEnteredAt, IsFrom, IsFullAt, IsOrdered, IsStepped, IsUnacted, IsUntold, LastCloses, NoneCloses, Spot, Turn, acted, behind, catalogue_spot, entry_at, failed_draws, full, low_after, nowhere, object_spot, stepped, text_of, unacted, undrawn, unplanned, untold, without_memory}
+use Rattle.pol_server.specs.declared.served.Place.{Place}
+use Rattle.pol_server.specs.declared.stores.Stores.{Stores}
+use Rattle.pol_server.proofs.StoresLemmas.{both-grow, both-grown}
 
 -- what holds of each of two lists holds of each of both
 pub each-append : {X : Type 0} (P : X → Type 0) (xs ys : List X) → AllByRecursion P xs → AllByRecursion P ys → AllByRecursion P (xs ++ ys)
@@ -20,9 +29,9 @@ pub each-weaken : {X : Type 0} (P Q : X → Type 0) (xs : List X) → ((x : X) �
 each-weaken P Q [] weaker each = tt
 each-weaken P Q (x ∷ xs) weaker each = (weaker x each.0, each-weaken P Q xs weaker each.1)
 
-module _ (base : Rows) (number : ℕ) (history more : List Entry) where
+module _ {X : Type 0} (history more : List X) where
   -- an entry stays where it is, and so does what stands before it
-  there-longer : (place : ℕ) (entry : Entry) → slice_get history place ≡ Some entry → slice_get (history ++ more) place ≡ Some entry
+  there-longer : (place : ℕ) (entry : X) → slice_get history place ≡ Some entry → slice_get (history ++ more) place ≡ Some entry
   there-longer place entry there =
       let within : place < length history = slice_get_within history place entry there in
       let longer : place < length (history ++ more) = omega (arith, length-append history more) in
@@ -30,75 +39,138 @@ module _ (base : Rows) (number : ℕ) (history more : List Entry) where
       ∙ ap (λ found. Some found) (get_or_append_left history more entry place within)
       ∙ sym (slice_get-get_or history place entry within) ∙ there
 
-  before-longer : (count : ℕ) → count ≤ length history → take count (history ++ more) ≡ take count history
-  before-longer count within = take-append-le count history more within
+  before-entry : (place : ℕ) (entry : X) → slice_get history place ≡ Some entry → take place (history ++ more) ≡ take place history
+  before-entry place entry there =
+      let within : place < length history = slice_get_within history place entry there in
+      take-append-le place history more (omega (arith, within))
 
-  stepped-longer : (turn : Turn) (place : ℕ) → IsStepped base number history turn place → IsStepped base number (history ++ more) turn place
-  stepped-longer turn place is =
-      let within : place < length history = slice_get_within history place is.entry is.there in
-      let same : take place (history ++ more) ≡ take place history = before-longer place (omega arith) in
+module _ (seen : Stores) (more : List Entry) (later : List ObjectEntry) where
+  abbrev longer : Stores
+  longer = both-grown seen more later
+
+  abbrev entered-longer : (turn : Turn) (place : ℕ) → IsEnteredAt seen turn place → IsEnteredAt longer turn place
+  entered-longer turn place is =
+      let same : take place (seen.catalogue.front ++ more) ≡ take place seen.catalogue.front = before-entry seen.catalogue.front more place is.entry is.there in
       record {
         plan = is.plan;
         moment = is.moment;
         entry = is.entry;
         read = is.read;
         entry_is = is.entry_is;
-        there = there-longer place is.entry is.there;
-        has_room = subst (λ front. (state_at base front).charged + is.plan.charge ≤ 2 ^ 30) (sym same) is.has_room;
-        answer = is.answer ∙ ap (λ front. text_of turn.message (answer_of (reply_of (state_at base front) is.entry.command))) (sym same);
+        there = there-longer seen.catalogue.front more place is.entry is.there;
+        has_room = subst (λ front. (state_at seen.catalogue.base front).charged + is.plan.charge ≤ 2 ^ 30) (sym same) is.has_room;
       }
 
-  full-longer : (turn : Turn) (count : ℕ) → IsFullAt base number history turn count → IsFullAt base number (history ++ more) turn count
+  stepped-longer : (turn : Turn) (place : ℕ) → IsStepped seen turn place → IsStepped longer turn place
+  stepped-longer turn place is =
+      let same : take place (seen.catalogue.front ++ more) ≡ take place seen.catalogue.front = before-entry seen.catalogue.front more place is.entered.entry is.entered.there in
+      record {
+        entered = entered-longer turn place is.entered;
+        other = λ verb some. subst (λ front. reply_of (state_at seen.catalogue.base front) is.entered.entry.command ≢ access_allowed) (sym same) (is.other verb some);
+        answer = is.answer ∙ ap (λ front. text_of turn.message (answer_of (reply_of (state_at seen.catalogue.base front) is.entered.entry.command))) (sym same);
+      }
+
+  full-longer : (turn : Turn) (count : ℕ) → IsFullAt seen turn count → IsFullAt longer turn count
   full-longer turn count is =
-      let same : take count (history ++ more) ≡ take count history = before-longer count is.within in
+      let same : take count (seen.catalogue.front ++ more) ≡ take count seen.catalogue.front = take-append-le count seen.catalogue.front more is.within in
       record {
         plan = is.plan;
         moment = is.moment;
         charged = is.charged;
         read = is.read;
-        within = omega (arith, is.within, length-append history more);
-        charged_is = is.charged_is ∙ ap (λ front. (state_at base front).charged) (sym same);
+        within = omega (arith, is.within, length-append seen.catalogue.front more);
+        charged_is = is.charged_is ∙ ap (λ front. (state_at seen.catalogue.base front).charged) (sym same);
         full = is.full;
         answer = is.answer;
       }
 
-  answered-by : (case : Case) (turn : Turn) → AnsweredAs base number history case turn → AnsweredAs base number (history ++ more) case turn
+  abbrev allowed-longer : (turn : Turn) (access : ℕ) → IsAllowedAt seen turn access → IsAllowedAt longer turn access
+  allowed-longer turn access is =
+      let same : take access (seen.catalogue.front ++ more) ≡ take access seen.catalogue.front = before-entry seen.catalogue.front more access is.entered.entry is.entered.there in
+      record {
+        entered = entered-longer turn access is.entered;
+        verb = is.verb;
+        path = is.path;
+        verb_is = is.verb_is;
+        asked = is.asked;
+        allowed = ap (λ front. reply_of (state_at seen.catalogue.base front) is.entered.entry.command) same ∙ is.allowed;
+      }
+
+  abbrev done-longer : (turn : Turn) (access entry : ℕ) → IsDoneAt seen turn access entry → IsDoneAt longer turn access entry
+  done-longer turn access entry is = record {
+    allowed = allowed-longer turn access is.allowed;
+    action = is.action;
+    action_is = is.action_is;
+    there = there-longer seen.objects.front later entry _ is.there;
+  }
+
+  objects-before : (turn : Turn) (access entry : ℕ) → IsDoneAt seen turn access entry → take entry (seen.objects.front ++ later) ≡ take entry seen.objects.front
+  objects-before turn access entry is = before-entry seen.objects.front later entry _ is.there
+
+  acted-longer : (turn : Turn) (access entry : ℕ) → IsActed seen turn access entry → IsActed longer turn access entry
+  acted-longer turn access entry is = record {
+    done = done-longer turn access entry is.done;
+    answer = is.answer ∙ ap (λ front. text_of turn.message (object_answer_of (object_reply (object_state_at seen.objects.base front) is.done.action))) (sym (objects-before turn access entry is.done));
+  }
+
+  untold-longer : (turn : Turn) (access entry : ℕ) → IsUntold seen turn access entry → IsUntold longer turn access entry
+  untold-longer turn access entry is = record {
+    done = done-longer turn access entry is.done;
+    unchanged = subst (λ front. tells_change (object_reply (object_state_at seen.objects.base front) is.done.action) ≡ false) (sym (objects-before turn access entry is.done)) is.unchanged;
+    answer = is.answer;
+  }
+
+  unacted-longer : (turn : Turn) (access : ℕ) → IsUnacted seen turn access → IsUnacted longer turn access
+  unacted-longer turn access is = record { allowed = allowed-longer turn access is.allowed; answer = is.answer }
+
+  answered-by : (case : Case) (turn : Turn) → AnsweredAs seen case turn → AnsweredAs longer case turn
   answered-by unplanned turn is = is
   answered-by undrawn turn is = is
   answered-by (stepped place) turn is = stepped-longer turn place is
   answered-by (full count) turn is = full-longer turn count is
+  answered-by (acted access entry) turn is = acted-longer turn access entry is
+  answered-by (untold access entry) turn is = untold-longer turn access entry is
+  answered-by (unacted access) turn is = unacted-longer turn access is
   answered-by without_memory turn is = is
 
-  -- a turn that was answered stays so while the history goes on
-  pub answered-longer : (turns : List Turn) → AllByRecursion (IsAnswered base number history) turns → AllByRecursion (IsAnswered base number (history ++ more)) turns
+  answered-longer : (turns : List Turn) → AllByRecursion (IsAnswered seen) turns → AllByRecursion (IsAnswered longer) turns
   answered-longer turns answered =
-      each-weaken (IsAnswered base number history) (IsAnswered base number (history ++ more)) turns (λ turn is. answered-by turn.case turn is) answered
+      each-weaken (IsAnswered seen) (IsAnswered longer) turns (λ turn is. answered-by turn.case turn is) answered
+
+-- a turn that was answered stays so while the histories go on
+pub answered-later : (old new : Stores) (places : List Place) (turns : List Turn) → HasSeenBoth old new places → AllByRecursion (IsAnswered old) turns → AllByRecursion (IsAnswered new) turns
+answered-later old new places turns seen answered =
+    subst (λ new. AllByRecursion (IsAnswered new) turns) (sym (both-grow old new places seen)) (answered-longer old seen.catalogue.front.0 seen.objects.front.0 turns answered)
 
 -- turns that follow others
-low_after-later : (low high : ℕ) (case : Case) → low ≤ high → low_after low case ≤ low_after high case
-low_after-later low high unplanned within = within
-low_after-later low high undrawn within = within
-low_after-later low high (stepped place) within = omega arith
-low_after-later low high (full count) within = omega arith
-low_after-later low high without_memory within = within
+low_after-later : (low high : ℕ) (spot : Spot) → low ≤ high → low_after low spot ≤ low_after high spot
+low_after-later low high nowhere within = within
+low_after-later low high (entry_at place) within = omega arith
+low_after-later low high (behind count) within = omega arith
 
-from-earlier : (low high : ℕ) (case : Case) → low ≤ high → IsFrom high case → IsFrom low case
-from-earlier low high unplanned within from = tt
-from-earlier low high undrawn within from = tt
-from-earlier low high (stepped place) within from = omega (arith, within, from)
-from-earlier low high (full count) within from = omega (arith, within, from)
-from-earlier low high without_memory within from = tt
+from-earlier : (low high : ℕ) (spot : Spot) → low ≤ high → IsFrom high spot → IsFrom low spot
+from-earlier low high nowhere within from = tt
+from-earlier low high (entry_at place) within from = omega (arith, within, from)
+from-earlier low high (behind count) within from = omega (arith, within, from)
 
-pub ordered-earlier : (low later : ℕ) (turns : List Turn) (high : ℕ) → low ≤ later → IsOrdered later turns high → IsOrdered low turns high
-ordered-earlier low later [] high within ordered = omega (arith, within, ordered)
-ordered-earlier low later (turn ∷ turns) high within ordered = (
-  from-earlier low later turn.case within ordered.0,
-  ordered-earlier (low_after low turn.case) (low_after later turn.case) turns high (low_after-later low later turn.case within) ordered.1,
-)
+module _ (spot : Case → Spot) where
+  ordered-earlier : (low later : ℕ) (turns : List Turn) (high : ℕ) → low ≤ later → IsOrdered spot later turns high → IsOrdered spot low turns high
+  ordered-earlier low later [] high within ordered = omega (arith, within, ordered)
+  ordered-earlier low later (turn ∷ turns) high within ordered = (
+    from-earlier low later (spot turn.case) within ordered.0,
+    ordered-earlier (low_after low (spot turn.case)) (low_after later (spot turn.case)) turns high (low_after-later low later (spot turn.case) within) ordered.1,
+  )
 
-pub ordered-append : (low : ℕ) (turns others : List Turn) (middle high : ℕ) → IsOrdered low turns middle → IsOrdered middle others high → IsOrdered low (turns ++ others) high
-ordered-append low [] others middle high first second = ordered-earlier low middle others high first second
-ordered-append low (turn ∷ turns) others middle high first second = (first.0, ordered-append (low_after low turn.case) turns others middle high first.1 second)
+  ordered-append : (low : ℕ) (turns others : List Turn) (middle high : ℕ) → IsOrdered spot low turns middle → IsOrdered spot middle others high → IsOrdered spot low (turns ++ others) high
+  ordered-append low [] others middle high first second = ordered-earlier low middle others high first second
+  ordered-append low (turn ∷ turns) others middle high first second =
+      (first.0, ordered-append (low_after low (spot turn.case)) turns others middle high first.1 second)
+
+pub both-ordered : (a b c : Stores) (turns others : List Turn) → AreOrdered a b turns → AreOrdered b c others → AreOrdered a c (turns ++ others)
+both-ordered a b c turns others first second = record {
+  catalogue = ordered-append catalogue_spot (length a.catalogue.front) turns others (length b.catalogue.front) (length c.catalogue.front) first.catalogue second.catalogue;
+  objects = ordered-append object_spot (length a.objects.front) turns others (length b.objects.front) (length c.objects.front) first.objects second.objects;
+}
 
 pub failed_draws-append : (turns others : List Turn) → failed_draws (turns ++ others) ≡ failed_draws turns + failed_draws others
 failed_draws-append [] others = omega arith

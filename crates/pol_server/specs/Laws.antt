@@ -1,13 +1,14 @@
 -- Laws of served links.
 use Rattle.std.specs.Prelude.{◌≡◌, ◌≢◌, ◌<◌, ◌≤◌, ◌-◌, ◌^◌, ⊤, ℕ, List, [], length, Some}
 use Rattle.std.specs.List.{AllByRecursion}
-use Rattle.pol_shared.specs.Seen.{GoesOnAlone, Seen}
 use Rattle.pol_server.specs.Ends.{Ends}
 use Rattle.pol_server.specs.Link.{ServesLink, taken_bound}
-use Rattle.pol_server.specs.Turn.{Case, Turn, full, stepped, undrawn, unplanned, without_memory}
+use Rattle.pol_server.specs.Stores.{BothGoOnAlone}
+use Rattle.pol_server.specs.Turn.{Case, Turn, acted, full, stepped, unacted, undrawn, unplanned, untold, without_memory}
 use Rattle.pol_server.specs.declared.served.Ending.{Ending}
 use Rattle.pol_server.specs.declared.served.Ending.TheVariants.{Ended, Cut, Closed, ReadFault, WriteFault, Spent, NoMemory}
 use Rattle.pol_server.specs.declared.served.Served.{Served}
+use Rattle.pol_server.specs.declared.stores.Stores.{Stores}
 
 -- a count of faults that did not rise, and stands below its last value
 pub record HasNoFault (before after : ℕ) : Type 0 where
@@ -34,7 +35,7 @@ NeedsNoFault NoMemory = ⊤
 -- message has its words, and all that was to be written was given
 abbrev pub FaultsHaveCauses : Type 0
 FaultsHaveCauses =
-    (before after : Ends) (old new : Seen) (served : Served)
+    (before after : Ends) (old new : Stores) (served : Served)
     → (link : ServesLink before after old new served) → NoEndFails before after → length link.taken < taken_bound
     → NeedsNoFault served.ending × AllByRecursion (λ turn. turn.case ≢ undrawn) link.turns × (link.missing ≡ [])
 
@@ -63,6 +64,9 @@ IsUnhindered unplanned = ⊤
 IsUnhindered undrawn = ⊥
 IsUnhindered (stepped place) = ⊤
 IsUnhindered (full count) = ⊤
+IsUnhindered (acted access entry) = ⊤
+IsUnhindered (untold access entry) = ⊥
+IsUnhindered (unacted access) = ⊥
 IsUnhindered without_memory = ⊥
 
 -- neither was the link's end nor a turn of it owed to a fault or to want of memory
@@ -70,13 +74,13 @@ pub record IsServedByInput (ending : Ending) (turns : List Turn) : Type 0 where
   pub by_input : IsByInput ending
   pub unhindered : AllByRecursion (λ turn. IsUnhindered turn.case) turns
 
--- where nobody else enters anything, what is given, the places, the ending and the history follow from what the pass has
--- seen before, and from the bytes, moments and words that come
+-- where nobody else enters anything, what is given, the places, the ending and both histories follow from what was seen
+-- before, and from the bytes, moments and words that come
 abbrev pub OneOutput : Type 0
 OneOutput =
-    (before after other_after : Ends) (old new other_new : Seen) (served other_served : Served)
+    (before after other_after : Ends) (old new other_new : Stores) (served other_served : Served)
     → (link : ServesLink before after old new served)
     → (other : ServesLink before other_after old other_new other_served)
-    → GoesOnAlone old.number old.front new.front → GoesOnAlone old.number old.front other_new.front
+    → BothGoOnAlone old new → BothGoOnAlone old other_new
     → IsKnown before → IsServedByInput served.ending link.turns → IsServedByInput other_served.ending other.turns
     → (link.given ≡ other.given) × (served.places ≡ other_served.places) × (served.ending ≡ other_served.ending) × (new ≡ other_new)

@@ -7,14 +7,15 @@ use Rattle.pol_http.specs.Message.{HasAskingHead, HasNoMessage, IsMessage, IsNot
 use Rattle.pol_http.specs.declared.answer.TheConstants.{CONTINUE, INSUFFICIENT_STORAGE}
 use Rattle.pol_http.specs.declared.head.HeadRefused.{HeadRefused}
 use Rattle.pol_answers.specs.Texts.{head_refused_answer}
-use Rattle.pol_shared.specs.Seen.{HasSeen, Seen}
 use Rattle.pol_wire.specs.Faults.{Rises}
 use Rattle.pol_wire.specs.Streams.{IsShifted}
 use Rattle.pol_server.specs.Ends.{Ends}
-use Rattle.pol_server.specs.Turn.{Turn, IsAnswered, IsOrdered, LastCloses, NoneCloses, catalogue_places, failed_draws, framed, output_of, place_of}
+use Rattle.pol_server.specs.Stores.{HasSeenBoth}
+use Rattle.pol_server.specs.Turn.{Turn, AreOrdered, IsAnswered, LastCloses, NoneCloses, failed_draws, framed, output_of, place_of}
 use Rattle.pol_server.specs.declared.served.Ending.{Ending}
 use Rattle.pol_server.specs.declared.served.Ending.TheVariants.{Ended, Cut, Closed, ReadFault, WriteFault, Spent, NoMemory}
 use Rattle.pol_server.specs.declared.served.Served.{Served}
+use Rattle.pol_server.specs.declared.stores.Stores.{Stores}
 
 -- the most bytes that are taken from a link
 abbrev pub taken_bound : ℕ
@@ -76,8 +77,9 @@ EndsLastText turns text missing =
     EndsWith text missing
     ⊎ ((text ≡ []) × (front : List Turn) × (last : Turn) × (turns ≡ front ++ last ∷ []) × EndsWith last.answer missing)
 
--- a link that a pass served: its ends and what the pass has seen of the catalogue, before and after, and what was answered
-pub record ServesLink (before after : Ends) (old new : Seen) (served : Served) : Type 0 where
+-- a link that was served: its ends and what is seen of the catalogue and the objects, before and after, and what was
+-- answered
+pub record ServesLink (before after : Ends) (old new : Stores) (served : Served) : Type 0 where
   -- one turn for each message that was handled; the bytes that were taken, and those behind the messages; the text
   -- of the ending; the bytes that were given, and those that a failed write left out
   pub turns : List Turn
@@ -94,9 +96,9 @@ pub record ServesLink (before after : Ends) (old new : Seen) (served : Served) :
   pub words : IsShifted before.words after.words (flat_map (λ turn. turn.words) turns)
   pub draws : after.draw_faults < 2 ^ 64 - 1 → before.draw_faults + failed_draws turns ≤ after.draw_faults
   pub places : served.places ≡ map place_of turns
-  pub catalogue : HasSeen old new (catalogue_places served.places)
-  pub answered : AllByRecursion (IsAnswered new.base new.number new.front) turns
-  pub ordered : IsOrdered (length old.front) turns (length new.front)
+  pub stores : HasSeenBoth old new served.places
+  pub answered : AllByRecursion (IsAnswered new) turns
+  pub ordered : AreOrdered old new turns
   pub gives : Appends before.given after.given given
   pub output : given ++ missing ≡ flat_map output_of turns ++ text
   pub complete : served.ending ≢ WriteFault → missing ≡ []

@@ -1,6 +1,6 @@
 -- Turns of a served link: one for each message that was handled, with what was read for it and how it was answered.
-use Rattle.std.specs.Prelude.{◌≡◌, ◌<◌, ◌≤◌, ◌+◌, ◌^◌, ◌⊎◌, ⊤, ℕ, Bool, true, false, List, [], ◌∷◌, ◌++◌, length, take, slice_get, slice_index, Some, Ok, Err, codes, if◌then◌else◌}
-use Rattle.std.specs.List.{AllByRecursion, flat_map}
+use Rattle.std.specs.Prelude.{◌≡◌, ◌≢◌, ◌<◌, ◌≤◌, ◌+◌, ◌^◌, ◌⊎◌, ⊤, ℕ, Bool, true, false, List, [], ◌∷◌, ◌++◌, length, take, slice_get, slice_index, Some, Ok, Err, codes, if◌then◌else◌}
+use Rattle.std.specs.List.{AllByRecursion}
 use Rattle.std.specs.Str.{bytes_eq}
 use Rattle.pol_http.specs.Answer.{answer_text}
 use Rattle.pol_http.specs.Head.{asks, closes}
@@ -8,18 +8,30 @@ use Rattle.pol_http.specs.Message.{Message}
 use Rattle.pol_http.specs.declared.answer.Answer.{Answer}
 use Rattle.pol_http.specs.declared.answer.TheConstants.{CONTINUE, INSUFFICIENT_STORAGE}
 use Rattle.pol_machine.specs.Machine.{reply_of}
-use Rattle.pol_state.specs.Rows.{Rows}
+use Rattle.pol_commands.specs.declared.command.Action.TheVariants.{Access}
+use Rattle.pol_commands.specs.declared.command.Command.{Command}
 use Rattle.pol_commands.specs.declared.command.Words4.{Words4}
 use Rattle.pol_commands.specs.declared.reply.Refusal.TheVariants as refusal
+use Rattle.pol_commands.specs.declared.reply.Reply.{Reply}
 use Rattle.pol_commands.specs.declared.reply.Reply.TheVariants.{Refused}
 use Rattle.pol_requests.specs.declared.refused.RouteRefused.{RouteRefused}
 use Rattle.pol_answers.specs.Texts.{answer_of, refusal_answer, draw_fault_answer}
+use Rattle.pol_objects.specs.Machine.{object_reply}
+use Rattle.pol_objects.specs.declared.action.ObjectAction.{ObjectAction}
+use Rattle.pol_objects.specs.declared.reply.ObjectReply.{ObjectReply}
+use Rattle.pol_object_answers.specs.ObjectAnswers.{object_answer_of}
+use Rattle.pol_object_store.specs.ObjectHistory.{object_state_at}
 use Rattle.pol_routes.specs.Plan.{plan_of, command_of}
+use Rattle.pol_routes.specs.Verbs.{verb_act}
 use Rattle.pol_routes.specs.declared.plans.Planned.{Planned}
+use Rattle.pol_routes.specs.declared.verb.Verb.{Verb}
+use Rattle.pol_shared.specs.Accessed.{access_allowed}
 use Rattle.pol_shared.specs.History.{state_at}
 use Rattle.pol_shared.specs.declared.entry.Entry.{Entry}
+use Rattle.pol_server.specs.Actions.{action_by, tells_change}
 use Rattle.pol_server.specs.declared.served.Place.{Place}
-use Rattle.pol_server.specs.declared.served.Place.TheVariants.{Catalogue, NoEntry}
+use Rattle.pol_server.specs.declared.served.Place.TheVariants.{Catalogue, Object, NoEntry}
+use Rattle.pol_server.specs.declared.stores.Stores.{Stores}
 
 -- how a message was answered
 pub data Case : Type 0 where
@@ -27,11 +39,18 @@ pub data Case : Type 0 where
   unplanned : Case
   -- a word for it could not be drawn
   undrawn : Case
-  -- by the reply at this place of the history
+  -- by the reply at this place of the catalogue's history
   stepped : ℕ → Case
-  -- the run was full after so many entries
+  -- the run was full after so many entries of it
   full : ℕ → Case
-  -- memory was wanting
+  -- an access at the first place, of the catalogue's history, was allowed: by the reply to the action at the second place,
+  -- of the objects' history
+  acted : ℕ → ℕ → Case
+  -- the same, and memory was wanting for the answer
+  untold : ℕ → ℕ → Case
+  -- the access at this place was allowed, and memory was wanting for the action, which wasn't entered
+  unacted : ℕ → Case
+  -- memory was wanting, and nothing was entered
   without_memory : Case
 
 -- a message with the moments and words that were read for it, how it was answered, and the bytes of its answer
@@ -87,18 +106,27 @@ pub record IsWithoutMemory (turn : Turn) : Type 0 where
       ⊎ ((plan : Planned) × (moment : ℕ) × IsRead turn plan moment)
   pub answer : turn.answer ≡ INSUFFICIENT_STORAGE.now
 
--- in a history from a first state, where the pass of this number serves the link
-module _ (base : Rows) (number : ℕ) (history : List Entry) where
-  -- the entry of this place is the message's command, and the answer is the reply to it there
-  pub record IsStepped (turn : Turn) (place : ℕ) : Type 0 where
+-- the pass of the catalogue and that of the objects, with what they have seen
+module _ (seen : Stores) where
+  -- the reply to a command at a place of the catalogue's history
+  abbrev pub reply_at : ℕ → Command → Reply
+  reply_at place command = reply_of (state_at seen.catalogue.base (take place seen.catalogue.front)) command
+
+  -- the command of a turn's plan stands at this place of the catalogue's history, and the run wasn't full there
+  pub record IsEnteredAt (turn : Turn) (place : ℕ) : Type 0 where
     pub plan : Planned
     pub moment : ℕ
     pub entry : Entry
     pub read : IsRead turn plan moment
-    pub entry_is : entry ≡ record { number = number; command = command_of plan moment (four_words turn.words) }
-    pub there : slice_get history place ≡ Some entry
-    pub has_room : (state_at base (take place history)).charged + plan.charge ≤ 2 ^ 30
-    pub answer : turn.answer ≡ text_of turn.message (answer_of (reply_of (state_at base (take place history)) entry.command))
+    pub entry_is : entry ≡ record { number = seen.catalogue.number; command = command_of plan moment (four_words turn.words) }
+    pub there : slice_get seen.catalogue.front place ≡ Some entry
+    pub has_room : (state_at seen.catalogue.base (take place seen.catalogue.front)).charged + plan.charge ≤ 2 ^ 30
+
+  -- the answer is the reply to the command at its place, which allows no access where the request is for objects
+  pub record IsStepped (turn : Turn) (place : ℕ) : Type 0 where
+    pub entered : IsEnteredAt turn place
+    pub other : (verb : Verb) → entered.plan.verb ≡ Some verb → reply_at place entered.entry.command ≢ access_allowed
+    pub answer : turn.answer ≡ text_of turn.message (answer_of (reply_at place entered.entry.command))
 
   -- after so many entries the charges of the run and the message's charge are above 2^30 together
   pub record IsFullAt (turn : Turn) (count : ℕ) : Type 0 where
@@ -106,10 +134,46 @@ module _ (base : Rows) (number : ℕ) (history : List Entry) where
     pub moment : ℕ
     pub charged : ℕ
     pub read : IsRead turn plan moment
-    pub within : count ≤ length history
-    pub charged_is : charged ≡ (state_at base (take count history)).charged
+    pub within : count ≤ length seen.catalogue.front
+    pub charged_is : charged ≡ (state_at seen.catalogue.base (take count seen.catalogue.front)).charged
     pub full : 2 ^ 30 < charged + plan.charge
     pub answer : turn.answer ≡ text_of turn.message (answer_of (Refused (refusal.RunFull charged plan.charge)))
+
+  -- the request is for objects, and its access at this place was allowed
+  pub record IsAllowedAt (turn : Turn) (access : ℕ) : Type 0 where
+    pub entered : IsEnteredAt turn access
+    pub verb : Verb
+    pub path : List (List ℕ)
+    pub verb_is : entered.plan.verb ≡ Some verb
+    pub asked : entered.plan.action ≡ Access path (verb_act verb)
+    pub allowed : reply_at access entered.entry.command ≡ access_allowed
+
+  -- and its action stands at this place of the objects' history, which names that access
+  pub record IsDoneAt (turn : Turn) (access entry : ℕ) : Type 0 where
+    pub allowed : IsAllowedAt turn access
+    pub action : ObjectAction
+    pub action_is : action ≡ action_by allowed.verb allowed.path turn.message.body
+    pub there : slice_get seen.objects.front entry ≡ Some (record { number = seen.objects.number; access = access; action = action })
+
+  -- the reply to an action at a place of the objects' history
+  abbrev pub object_reply_at : ℕ → ObjectAction → ObjectReply
+  object_reply_at entry action = object_reply (object_state_at seen.objects.base (take entry seen.objects.front)) action
+
+  -- the answer is the reply to the action at its place
+  pub record IsActed (turn : Turn) (access entry : ℕ) : Type 0 where
+    pub done : IsDoneAt turn access entry
+    pub answer : turn.answer ≡ text_of turn.message (object_answer_of (object_reply_at entry done.action))
+
+  -- memory was wanting for the answer, whose reply tells no change of the objects
+  pub record IsUntold (turn : Turn) (access entry : ℕ) : Type 0 where
+    pub done : IsDoneAt turn access entry
+    pub unchanged : tells_change (object_reply_at entry done.action) ≡ false
+    pub answer : turn.answer ≡ INSUFFICIENT_STORAGE.now
+
+  -- memory was wanting for the action, and it was not entered
+  pub record IsUnacted (turn : Turn) (access : ℕ) : Type 0 where
+    pub allowed : IsAllowedAt turn access
+    pub answer : turn.answer ≡ INSUFFICIENT_STORAGE.now
 
   -- the turn is as its case says
   abbrev pub AnsweredAs : Case → Turn → Type 0
@@ -117,6 +181,9 @@ module _ (base : Rows) (number : ℕ) (history : List Entry) where
   AnsweredAs undrawn turn = IsUndrawn turn
   AnsweredAs (stepped place) turn = IsStepped turn place
   AnsweredAs (full count) turn = IsFullAt turn count
+  AnsweredAs (acted access entry) turn = IsActed turn access entry
+  AnsweredAs (untold access entry) turn = IsUntold turn access entry
+  AnsweredAs (unacted access) turn = IsUnacted turn access
   AnsweredAs without_memory turn = IsWithoutMemory turn
 
   abbrev pub IsAnswered : Turn → Type 0
@@ -128,39 +195,63 @@ place_by unplanned = NoEntry
 place_by undrawn = NoEntry
 place_by (stepped place) = Catalogue place
 place_by (full count) = NoEntry
+place_by (acted access entry) = Object access entry
+place_by (untold access entry) = Object access entry
+place_by (unacted access) = Catalogue access
 place_by without_memory = NoEntry
 
 abbrev pub place_of : Turn → Place
 place_of turn = place_by turn.case
 
--- the places of the catalogue's history among these
-abbrev pub catalogue_place : Place → List ℕ
-catalogue_place (Catalogue place) = place ∷ []
-catalogue_place NoEntry = []
+-- where a case stands in one history: nowhere, at the place of an entry, or behind so many entries
+pub data Spot : Type 0 where
+  nowhere : Spot
+  entry_at : ℕ → Spot
+  behind : ℕ → Spot
 
-abbrev pub catalogue_places : List Place → List ℕ
-catalogue_places places = flat_map catalogue_place places
+-- in the catalogue's history
+abbrev pub catalogue_spot : Case → Spot
+catalogue_spot unplanned = nowhere
+catalogue_spot undrawn = nowhere
+catalogue_spot (stepped place) = entry_at place
+catalogue_spot (full count) = behind count
+catalogue_spot (acted access entry) = entry_at access
+catalogue_spot (untold access entry) = entry_at access
+catalogue_spot (unacted access) = entry_at access
+catalogue_spot without_memory = nowhere
 
--- the number of a case is not below the earlier ones
-abbrev pub IsFrom : ℕ → Case → Type 0
-IsFrom low unplanned = ⊤
-IsFrom low undrawn = ⊤
-IsFrom low (stepped place) = low ≤ place
-IsFrom low (full count) = low ≤ count
-IsFrom low without_memory = ⊤
+-- in the objects' history
+abbrev pub object_spot : Case → Spot
+object_spot unplanned = nowhere
+object_spot undrawn = nowhere
+object_spot (stepped place) = nowhere
+object_spot (full count) = nowhere
+object_spot (acted access entry) = entry_at entry
+object_spot (untold access entry) = entry_at entry
+object_spot (unacted access) = nowhere
+object_spot without_memory = nowhere
 
--- what the numbers of later cases are not below
-abbrev pub low_after : ℕ → Case → ℕ
-low_after low unplanned = low
-low_after low undrawn = low
-low_after low (stepped place) = place + 1
-low_after low (full count) = count
-low_after low without_memory = low
+-- the number of a spot is not below the earlier ones
+abbrev pub IsFrom : ℕ → Spot → Type 0
+IsFrom low nowhere = ⊤
+IsFrom low (entry_at place) = low ≤ place
+IsFrom low (behind count) = low ≤ count
 
--- places rise, and each number is above the earlier places and not above the later ones
-abbrev pub IsOrdered : ℕ → List Turn → ℕ → Type 0
-IsOrdered low [] high = low ≤ high
-IsOrdered low (turn ∷ turns) high = IsFrom low turn.case × IsOrdered (low_after low turn.case) turns high
+-- what the numbers of later spots are not below
+abbrev pub low_after : ℕ → Spot → ℕ
+low_after low nowhere = low
+low_after low (entry_at place) = place + 1
+low_after low (behind count) = count
+
+-- in one history places rise, and each number is above the earlier places and not above the later ones
+abbrev pub IsOrdered : (Case → Spot) → ℕ → List Turn → ℕ → Type 0
+IsOrdered spot low [] high = low ≤ high
+IsOrdered spot low (turn ∷ turns) high = IsFrom low (spot turn.case) × IsOrdered spot (low_after low (spot turn.case)) turns high
+
+-- so it is in both, behind what was seen before: accesses rise, and so do the actions that they allow
+pub record AreOrdered (old new : Stores) (turns : List Turn) : Type 0 where
+  pub catalogue : IsOrdered catalogue_spot (length old.catalogue.front) turns (length new.catalogue.front)
+  pub objects : IsOrdered object_spot (length old.objects.front) turns (length new.objects.front)
 
 -- the text that a message is told before its body
 abbrev pub told_before : Message → List ℕ
@@ -185,6 +276,9 @@ failed_in unplanned = 0
 failed_in undrawn = 1
 failed_in (stepped place) = 0
 failed_in (full count) = 0
+failed_in (acted access entry) = 0
+failed_in (untold access entry) = 0
+failed_in (unacted access) = 0
 failed_in without_memory = 0
 
 abbrev pub failed_draws : List Turn → ℕ

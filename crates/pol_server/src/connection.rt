@@ -4,20 +4,19 @@ ghost use Rattle.std.specs.Option.{option_map};
 ghost use Rattle.pol_http.specs.Head.{asks};
 ghost use Rattle.pol_http.specs.Message.{HasAskingHead, HasNoMessage, IsRefusedAs, Message};
 ghost use Rattle.pol_http.specs.Next.{Awaits, IsMessageAt, IsUnfinished, LiesWithin};
-ghost use Rattle.pol_shared.specs.Seen.{Seen};
+ghost use Rattle.pol_server.specs.declared.stores.Stores.{Stores};
 ghost use Rattle.pol_server.specs.Link.{IsToldBefore, IsUnfinishedRest};
 ghost use Rattle.pol_server.specs.Serving.{Finishes, GivesAll, IsEndingOf, IsOwnEnding, IsStopped, IsToldAsked, IsUnread, KeepsStop, Moves, ReadsOn, Says, standing, text_by, told_text, work_of};
 
 use crate::ends::{Linked, give_all};
 use crate::handle::{handle, head_refused_text};
-use crate::{Ending, Place};
+use crate::{Ending, Place, Stores};
 use bytes::BytesMut;
 use httparse::spans::Span;
 use pol_http::{
     CONTINUE, Head, HeadRefused, INSUFFICIENT_STORAGE, Next, missing_bytes, next_message,
 };
 use pol_routes::Routes;
-use pol_shared::Shared;
 use pol_types::OutOfMemory;
 use pol_wire::Failed;
 use std::alloc::Global;
@@ -155,7 +154,7 @@ impl Connection {
     fn refuse<L: Linked>(&self, alloc: Global, link: &mut L, why: HeadRefused) -> Option<Ending>
         requires refused { IsRefusedAs self.now.buffer.items why }
         requires told { IsToldAsked self.now.told self.now.buffer.items }
-        ensures moves { (seen : Seen) → Moves result (standing (L.ends link.old) seen self.now)
+        ensures moves { (seen : Stores) → Moves result (standing (L.ends link.old) seen self.now)
             (standing (L.ends link.new) seen self.now) }
         ensures unread { IsUnread (L.ends link.old) (L.ends link.new) self.now self.now }
         ensures ended { IsSomeAnd result IsOwnEnding }
@@ -173,7 +172,7 @@ impl Connection {
         requires told { IsToldAsked self.old.told self.old.buffer.items }
         requires at_end { ((at_end ≡ Ending.Ended) × (self.old.buffer.items ≡ []) × (self.old.told ≡ false))
             ⊎ ((at_end ≡ Ending.Cut) × (self.old.buffer.items ≢ [])) }
-        ensures moves { (seen : Seen) → Moves result (standing (L.ends link.old) seen self.old)
+        ensures moves { (seen : Stores) → Moves result (standing (L.ends link.old) seen self.old)
             (standing (L.ends link.new) seen self.new) }
         ensures told { IsToldAsked self.new.told self.new.buffer.items }
         ensures stops { KeepsStop (L.ends link.old) (L.ends link.new) self.old self.new }
@@ -198,7 +197,7 @@ impl Connection {
         &mut self,
         alloc: Global,
         routes: &Routes,
-        catalogue: &mut Shared,
+        stores: &mut Stores,
         link: &mut L,
         head: &Head,
         body: Span,
@@ -207,8 +206,8 @@ impl Connection {
         requires parts { (message : Message) × IsMessageAt self.old.buffer.items head.now body body.end message
             × (self.old.told ≡ asks message.head) }
         requires room { vec_len self.old.places < vec_capacity self.old.places }
-        ensures moves { Moves result (standing (L.ends link.old) catalogue.old self.old)
-            (standing (L.ends link.new) catalogue.new self.new) }
+        ensures moves { Moves result (standing (L.ends link.old) stores.old self.old)
+            (standing (L.ends link.new) stores.new self.new) }
         ensures told { self.new.told ≡ false }
         ensures unread { IsUnread (L.ends link.old) (L.ends link.new) self.old self.new }
         ensures ending { IfSome result IsOwnEnding }
@@ -217,7 +216,7 @@ impl Connection {
         let handled = handle(
             alloc,
             routes,
-            catalogue,
+            stores,
             link,
             self.buffer.as_slice(),
             head,
@@ -236,7 +235,7 @@ impl Connection {
         &mut self,
         alloc: Global,
         routes: &Routes,
-        catalogue: &mut Shared,
+        stores: &mut Stores,
         link: &mut L,
         head: &Head,
         body: Span,
@@ -244,8 +243,8 @@ impl Connection {
         requires ranges { LiesWithin self.old.buffer.items head.now body body.end }
         requires parts { (message : Message) × IsMessageAt self.old.buffer.items head.now body body.end message
             × (self.old.told ≡ asks message.head) }
-        ensures moves { Moves result (standing (L.ends link.old) catalogue.old self.old)
-            (standing (L.ends link.new) catalogue.new self.new) }
+        ensures moves { Moves result (standing (L.ends link.old) stores.old self.old)
+            (standing (L.ends link.new) stores.new self.new) }
         ensures told { result ≡ None → self.new.told ≡ false }
         ensures unread { IsUnread (L.ends link.old) (L.ends link.new) self.old self.new }
         ensures ending { IfSome result IsOwnEnding }
@@ -254,7 +253,7 @@ impl Connection {
         let Ok(()) = self.places.reserve(1) else {
             return say(link, INSUFFICIENT_STORAGE, Some(Ending::NoMemory));
         };
-        self.take_turn(alloc, routes, catalogue, link, head, body)
+        self.take_turn(alloc, routes, stores, link, head, body)
     }
 
     /// Answers the message at the front.
@@ -262,7 +261,7 @@ impl Connection {
         &mut self,
         alloc: Global,
         routes: &Routes,
-        catalogue: &mut Shared,
+        stores: &mut Stores,
         link: &mut L,
         head: &Head,
         body: Span,
@@ -270,8 +269,8 @@ impl Connection {
         requires ranges { LiesWithin self.old.buffer.items head.now body body.end }
         requires parts { (message : Message) × IsMessageAt self.old.buffer.items head.now body body.end message }
         requires told { IsToldAsked self.old.told self.old.buffer.items }
-        ensures moves { Moves result (standing (L.ends link.old) catalogue.old self.old)
-            (standing (L.ends link.new) catalogue.new self.new) }
+        ensures moves { Moves result (standing (L.ends link.old) stores.old self.old)
+            (standing (L.ends link.new) stores.new self.new) }
         ensures told { result ≡ None → self.new.told ≡ false }
         ensures unread { IsUnread (L.ends link.old) (L.ends link.new) self.old self.new }
         ensures ending { IfSome result IsOwnEnding }
@@ -280,13 +279,13 @@ impl Connection {
         let Ok(()) = self.tell(link, head.asks) else {
             return Some(Ending::WriteFault);
         };
-        self.answer_told(alloc, routes, catalogue, link, head, body)
+        self.answer_told(alloc, routes, stores, link, head, body)
     }
 
     /// Tells the message at the front to go on, and waits for its body.
     fn go_on<L: Linked>(&mut self, link: &mut L) -> Option<Ending>
         requires awaits { Awaits self.old.buffer.items }
-        ensures moves { (seen : Seen) → Moves result (standing (L.ends link.old) seen self.old)
+        ensures moves { (seen : Stores) → Moves result (standing (L.ends link.old) seen self.old)
             (standing (L.ends link.new) seen self.new) }
         ensures told { result ≡ None → IsToldAsked self.new.told self.new.buffer.items }
         ensures stops { KeepsStop (L.ends link.old) (L.ends link.new) self.old self.new }
@@ -303,7 +302,7 @@ impl Connection {
     fn await_more<L: Linked>(&mut self, link: &mut L) -> Option<Ending>
         requires unfinished { IsUnfinished self.old.buffer.items }
         requires told { IsToldAsked self.old.told self.old.buffer.items }
-        ensures moves { (seen : Seen) → Moves result (standing (L.ends link.old) seen self.old)
+        ensures moves { (seen : Stores) → Moves result (standing (L.ends link.old) seen self.old)
             (standing (L.ends link.new) seen self.new) }
         ensures told { result ≡ None → IsToldAsked self.new.told self.new.buffer.items }
         ensures stops { KeepsStop (L.ends link.old) (L.ends link.new) self.old self.new }
@@ -333,12 +332,12 @@ impl Connection {
         &mut self,
         alloc: Global,
         routes: &Routes,
-        catalogue: &mut Shared,
+        stores: &mut Stores,
         link: &mut L,
     ) -> Option<Ending>
         requires told { IsToldAsked self.old.told self.old.buffer.items }
-        ensures moves { Moves result (standing (L.ends link.old) catalogue.old self.old)
-            (standing (L.ends link.new) catalogue.new self.new) }
+        ensures moves { Moves result (standing (L.ends link.old) stores.old self.old)
+            (standing (L.ends link.new) stores.new self.new) }
         ensures told { result ≡ None → IsToldAsked self.new.told self.new.buffer.items }
         ensures stops { KeepsStop (L.ends link.old) (L.ends link.new) self.old self.new }
         ensures ending { IfSome result (IsEndingOf self.new.stop) }
@@ -350,7 +349,7 @@ impl Connection {
         }
         match next_message(self.buffer.as_slice()) {
             Next::Whole { head, body, .. } => {
-                self.answer(alloc, routes, catalogue, link, &head, body)
+                self.answer(alloc, routes, stores, link, &head, body)
             }
             Next::Refused(why) => self.refuse(alloc, link, why),
             Next::Continue { .. } => self.go_on(link),
@@ -359,22 +358,17 @@ impl Connection {
     }
 
     /// Serves the link until it ends. Where there is no memory for the routes, it ends at once.
-    pub fn serve<L: Linked>(
-        &mut self,
-        alloc: Global,
-        catalogue: &mut Shared,
-        link: &mut L,
-    ) -> Ending
+    pub fn serve<L: Linked>(&mut self, alloc: Global, stores: &mut Stores, link: &mut L) -> Ending
         requires empty { self.old.buffer.items ≡ [] }
         requires stop { self.old.stop ≡ None }
         requires told { self.old.told ≡ false }
-        ensures finishes { Finishes result (standing (L.ends link.old) catalogue.old self.old)
-            (standing (L.ends link.new) catalogue.new self.new) }
+        ensures finishes { Finishes result (standing (L.ends link.old) stores.old self.old)
+            (standing (L.ends link.new) stores.new self.new) }
         ensures ending { IsEndingOf self.new.stop result }
         ensures stopped { IsStopped self.new.stop (L.ends link.old) (L.ends link.new) self.new.budget }
     {
         match Routes::new(alloc) {
-            Ok(routes) => self.serve_by(alloc, &routes, catalogue, link),
+            Ok(routes) => self.serve_by(alloc, &routes, stores, link),
             Err(OutOfMemory) => self.end_without_memory(link),
         }
     }
@@ -384,18 +378,18 @@ impl Connection {
         &mut self,
         alloc: Global,
         routes: &Routes,
-        catalogue: &mut Shared,
+        stores: &mut Stores,
         link: &mut L,
     ) -> Ending
         requires stop { self.old.stop ≡ None }
         requires told { self.old.told ≡ false }
-        ensures finishes { Finishes result (standing (L.ends link.old) catalogue.old self.old)
-            (standing (L.ends link.new) catalogue.new self.new) }
+        ensures finishes { Finishes result (standing (L.ends link.old) stores.old self.old)
+            (standing (L.ends link.new) stores.new self.new) }
         ensures ending { IsEndingOf self.new.stop result }
         ensures stopped { IsStopped self.new.stop (L.ends link.old) (L.ends link.new) self.new.budget }
     {
         loop {
-            if let Some(ending) = self.advance(alloc, routes, catalogue, link) {
+            if let Some(ending) = self.advance(alloc, routes, stores, link) {
                 return ending;
             }
         }
@@ -405,7 +399,7 @@ impl Connection {
     fn end_without_memory<L: Linked>(&self, link: &mut L) -> Ending
         requires empty { self.now.buffer.items ≡ [] }
         requires told { self.now.told ≡ false }
-        ensures finishes { (seen : Seen) → Finishes result (standing (L.ends link.old) seen self.now)
+        ensures finishes { (seen : Stores) → Finishes result (standing (L.ends link.old) seen self.now)
             (standing (L.ends link.new) seen self.now) }
         ensures ending { IsOwnEnding result }
     {

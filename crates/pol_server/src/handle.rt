@@ -1,5 +1,5 @@
 //! One message, from its plan to the text of its answer.
-ghost use Rattle.std.specs.Prelude.{◌≡◌, ◌≤◌, ◌^◌, Ok, IfOk, codes, length};
+ghost use Rattle.std.specs.Prelude.{◌≡◌, ◌≤◌, ◌^◌, ⊤, Ok, IfOk, codes, length};
 ghost use Rattle.std.specs.Option.{option_map};
 ghost use Rattle.std.specs.Str.{bytes_eq};
 ghost use Rattle.httparse.specs.Spans.{span_bytes, IsWithin};
@@ -9,12 +9,14 @@ ghost use Rattle.pol_http.specs.Message.{Message};
 ghost use Rattle.pol_http.specs.Next.{IsMessageAt, LiesWithin};
 ghost use Rattle.pol_answers.specs.Texts as text;
 ghost use Rattle.pol_routes.specs.Plan.{plan_of};
+ghost use Rattle.pol_routes.specs.Verbs.{IsActionOf};
 ghost use Rattle.pol_server.specs.Link.{refused_text};
-ghost use Rattle.pol_server.specs.Serving.{Handles, IsEntered};
+ghost use Rattle.pol_server.specs.Serving.{Handles, IsEntered, IsUnplannedAs, stepped_place, stepped_text};
 ghost use Rattle.pol_server.specs.Turn.{framed, is_head};
 
-use crate::Place;
 use crate::ends::{Linked, draw_words};
+use crate::objects::access;
+use crate::{Place, Stores};
 use httparse::spans::Span;
 use pol_answers::{answer_of, draw_fault_answer, head_refused_answer, refusal_answer};
 use pol_http::{Answer, Head, HeadRefused, write_answer};
@@ -52,7 +54,7 @@ impl Render for Framing {
 }
 
 /// The bytes of an answer to a request of this framing.
-fn text(alloc: Global, answer: Answer, framing: Framing) -> Result<Vec<u8>, OutOfMemory>
+pub(crate) fn text(alloc: Global, answer: Answer, framing: Framing) -> Result<Vec<u8>, OutOfMemory>
     ensures { IfOk result (λ bytes. bytes.items ≡ answer_text (framed framing.close framing.head_only answer)) }
 {
     let answer = Answer {
@@ -82,7 +84,7 @@ fn framing_of(bytes: &[u8], head: &Head) -> Framing
 pub(crate) fn handle<L: Linked>(
     alloc: Global,
     routes: &Routes,
-    catalogue: &mut Shared,
+    stores: &mut Stores,
     link: &mut L,
     bytes: &[u8],
     head: &Head,
@@ -90,17 +92,30 @@ pub(crate) fn handle<L: Linked>(
 ) -> Handled
     requires { LiesWithin bytes.now head.now body body.end }
     ensures { (message : Message) → IsMessageAt bytes.now head.now body body.end message
-        → Handles (L.ends link.old) (L.ends link.new) catalogue.old catalogue.new message result.place
+        → Handles (L.ends link.old) (L.ends link.new) stores.old stores.new message result.place
         (option_map (λ text. text.items) result.text) }
 {
     let framing = framing_of(bytes, head);
     match plan(alloc, routes, bytes, head, body) {
-        Ok(planned) => answer_plan(alloc, catalogue, link, planned, framing),
-        Err(Unplanned::Refused(refused)) => Handled {
+        Ok(planned) => {
+            let body = &bytes[body.start..body.end];
+            answer_plan(alloc, stores, link, planned, body, framing)
+        }
+        Err(why) => unplanned(alloc, &why, framing),
+    }
+}
+
+/// How a message is answered that has no plan.
+fn unplanned(alloc: Global, why: &Unplanned, framing: Framing) -> Handled
+    ensures { IsUnplannedAs why.now framing.close framing.head_only result.place
+        (option_map (λ text. text.items) result.text) }
+{
+    match why {
+        Unplanned::Refused(refused) => Handled {
             place: Place::NoEntry,
-            text: refusal_text(alloc, &refused, framing).ok(),
+            text: refusal_text(alloc, refused, framing).ok(),
         },
-        Err(Unplanned::OutOfMemory) => Handled {
+        Unplanned::OutOfMemory => Handled {
             place: Place::NoEntry,
             text: None,
         },
@@ -137,41 +152,56 @@ fn draw_fault_text(alloc: Global, framing: Framing) -> Result<Vec<u8>, OutOfMemo
     text(alloc, draw_fault_answer(alloc)?, framing)
 }
 
-/// Answers a message by its plan.
+/// Answers a message by its plan, and by the bytes of its body.
 fn answer_plan<L: Linked>(
     alloc: Global,
-    catalogue: &mut Shared,
+    stores: &mut Stores,
     link: &mut L,
     planned: Planned,
+    body: &[u8],
     framing: Framing,
 ) -> Handled
-    ensures { (message : Message) → plan_of message ≡ Ok planned → framing.close ≡ closes message.head
-        → framing.head_only ≡ is_head message
-        → Handles (L.ends link.old) (L.ends link.new) catalogue.old catalogue.new message result.place
+    requires { IsActionOf planned.verb planned.action }
+    ensures { (message : Message) → plan_of message ≡ Ok planned → message.body ≡ body.now
+        → framing.close ≡ closes message.head → framing.head_only ≡ is_head message
+        → Handles (L.ends link.old) (L.ends link.new) stores.old stores.new message result.place
         (option_map (λ text. text.items) result.text) }
 {
     let moment = link.now();
+    let verb = planned.verb;
     match draw_words(link, planned.words) {
-        Ok(words) => step(
-            alloc,
-            catalogue,
-            command_of(planned, moment, words),
-            framing,
-        ),
-        Err(_) => Handled {
-            place: Place::NoEntry,
-            text: draw_fault_text(alloc, framing).ok(),
-        },
+        Ok(words) => {
+            let command = command_of(planned, moment, words);
+            match verb {
+                None => step(alloc, &mut stores.catalogue, command, framing),
+                Some(verb) => access(alloc, stores, command, verb, body, framing),
+            }
+        }
+        Err(_) => {
+            drop(planned);
+            Handled {
+                place: Place::NoEntry,
+                text: draw_fault_text(alloc, framing).ok(),
+            }
+        }
     }
 }
 
 /// Steps a command.
 fn step(alloc: Global, catalogue: &mut Shared, command: Command, framing: Framing) -> Handled
     requires { command.moment ≤ 2 ^ 62 }
-    ensures { IsEntered catalogue.old catalogue.new command framing.close framing.head_only result.place
+    ensures { IsEntered (λ _. ⊤) catalogue.old catalogue.new command framing.close framing.head_only result.place
         (option_map (λ text. text.items) result.text) }
 {
-    match catalogue.step(alloc, command, &framing) {
+    answered_by(catalogue.step(alloc, command, &framing))
+}
+
+/// How a message is answered whose command came to this.
+pub(crate) fn answered_by(stepped: Stepped<Vec<u8>>) -> Handled
+    ensures place { result.place ≡ stepped_place stepped }
+    ensures text { option_map (λ text. text.items) result.text ≡ stepped_text stepped }
+{
+    match stepped {
         Stepped::Done { place, out } => Handled {
             place: Place::Catalogue(place),
             text: Some(out),

@@ -19,11 +19,13 @@ pub enum Ending {
     NoMemory,
 }
 
-/// Where a request stands in the history.
+/// Where a request stands in the histories. Places are counted from 0.
 #[derive(Clone, Copy, Debug, PartialEq, Eq)]
 pub enum Place {
-    /// At this place, counted from 0.
+    /// At this place of the catalogue's history.
     Catalogue(u64),
+    /// At the place `entry` of the objects' history, by the access at the place `access` of the catalogue's.
+    Object { access: u64, entry: u64 },
     /// It made no entry.
     NoEntry,
 }

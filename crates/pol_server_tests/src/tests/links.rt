@@ -1,5 +1,6 @@
-use pol_server::{Ending, Place, serve_connection};
+use pol_server::{Ending, Place, Stores, serve_connection};
 use pol_shared::Shared;
+use pol_shared_objects::Objects;
 use pol_wire::{CountingDraw, Link, MemoryClock, MemorySink, MemorySource};
 use std::alloc::{AllocError, Global};
 use std::test::Fail;
@@ -13,16 +14,20 @@ const OPENS: &str =
 const THREE: &str =
     "POST /api/catalog/v1/oauth/tokens HTTP/1.1\r\nhost: l\r\ncontent-length: 65\r\n\r\n\
     grant_type=client_credentials&client_id=root&client_secret=s3cret\
-    GET /objects/b/x HTTP/1.1\r\n\r\n\
+    GET /none HTTP/1.1\r\n\r\n\
     POST /api/catalog/v1/oauth/tokens HTTP/1.1\r\nhost: l\r\ncontent-length: 65\r\n\r\n\
     grant_type=client_credentials&client_id=root&client_secret=s3cret";
+
+/// A request for an object, without a token.
+const READS: &str = "GET /objects/b/x HTTP/1.1\r\n\r\n";
 
 /// The bytes of a link; the call of its source, its sink and its draw that is to fail, counted from 1, or 0; how it
 /// ends; and the places of its requests.
 type Case<'a> = (&'a str, (u64, u64, u64), Ending, &'a [Place]);
 
-/// Links over one catalogue, whose places go on where those of the last one ended.
-const LINKS: [Case<'static>; 6] = [
+/// Links over one catalogue, whose places go on where those of the last one ended. An access that is refused has a
+/// place there.
+const LINKS: [Case<'static>; 7] = [
     ("", (0, 0, 0), Ending::Ended, &[]),
     ("G", (0, 0, 0), Ending::Cut, &[]),
     (
@@ -37,12 +42,13 @@ const LINKS: [Case<'static>; 6] = [
         Ending::Ended,
         &[Place::NoEntry, Place::NoEntry, Place::Catalogue(2)],
     ),
-    (OPENS, (2, 0, 0), Ending::ReadFault, &[Place::Catalogue(3)]),
+    (READS, (0, 0, 0), Ending::Ended, &[Place::Catalogue(3)]),
+    (OPENS, (2, 0, 0), Ending::ReadFault, &[Place::Catalogue(4)]),
     (
         THREE,
         (0, 2, 0),
         Ending::WriteFault,
-        &[Place::Catalogue(4), Place::NoEntry],
+        &[Place::Catalogue(5), Place::NoEntry],
     ),
 ];
 
@@ -65,9 +71,9 @@ fn linked(alloc: Global, case: &Case<'_>) -> Result<MemoryLink, AllocError> {
 }
 
 /// Whether a link ends so, with these places.
-fn is_served(alloc: Global, catalogue: &mut Shared, case: &Case<'_>) -> Option<bool> {
+fn is_served(alloc: Global, stores: &mut Stores, case: &Case<'_>) -> Option<bool> {
     let mut link = linked(alloc, case).ok()?;
-    let served = serve_connection(alloc, catalogue, &mut link);
+    let served = serve_connection(alloc, stores, &mut link);
     let is_right = served.ending == case.2 && served.places.as_slice() == case.3;
     drop(served);
     drop(link);
@@ -75,9 +81,9 @@ fn is_served(alloc: Global, catalogue: &mut Shared, case: &Case<'_>) -> Option<b
 }
 
 /// Whether these links are served so, one after the other.
-fn are_served(alloc: Global, catalogue: &mut Shared, cases: &[Case<'_>]) -> bool {
+fn are_served(alloc: Global, stores: &mut Stores, cases: &[Case<'_>]) -> bool {
     for case in cases {
-        if is_served(alloc, catalogue, case) != Some(true) {
+        if is_served(alloc, stores, case) != Some(true) {
             return false;
         }
     }
@@ -86,9 +92,13 @@ fn are_served(alloc: Global, catalogue: &mut Shared, cases: &[Case<'_>]) -> bool
 
 #[test]
 fn links_share_one_history(rt: HostRuntime) -> Result<(), Fail> {
-    let mut catalogue = Shared::fresh(rt.alloc(), "s3cret")?;
-    let served = are_served(rt.alloc(), &mut catalogue, &LINKS);
-    drop(catalogue);
+    let catalogue = Shared::fresh(rt.alloc(), "s3cret")?;
+    let mut stores = Stores {
+        catalogue,
+        objects: Objects::empty(rt.alloc()),
+    };
+    let served = are_served(rt.alloc(), &mut stores, &LINKS);
+    drop(stores);
     assert!(rt; served);
     Ok(())
 }

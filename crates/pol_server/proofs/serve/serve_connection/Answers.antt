@@ -4,6 +4,6 @@ use Rattle.pol_server.proofs.serve.serve_connection.Goals as goal
 
 pub returns : goal.returns
 returns g c =
-    serves _ _ c.args.catalogue.now c.serve-ending.new.catalogue c.new-connection.result c.serve-ending.new.self _
+    serves _ _ c.args.stores.now c.serve-ending.new.stores c.new-connection.result c.serve-ending.new.self _
     c.serve-ending.ensures.finishes c.new-connection.ensures.buffer c.new-connection.ensures.places c.new-connection.ensures.budget c.new-connection.ensures.told
     c.serve-ending.ensures.ending c.serve-ending.ensures.stopped (c.from-places.ensures ∙ c.into_places.ensures)

@@ -5,7 +5,7 @@ use Rattle.pol_server.proofs.connection.Connection.advance.Goals as goal
 
 pub returns-then-is_lacking-clause-moves : goal.returns-then-is_lacking-clause-moves
 returns-then-is_lacking-clause-moves g c =
-    reads-on (g.L.Linked.ends c.args.link.now) (g.L.Linked.ends c.read.new.link) c.args.self.now c.read.new.self c.args.catalogue.now c.read.ensures
+    reads-on (g.L.Linked.ends c.args.link.now) (g.L.Linked.ends c.read.new.link) c.args.self.now c.read.new.self c.args.stores.now c.read.ensures
 
 pub refuse-requires-clause-refused : goal.refuse-requires-clause-refused
 refuse-requires-clause-refused g c =

@@ -11,7 +11,7 @@ returns-clause-moves g c =
     let message = c.requires.parts.0 in
     let at = c.requires.parts.1 in
     let ends = g.L.Linked.ends in
-    moves-turn (standing (ends c.args.link.now) c.args.catalogue.now c.args.self.now) _ (ends c.handle-handled.new.link) message c.handle-handled.result.place _ c.args.head.now.closes c.say.result
+    moves-turn (standing (ends c.args.link.now) c.args.stores.now c.args.self.now) _ (ends c.handle-handled.new.link) message c.handle-handled.result.place _ c.args.head.now.closes c.say.result
     (c.handle-handled.ensures message (subst (λ bytes. IsMessageAt bytes c.args.head.now c.args.body c.args.body.end message) (sym c.as_slice.ensures) at))
     at.reads.whole (at.reads.bytes_are ∙ ap (λ rest. print_message message ++ rest) (sym c.advance.ensures.items))
     c.in-Ok.ensures.items refl refl (ap told_text c.requires.parts.2) at.head_is.closes

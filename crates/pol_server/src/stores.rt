@@ -1,0 +1,9 @@
+use pol_shared::Shared;
+use pol_shared_objects::Objects;
+
+/// The catalogue and the objects that requests are answered from, each as one pass of it sees it.
+#[derive(Drop)]
+pub struct Stores {
+    pub catalogue: Shared,
+    pub objects: Objects,
+}
