@@ -42,6 +42,10 @@ ODD_DELEGATIONS = ["remote-signing", "vended", "", '"vended-credentials"', "vend
 PARENTS = ["", "parent=", "parent=%ff", "parent=%1F"]
 SCOPES = ["ALL", "readers", "readers", "writers", "service_admin", "", "no one"]
 
+# The bytes of objects, none of which are taken for JSON, and more bytes than an object has.
+OBJECTS = [b"", b"PAR1", b"Obj\x01", bytes(range(256)), b"\r\n\r\n" * 5000]
+TOO_LONG = b"a" * 8_388_609
+
 # What every second seed begins with: a catalogue with tables, and a principal that may read their data.
 LAKE = {"name": "lake", "properties": {"default-base-location": "lake://b"}}
 SCHEMA = {"type": "struct", "fields": []}
@@ -67,7 +71,7 @@ OPENING = [
 # How often a request of a method is asked, and one of these actions.
 WEIGHTS = {"GET": 2, "HEAD": 2, "POST": 4, "PUT": 5, "DELETE": 0.7}
 OFTEN = {"create_table": 8, "load_table": 8, "commit_table": 24, "commit_transaction": 12}
-OFTEN |= {"load_credentials": 12, "access": 6}
+OFTEN |= {"load_credentials": 12, "get_object": 8, "head_object": 4, "put_object": 10, "delete_object": 3, "list_objects": 5}
 OFTEN |= {"create_view": 8, "load_view": 8, "replace_view": 24}
 
 
@@ -114,7 +118,7 @@ class RandomRequests:
         weights = [OFTEN.get(row[2], WEIGHTS[row[0]]) for row in ROUTES]
         method, path, action, *form = self.random.choices(ROUTES, weights)[0]
         self.known = self.clients.turn(action)
-        known = self.storage_tokens[-self.random.choice([2, 40]) :] if action == "access" else []
+        known = self.storage_tokens[-self.random.choice([2, 40]) :] if "{*path}" in path else []
         self.storage_token = self.random.choice(known) if known and not self.seldom() else ()
         target = self.target_of(path, action)
         content = self.content_of(action, *form)
@@ -128,7 +132,7 @@ class RandomRequests:
 
     def learn(self, method, target, content, status, answered):
         """Has later requests know what a request was answered: tokens and secrets, tables and views."""
-        given = json.loads(answered) if status < 300 and answered else {}
+        given = json.loads(answered) if status < 300 and answered.startswith("{") else {}
         if is_session(answered):
             self.tokens.append(given["access_token"])
         if "credentials" in given:
@@ -197,6 +201,8 @@ class RandomRequests:
     def content_of(self, action, form=None):
         if action == "open_session":
             return self.credentials()
+        if action == "put_object":
+            return self.pick(OBJECTS, [TOO_LONG], 0.003)
         if form is None:
             return b"xx" if self.seldom() else b""
         return self.printed(self.altered(self.made(form)))

@@ -30,10 +30,13 @@ STATUS_AND_TYPE = {
     "TokenUnknown": (401, "NotAuthorizedException"),
     "NotCovered": (403, "ForbiddenException"),
     "NotWritable": (403, "ForbiddenException"),
+    "NoObject": (404, "NotFoundException"),
+    "ObjectThere": (409, "AlreadyExistsException"),
+    "TooLong": (413, "BadRequestException"),
+    "SpaceFull": (503, "ServiceUnavailableException"),
     "Unreadable": (400, "BadRequestException"),
     "No route": (404, "NotFoundException"),
     "Wrong method": (405, "BadRequestException"),
-    "Not built": (501, "UnsupportedOperationException"),
 }
 
 

@@ -75,11 +75,11 @@ ROUTES = [
     ("GET", f"{CATALOG_ROLE}/grants", "list_grants"),
     ("PUT", f"{CATALOG_ROLE}/grants", "add_grant", {"grant": "grant"}),
     ("POST", f"{CATALOG_ROLE}/grants", "revoke", {"grant": "grant"}),
-    ("GET", "/objects/{*path}", "access"),
-    ("HEAD", "/objects/{*path}", "access"),
-    ("PUT", "/objects/{*path}", "access"),
-    ("DELETE", "/objects/{*path}", "access"),
-    ("GET", "/list/{*path}", "access"),
+    ("GET", "/objects/{*path}", "get_object"),
+    ("HEAD", "/objects/{*path}", "head_object"),
+    ("PUT", "/objects/{*path}", "put_object"),
+    ("DELETE", "/objects/{*path}", "delete_object"),
+    ("GET", "/list/{*path}", "list_objects"),
 ]
 
 # What a config tells of the rows behind a catalogue's prefix.

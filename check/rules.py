@@ -9,6 +9,7 @@ import re
 
 import views
 from management import FIRST_GRANTS, Management, digest_of
+from objects import Objects
 from privileges import IMPLIED
 from reading import (
     Refused,
@@ -100,15 +101,17 @@ class Rules(Management):
         self.grants = []
         self.sessions = {}
         self.storage_tokens = {}
+        self.objects = Objects()
 
     def answer(self, request):
-        """The status of the answer to a request, and its body, if it has one."""
+        """The status of the answer to a request, and its body, if it has one: a text, the bytes of an object, or the
+        length of one alone."""
         try:
             request.action, segments = route_of(request.method, request.target.partition(b"?")[0])
             status, body = getattr(self, request.action)(request, *segments)
         except Refused as refused:
             status, body = refused.status, refused.body
-        return status, None if request.method == "HEAD" else body
+        return status, None if request.method == "HEAD" and not isinstance(body, int) else body
 
     # What the program's clock and its draws say
 
@@ -561,8 +564,25 @@ class Rules(Management):
 
     # Objects
 
-    def access(self, request, path):
-        """What an object is asked for isn't done yet, but whether it may be asked for is judged."""
+    def get_object(self, request, path):
+        return 200, self.objects.there(self.opened(request, path))
+
+    def head_object(self, request, path):
+        return 200, len(self.objects.there(self.opened(request, path)))
+
+    def put_object(self, request, path):
+        self.objects.put(self.opened(request, path, is_writing=True), request.content)
+        return 201, ""
+
+    def delete_object(self, request, path):
+        self.objects.delete(self.opened(request, path, is_writing=True))
+        return 204, None
+
+    def list_objects(self, request, path):
+        return 200, compact({"paths": self.objects.texts_under(self.opened(request, path))})
+
+    def opened(self, request, path, is_writing=False):
+        """The location that a path is, which the caller's storage token opens."""
         segments = [segment_text(segment) for segment in path.split(b"/")]
         try:
             location = location_below(segments)
@@ -571,9 +591,9 @@ class Rules(Management):
         token = self.storage_token(request)
         if not covers(token.location, location):
             refuse("NotCovered")
-        if request.method in ("PUT", "DELETE") and not token.is_writing:
+        if is_writing and not token.is_writing:
             refuse("NotWritable")
-        refuse("Not built")
+        return location
 
     def storage_token(self, request):
         """The caller's storage token, whose table is there and didn't move since."""
