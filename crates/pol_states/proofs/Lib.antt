@@ -1,0 +1,5 @@
+pub mod FactOrderLemmas
+pub mod LawLemmas
+pub mod ListingLemmas
+pub mod LiveLemmas
+pub mod MadeLemmas

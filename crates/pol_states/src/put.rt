@@ -1,0 +1,147 @@
+//! The puts of rows.
+ghost use Rattle.std.specs.Prelude.{◌≡◌, ◌++◌, map, IfOk, OnOk};
+ghost use Rattle.pol_content.specs.declared.change.Change.{Change};
+
+use pol_access::{CatalogRoleRow, GrantRow, JoinRow, MemberRow, PrincipalRoleRow, PrincipalRow};
+use pol_content::{CatalogRow, Change, NamespaceRow, TablePut, TableRow, ViewRow};
+use pol_tokens::{SessionRow, TokenRow};
+use pol_types::OutOfMemory;
+
+/// A row that a change puts.
+pub(crate) trait Put {
+    ghost change: { Self → Change };
+
+    /// The change that puts an equal row.
+    fn put(&self) -> Result<Change, OutOfMemory>
+        ensures { IfOk result (λ put. put ≡ change self.now) };
+}
+
+/// Pushes the puts of the rows, in their order.
+pub(crate) fn push_puts<R: Put>(rows: &[R], changes: &mut Vec<Change>) -> Result<(), OutOfMemory>
+    ensures { OnOk result (changes.new.items ≡ changes.old.items ++ map R.change rows.now) }
+{
+    for row in rows {
+        changes.push(row.put()?)?;
+    }
+    Ok(())
+}
+
+impl Put for PrincipalRow {
+    ghost use Rattle.pol_content.specs.declared.change.Change.TheVariants.{PutPrincipal};
+
+    ghost change = { PutPrincipal };
+
+    fn put(&self) -> Result<Change, OutOfMemory> {
+        Ok(Change::PutPrincipal(self.clone()?))
+    }
+}
+
+impl Put for PrincipalRoleRow {
+    ghost use Rattle.pol_content.specs.declared.change.Change.TheVariants.{PutPrincipalRole};
+
+    ghost change = { PutPrincipalRole };
+
+    fn put(&self) -> Result<Change, OutOfMemory> {
+        Ok(Change::PutPrincipalRole(self.clone()?))
+    }
+}
+
+impl Put for CatalogRow {
+    ghost use Rattle.pol_content.specs.declared.change.Change.TheVariants.{PutCatalog};
+
+    ghost change = { PutCatalog };
+
+    fn put(&self) -> Result<Change, OutOfMemory> {
+        Ok(Change::PutCatalog(self.clone()?))
+    }
+}
+
+impl Put for CatalogRoleRow {
+    ghost use Rattle.pol_content.specs.declared.change.Change.TheVariants.{PutCatalogRole};
+
+    ghost change = { PutCatalogRole };
+
+    fn put(&self) -> Result<Change, OutOfMemory> {
+        Ok(Change::PutCatalogRole(self.clone()?))
+    }
+}
+
+impl Put for NamespaceRow {
+    ghost use Rattle.pol_content.specs.declared.change.Change.TheVariants.{PutNamespace};
+
+    ghost change = { PutNamespace };
+
+    fn put(&self) -> Result<Change, OutOfMemory> {
+        Ok(Change::PutNamespace(self.clone()?))
+    }
+}
+
+impl Put for TableRow {
+    ghost use Rattle.pol_content.specs.declared.change.Change.TheVariants.{PutTable};
+
+    ghost change = { PutTable };
+
+    fn put(&self) -> Result<Change, OutOfMemory> {
+        Ok(Change::PutTable(TablePut::new(self.clone()?)?))
+    }
+}
+
+impl Put for ViewRow {
+    ghost use Rattle.pol_content.specs.declared.change.Change.TheVariants.{PutView};
+
+    ghost change = { PutView };
+
+    fn put(&self) -> Result<Change, OutOfMemory> {
+        Ok(Change::PutView(self.clone()?))
+    }
+}
+
+impl Put for MemberRow {
+    ghost use Rattle.pol_content.specs.declared.change.Change.TheVariants.{PutMember};
+
+    ghost change = { PutMember };
+
+    fn put(&self) -> Result<Change, OutOfMemory> {
+        Ok(Change::PutMember(*self))
+    }
+}
+
+impl Put for JoinRow {
+    ghost use Rattle.pol_content.specs.declared.change.Change.TheVariants.{PutJoin};
+
+    ghost change = { PutJoin };
+
+    fn put(&self) -> Result<Change, OutOfMemory> {
+        Ok(Change::PutJoin(*self))
+    }
+}
+
+impl Put for GrantRow {
+    ghost use Rattle.pol_content.specs.declared.change.Change.TheVariants.{PutGrant};
+
+    ghost change = { PutGrant };
+
+    fn put(&self) -> Result<Change, OutOfMemory> {
+        Ok(Change::PutGrant(*self))
+    }
+}
+
+impl Put for SessionRow {
+    ghost use Rattle.pol_content.specs.declared.change.Change.TheVariants.{PutSession};
+
+    ghost change = { PutSession };
+
+    fn put(&self) -> Result<Change, OutOfMemory> {
+        Ok(Change::PutSession(self.clone()?))
+    }
+}
+
+impl Put for TokenRow {
+    ghost use Rattle.pol_content.specs.declared.change.Change.TheVariants.{PutToken};
+
+    ghost change = { PutToken };
+
+    fn put(&self) -> Result<Change, OutOfMemory> {
+        Ok(Change::PutToken(self.clone()?))
+    }
+}
