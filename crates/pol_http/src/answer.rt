@@ -3,6 +3,7 @@ ghost use Rattle.std.specs.Prelude.{◌≡◌, ◌++◌, IfOk, string_bytes};
 ghost use Rattle.pol_http.specs.Answer as spec;
 
 use http::StatusCode;
+use pol_shared_bytes::SharedBytes;
 use pol_types::{Bytes, OutOfMemory};
 use std::alloc::Global;
 
@@ -32,8 +33,8 @@ pub enum Body {
     Json(Bytes),
     /// The JSON of an access token, which no cache may store (RFC 6749, section 5.1).
     Token(Bytes),
-    /// The bytes of an object.
-    Object(Bytes),
+    /// The bytes of an object, which are shared with it.
+    Object(SharedBytes),
     /// The length of an object that a HEAD request asks for.
     Length(u64),
 }
@@ -118,7 +119,8 @@ fn content(answer: &Answer) -> &[u8]
     }
     match &answer.body {
         Body::Nothing | Body::Length(_) => b"",
-        Body::Json(bytes) | Body::Token(bytes) | Body::Object(bytes) => bytes.as_slice(),
+        Body::Json(bytes) | Body::Token(bytes) => bytes.as_slice(),
+        Body::Object(bytes) => bytes.as_slice(),
     }
 }
 
@@ -128,7 +130,8 @@ fn length(body: &Body) -> u64
 {
     match body {
         Body::Nothing => 0,
-        Body::Json(bytes) | Body::Token(bytes) | Body::Object(bytes) => bytes.len() as u64,
+        Body::Json(bytes) | Body::Token(bytes) => bytes.len() as u64,
+        Body::Object(bytes) => bytes.len() as u64,
         Body::Length(length) => *length,
     }
 }

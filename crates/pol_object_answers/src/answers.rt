@@ -7,8 +7,9 @@ use crate::refused::refused_answer;
 use pol_http::{Answer, Body};
 use pol_json_answers::{answer_with, json_answer};
 use pol_locations::Location;
-use pol_objects::{ObjectReply, SharedBytes};
-use pol_types::{Bytes, OutOfMemory};
+use pol_objects::ObjectReply;
+use pol_shared_bytes::SharedBytes;
+use pol_types::OutOfMemory;
 use serde_json::{Value, json};
 use std::alloc::{AllocError, Global};
 
@@ -18,7 +19,7 @@ pub fn object_answer(alloc: Global, reply: &ObjectReply) -> Result<Answer, OutOf
     ensures { IfOk result (λ answer. answer ≡ spec.object_answer_of reply.now) }
 {
     match reply {
-        ObjectReply::Bytes { bytes } => bytes_answer(alloc, bytes),
+        ObjectReply::Bytes { bytes } => bytes_answer(bytes),
         ObjectReply::Length { length } => Ok(answer_with(200, Body::Length(*length))),
         ObjectReply::Stored => Ok(answer_with(201, Body::Nothing)),
         ObjectReply::Deleted => Ok(answer_with(204, Body::Nothing)),
@@ -27,12 +28,11 @@ pub fn object_answer(alloc: Global, reply: &ObjectReply) -> Result<Answer, OutOf
     }
 }
 
-/// The answer that gives the bytes of an object.
-fn bytes_answer(alloc: Global, bytes: &SharedBytes) -> Result<Answer, OutOfMemory>
+/// The answer that gives the bytes of an object, which it shares.
+fn bytes_answer(bytes: &SharedBytes) -> Result<Answer, OutOfMemory>
     ensures { IfOk result (λ answer. answer ≡ spec.bytes_answer bytes.now) }
 {
-    let copy = bytes.as_slice().to_vec(alloc)?;
-    Ok(answer_with(200, Body::Object(Bytes::from(copy))))
+    Ok(answer_with(200, Body::Object(bytes.clone()?)))
 }
 
 /// The answer that lists paths.

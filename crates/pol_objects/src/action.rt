@@ -1,5 +1,5 @@
-use crate::SharedBytes;
 use pol_locations::Location;
+use pol_shared_bytes::SharedBytes;
 
 /// What is asked of the objects. Only a put and a delete write.
 #[derive(Debug, Drop)]

@@ -8,7 +8,6 @@ mod object_map;
 mod object_state;
 mod reply;
 mod rule;
-mod shared_bytes;
 
 pub use action::ObjectAction;
 pub use object::Object;
@@ -16,4 +15,3 @@ pub use object_map::ObjectMap;
 pub use object_state::ObjectState;
 pub use reply::ObjectReply;
 pub use rule::ObjectRule;
-pub use shared_bytes::SharedBytes;

@@ -1,5 +1,5 @@
-use crate::SharedBytes;
 use pol_locations::Location;
+use pol_shared_bytes::SharedBytes;
 
 /// An object: where it is, and its bytes.
 #[derive(Clone, Debug, Drop)]

@@ -4,8 +4,9 @@ ghost use Rattle.pol_objects.specs.declared.action.ObjectAction.TheVariants as a
 ghost use Rattle.pol_objects.specs.declared.reply.ObjectReply.TheVariants as reply;
 ghost use Rattle.pol_objects.specs.declared.rule.ObjectRule.TheVariants.{NoObject};
 
-use crate::{Object, ObjectMap, ObjectReply, ObjectRule, SharedBytes};
+use crate::{Object, ObjectMap, ObjectReply, ObjectRule};
 use pol_locations::Location;
+use pol_shared_bytes::SharedBytes;
 use pol_types::OutOfMemory;
 use std::alloc::Global;
 

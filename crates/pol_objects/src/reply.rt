@@ -1,5 +1,6 @@
-use crate::{ObjectRule, SharedBytes};
+use crate::ObjectRule;
 use pol_locations::Location;
+use pol_shared_bytes::SharedBytes;
 use pol_types::Listed;
 
 /// What an action on objects is answered.

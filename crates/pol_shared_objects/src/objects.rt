@@ -7,8 +7,9 @@ ghost use Rattle.pol_tokens.specs.declared.token.Act.TheVariants.{Read, Write};
 
 use crate::Acted;
 use pol_object_store::{ClosedObjects, KeptObjects};
-use pol_objects::{ObjectAction, SharedBytes};
+use pol_objects::ObjectAction;
 use pol_shared::Permit;
+use pol_shared_bytes::SharedBytes;
 use pol_types::Bytes;
 use std::alloc::Global;
 use std::marker::Model;
