@@ -272,7 +272,7 @@ fn kind_taken(state: &State, change: &Change) -> Option<RowKind>
     match change {
         Change::PutPrincipal(row) => where_known(
             RowKind::Principal,
-            access.principal(row.id).is_some(),
+            access.principal(row.row().id).is_some(),
         ),
         Change::PutPrincipalRole(row) => where_known(
             RowKind::PrincipalRole,
@@ -280,7 +280,7 @@ fn kind_taken(state: &State, change: &Change) -> Option<RowKind>
         ),
         Change::PutCatalog(row) => where_known(
             RowKind::Catalog,
-            content.catalog_of(row.id).is_some(),
+            content.catalog_of(row.row().id).is_some(),
         ),
         Change::PutCatalogRole(row) => where_known(
             RowKind::CatalogRole,
@@ -288,13 +288,13 @@ fn kind_taken(state: &State, change: &Change) -> Option<RowKind>
         ),
         Change::PutNamespace(row) => where_known(
             RowKind::Namespace,
-            content.namespace_of(row.id).is_some(),
+            content.namespace_of(row.row().id).is_some(),
         ),
         Change::PutTable(table) => where_known(
             RowKind::Table,
-            content.table_of(table.row().id).is_some(),
+            content.table_of(table.row().row().id).is_some(),
         ),
-        Change::PutView(row) => where_known(RowKind::View, content.view_of(row.id).is_some()),
+        Change::PutView(row) => where_known(RowKind::View, content.view_of(row.row().id).is_some()),
         Change::DropPrincipal(_) => Some(RowKind::Principal),
         Change::DropPrincipalRole(_) => Some(RowKind::PrincipalRole),
         Change::DropCatalog(_) => Some(RowKind::Catalog),
@@ -386,16 +386,16 @@ fn numbers_of(change: &Change) -> Numbers
             ..NOTHING
         },
         Change::PutCatalog(row) => Numbers {
-            allowed: row.allowed.len() as u64,
-            catalog_properties: row.properties.len() as u64,
+            allowed: row.row().allowed.len() as u64,
+            catalog_properties: row.row().properties.len() as u64,
             ..NOTHING
         },
         Change::PutNamespace(row) => Numbers {
-            namespace_properties: row.properties.len() as u64,
+            namespace_properties: row.row().properties.len() as u64,
             ..NOTHING
         },
-        Change::PutTable(table) => table_numbers(table.row()),
-        Change::PutView(row) => view_numbers(row),
+        Change::PutTable(table) => table_numbers(table.row().row()),
+        Change::PutView(row) => view_numbers(row.row()),
         Change::Time(_)
         | Change::PutPrincipal(_)
         | Change::DropPrincipal(_)
@@ -461,7 +461,7 @@ fn is_heavy(change: &Change) -> bool
     ensures { result ≡ nat_lt (bound_of quantity.Weight) (weight_put change.now) }
 {
     if let Change::PutTable(table) = change {
-        return table.row().metadata.get().weight() > bound_of(Quantity::Weight);
+        return table.row().row().metadata.get().weight() > bound_of(Quantity::Weight);
     }
     false
 }
@@ -479,7 +479,7 @@ fn is_heavy_view(change: &Change) -> bool
     ensures { result ≡ nat_lt (bound_of quantity.Weight) (view_weight_put change.now) }
 {
     if let Change::PutView(row) = change {
-        return row.metadata.get().weight() > bound_of(Quantity::Weight);
+        return row.row().metadata.get().weight() > bound_of(Quantity::Weight);
     }
     false
 }

@@ -11,7 +11,8 @@ ghost use Rattle.pol_commit_actions.specs.Replaced.{AreReplaced, changed_rows, i
 ghost use Rattle.pol_commit_actions.specs.Seen.{committed_tables};
 
 use crate::target::Committed;
-use pol_content::{Change, TablePut, TableRow};
+use pol_content::{Change, TableRow};
+use pol_puts::put_table;
 use pol_rules::changes::no_changes;
 use pol_rules::rules::{Asked, time_of};
 use pol_types::{Listed, OutOfMemory};
@@ -42,7 +43,7 @@ fn puts_of(asked: &Asked<'_>, rows: Vec<TableRow>) -> Result<Listed<Change>, Out
     }
     let mut changes = vec![in asked.alloc; Change::Time(time_of(asked))]?;
     for row in rows {
-        changes.push(Change::PutTable(TablePut::new(row)?))?;
+        changes.push(put_table(asked.alloc, row)?)?;
     }
     Ok(Listed::from(changes))
 }

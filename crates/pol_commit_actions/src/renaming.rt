@@ -12,8 +12,9 @@ ghost use Rattle.pol_commit_actions.specs.Rules.{rename_needs};
 
 use pol_access::Privilege;
 use pol_commands::Answer;
-use pol_content::{CatalogRow, Change, NamespaceRow, TablePut, TableRow};
+use pol_content::{CatalogRow, Change, NamespaceRow, TableRow};
 use pol_names::{Identifier, Name, Plain};
+use pol_puts::put_table;
 use pol_rules::callers::signed_in;
 use pol_rules::catalog_rules::catalog_there;
 use pol_rules::changes::one_change;
@@ -95,5 +96,5 @@ fn renamed_changes(
         location: row.location.clone()?,
         metadata: row.metadata.clone()?,
     };
-    one_change(asked, Change::PutTable(TablePut::new(renamed)?))
+    one_change(asked, put_table(asked.alloc, renamed)?)
 }

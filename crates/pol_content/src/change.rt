@@ -1,7 +1,7 @@
 ghost use Rattle.std.specs.Prelude.{◌≡◌};
 ghost use Rattle.pol_content.specs.Change.{kind_put};
 
-use crate::{CatalogRow, NamespaceRow};
+use crate::{CatalogRow, NamespaceRow, PutRow};
 use pol_access::{CatalogRoleRow, GrantRow, JoinRow, MemberRow, PrincipalRoleRow, PrincipalRow};
 use pol_table_rows::TablePut;
 use pol_tokens::{SessionRow, TokenRow};
@@ -19,19 +19,19 @@ pub enum Change {
     NextId(u64),
     /// The next serial becomes this one.
     NextSerial(u64),
-    PutPrincipal(PrincipalRow),
+    PutPrincipal(PutRow<PrincipalRow>),
     DropPrincipal(u64),
     PutPrincipalRole(PrincipalRoleRow),
     DropPrincipalRole(u64),
-    PutCatalog(CatalogRow),
+    PutCatalog(PutRow<CatalogRow>),
     DropCatalog(u64),
     PutCatalogRole(CatalogRoleRow),
     DropCatalogRole(u64),
-    PutNamespace(NamespaceRow),
+    PutNamespace(PutRow<NamespaceRow>),
     DropNamespace(u64),
-    PutTable(TablePut),
+    PutTable(PutRow<TablePut>),
     DropTable(u64),
-    PutView(ViewRow),
+    PutView(PutRow<ViewRow>),
     DropView(u64),
     PutMember(MemberRow),
     DropMember(MemberRow),
@@ -39,8 +39,8 @@ pub enum Change {
     DropJoin(JoinRow),
     PutGrant(GrantRow),
     DropGrant(GrantRow),
-    PutSession(SessionRow),
-    PutToken(TokenRow),
+    PutSession(PutRow<SessionRow>),
+    PutToken(PutRow<TokenRow>),
 }
 
 impl Change {

@@ -5,10 +5,12 @@ mod chain;
 mod change;
 mod content;
 pub mod laws;
+mod put_row;
 mod rows;
 
 pub use change::{Change, RowKind};
 pub use content::Content;
 pub use pol_table_rows::{Handle, TablePut, TableRow};
 pub use pol_view_rows::ViewRow;
+pub use put_row::PutRow;
 pub use rows::{CatalogRow, NamespaceName, NamespaceRow};

@@ -15,6 +15,7 @@ use pol_commands::Answer;
 use pol_content::{CatalogRow, Change};
 use pol_names::Plain;
 use pol_properties::Properties;
+use pol_puts::put_catalog;
 use pol_rules::callers::signed_in;
 use pol_rules::catalog_rules::{
     CATALOG_ADMIN, all_located, catalog_empty, catalog_free, catalog_there, kept_here, located,
@@ -115,12 +116,13 @@ fn created(
     let shown = row.clone()?;
     let admin = catalog_admin(asked.alloc, row.id)?;
     let (catalog, role) = (row.id, admin.id);
+    let put = put_catalog(asked.alloc, row)?;
     Ok(Acted {
         answer: Answer::CatalogCreated(shown),
         changes: Listed::from(vec![in asked.alloc;
             Change::Time(time_of(asked)),
             Change::NextId(catalog + 2),
-            Change::PutCatalog(row),
+            put,
             Change::PutCatalogRole(admin),
             Change::PutJoin(JoinRow {
                 principal_role: service.id,

@@ -12,6 +12,7 @@ use pol_commands::Answer;
 use pol_content::{CatalogRow, Change, NamespaceRow};
 use pol_names::{Namespace, Plain};
 use pol_properties::Properties;
+use pol_puts::put_namespace;
 use pol_rules::callers::signed_in;
 use pol_rules::catalog_rules::catalog_there;
 use pol_rules::changes::under_next_id;
@@ -107,7 +108,7 @@ fn created(asked: &Asked<'_>, row: NamespaceRow) -> Result<Acted, OutOfMemory>
         namespace: row.levels.clone()?,
         properties: row.properties.clone()?,
     };
-    let changes = under_next_id(asked, Change::PutNamespace(row))?;
+    let changes = under_next_id(asked, put_namespace(asked.alloc, row)?)?;
     Ok(Acted { answer, changes })
 }
 
@@ -237,8 +238,6 @@ fn altered_changes(
     if altered == *row {
         return Ok(Listed::from(Vec::new(asked.alloc)));
     }
-    Ok(Listed::from(vec![in asked.alloc;
-        Change::Time(time_of(asked)),
-        Change::PutNamespace(altered),
-    ]?))
+    let put = put_namespace(asked.alloc, altered)?;
+    Ok(Listed::from(vec![in asked.alloc; Change::Time(time_of(asked)), put]?))
 }

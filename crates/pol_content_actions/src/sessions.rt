@@ -6,6 +6,7 @@ ghost use Rattle.pol_state.specs.Sound.{IsSound};
 use crate::scopes::{scope_of, scopes_there};
 use pol_commands::Answer;
 use pol_content::Change;
+use pol_puts::put_session;
 use pol_rules::callers::client_there;
 use pol_rules::rules::{Acted, Asked, Undone, time_of};
 use pol_token_rules::counts::sessions_open;
@@ -39,6 +40,7 @@ pub fn open_session(
         scope,
         expires: time + SESSION_LIFE,
     };
+    let put = put_session(asked.alloc, row)?;
     Ok(Acted {
         answer: Answer::SessionOpened {
             serial,
@@ -48,7 +50,7 @@ pub fn open_session(
         changes: Listed::from(vec![in asked.alloc;
             Change::Time(time),
             Change::NextSerial(serial + 1),
-            Change::PutSession(row),
+            put,
         ]?),
     })
 }

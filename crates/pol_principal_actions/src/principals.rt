@@ -12,6 +12,7 @@ use pol_access::{PrincipalRow, Referent};
 use pol_commands::Answer;
 use pol_content::Change;
 use pol_names::Plain;
+use pol_puts::put_principal;
 use pol_rules::access_rules::{ROOT, client_free, principal_free, principal_there, unreserved};
 use pol_rules::changes::{no_changes, one_change, under_next_id};
 use pol_rules::drops::push_members;
@@ -106,7 +107,7 @@ fn created(asked: &Asked<'_>, row: PrincipalRow, secret: Text) -> Result<Acted, 
         client_id: row.client_id.clone()?,
         secret,
     };
-    let changes = under_next_id(asked, Change::PutPrincipal(row))?;
+    let changes = under_next_id(asked, put_principal(asked.alloc, row)?)?;
     Ok(Acted { answer, changes })
 }
 
@@ -194,5 +195,5 @@ fn rotated_changes(
         client_id: row.client_id.clone()?,
         digest: digest(secret),
     };
-    one_change(asked, Change::PutPrincipal(altered))
+    one_change(asked, put_principal(asked.alloc, altered)?)
 }

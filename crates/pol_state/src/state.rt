@@ -185,19 +185,19 @@ impl State {
             Change::Time(time) => self.time = time,
             Change::NextId(id) => self.next_id = id,
             Change::NextSerial(serial) => self.next_serial = serial,
-            Change::PutPrincipal(row) => self.access.put_principal(row),
+            Change::PutPrincipal(row) => self.access.put_principal(row.into_row()),
             Change::DropPrincipal(id) => self.access.drop_principal(id),
             Change::PutPrincipalRole(row) => self.access.put_principal_role(row),
             Change::DropPrincipalRole(id) => self.access.drop_principal_role(id),
-            Change::PutCatalog(row) => self.content.put_catalog(row),
+            Change::PutCatalog(row) => self.content.put_catalog(row.into_row()),
             Change::DropCatalog(id) => self.content.drop_catalog(id),
             Change::PutCatalogRole(row) => self.access.put_catalog_role(row),
             Change::DropCatalogRole(id) => self.access.drop_catalog_role(id),
-            Change::PutNamespace(row) => self.content.put_namespace(row),
+            Change::PutNamespace(row) => self.content.put_namespace(row.into_row()),
             Change::DropNamespace(id) => self.content.drop_namespace(id),
-            Change::PutTable(table) => self.content.put_table(table),
+            Change::PutTable(table) => self.content.put_table(table.into_row()),
             Change::DropTable(id) => self.content.drop_table(id),
-            Change::PutView(row) => self.content.put_view(row),
+            Change::PutView(row) => self.content.put_view(row.into_row()),
             Change::DropView(id) => self.content.drop_view(id),
             Change::PutMember(row) => self.access.put_member(row),
             Change::DropMember(row) => {
@@ -211,8 +211,8 @@ impl State {
             Change::DropGrant(row) => {
                 self.access.drop_grant(&row);
             }
-            Change::PutSession(row) => self.tokens.put_session(row),
-            Change::PutToken(row) => self.tokens.put_token(row),
+            Change::PutSession(row) => self.tokens.put_session(row.into_row()),
+            Change::PutToken(row) => self.tokens.put_token(row.into_row()),
         }
     }
 }

@@ -26,16 +26,17 @@ pub fn all_changes(alloc: Global, state: &State) -> Result<Vec<Change>, OutOfMem
         changes.items ≡ changes_between empty_state (live_part state.now.rows)) }
 {
     let mut changes = heading(alloc, state)?;
-    push_rows(state.access(), state.content(), &mut changes)?;
+    push_rows(alloc, state.access(), state.content(), &mut changes)?;
     push_members(alloc, state.access(), &mut changes)?;
     push_joins(alloc, state.access(), &mut changes)?;
     push_grants(alloc, state.access(), &mut changes)?;
-    push_live(state, &mut changes)?;
+    push_live(alloc, state, &mut changes)?;
     Ok(changes)
 }
 
 /// Pushes the puts of the rows that have ids.
 fn push_rows(
+    alloc: Global,
     access: &Access,
     content: &Content,
     changes: &mut Vec<Change>,
@@ -46,13 +47,13 @@ fn push_rows(
         ++ map PutCatalog content.catalogs) ++ map PutCatalogRole access.catalog_roles)
         ++ map PutNamespace content.namespaces) ++ map PutTable content.tables) ++ map PutView content.views) }
 {
-    push_puts(access.principals().as_slice(), changes)?;
-    push_puts(access.principal_roles().as_slice(), changes)?;
-    push_puts(content.catalogs().as_slice(), changes)?;
-    push_puts(access.catalog_roles().as_slice(), changes)?;
-    push_puts(content.namespaces().as_slice(), changes)?;
-    push_puts(content.tables().as_slice(), changes)?;
-    push_puts(content.views().as_slice(), changes)
+    push_puts(alloc, access.principals().as_slice(), changes)?;
+    push_puts(alloc, access.principal_roles().as_slice(), changes)?;
+    push_puts(alloc, content.catalogs().as_slice(), changes)?;
+    push_puts(alloc, access.catalog_roles().as_slice(), changes)?;
+    push_puts(alloc, content.namespaces().as_slice(), changes)?;
+    push_puts(alloc, content.tables().as_slice(), changes)?;
+    push_puts(alloc, content.views().as_slice(), changes)
 }
 
 /// Pushes the puts of the members, in rising order.
@@ -66,7 +67,7 @@ fn push_members(
         ≡ changes.old.items ++ map PutMember (members_in_order access.now.rows.members)) }
 {
     let rows = sorted_facts(copies(alloc, access.members().as_slice())?)?;
-    push_puts(rows.as_slice(), changes)
+    push_puts(alloc, rows.as_slice(), changes)
 }
 
 /// Pushes the puts of the joins, in rising order.
@@ -76,7 +77,7 @@ fn push_joins(alloc: Global, access: &Access, changes: &mut Vec<Change>) -> Resu
         ≡ changes.old.items ++ map PutJoin (joins_in_order access.now.rows.joins)) }
 {
     let rows = sorted_facts(copies(alloc, access.joins().as_slice())?)?;
-    push_puts(rows.as_slice(), changes)
+    push_puts(alloc, rows.as_slice(), changes)
 }
 
 /// Pushes the puts of the grants, in rising order.
@@ -86,7 +87,7 @@ fn push_grants(alloc: Global, access: &Access, changes: &mut Vec<Change>) -> Res
         ≡ changes.old.items ++ map PutGrant (grants_in_order access.now.rows.grants)) }
 {
     let rows = sorted_facts(copies(alloc, access.grants().as_slice())?)?;
-    push_puts(rows.as_slice(), changes)
+    push_puts(alloc, rows.as_slice(), changes)
 }
 
 fn copies<T: Copy>(alloc: Global, rows: &[T]) -> Result<Vec<T>, OutOfMemory>

@@ -8,19 +8,25 @@ use pol_content::Change;
 use pol_state::State;
 use pol_tokens::{SessionRow, TokenRow};
 use pol_types::OutOfMemory;
+use std::alloc::Global;
 
 /// Pushes the puts of the live sessions, and then of the live storage tokens, each in their order.
-pub(crate) fn push_live(state: &State, changes: &mut Vec<Change>) -> Result<(), OutOfMemory>
+pub(crate) fn push_live(
+    alloc: Global,
+    state: &State,
+    changes: &mut Vec<Change>,
+) -> Result<(), OutOfMemory>
     ensures { let live = live_tokens state.now.rows in
         OnOk result (changes.new.items
         ≡ (changes.old.items ++ map PutSession live.sessions) ++ map PutToken live.tokens) }
 {
-    push_sessions(state, state.tokens().sessions().as_slice(), changes)?;
-    push_tokens(state, state.tokens().tokens().as_slice(), changes)
+    push_sessions(alloc, state, state.tokens().sessions().as_slice(), changes)?;
+    push_tokens(alloc, state, state.tokens().tokens().as_slice(), changes)
 }
 
 /// Pushes the puts of those of the sessions that are live.
 fn push_sessions(
+    alloc: Global,
     state: &State,
     rows: &[SessionRow],
     changes: &mut Vec<Change>,
@@ -29,13 +35,14 @@ fn push_sessions(
         ≡ changes.old.items ++ map PutSession (filter (is_live state.now.rows) rows.now)) }
 {
     for row in rows {
-        push_session(state, row, changes)?;
+        push_session(alloc, state, row, changes)?;
     }
     Ok(())
 }
 
 /// Pushes the put of the session where it is live.
 fn push_session(
+    alloc: Global,
     state: &State,
     row: &SessionRow,
     changes: &mut Vec<Change>,
@@ -44,7 +51,7 @@ fn push_session(
         ≡ changes.old.items ++ map PutSession (filter (is_live state.now.rows) (row.now ∷ []))) }
 {
     if is_live(state, row) {
-        changes.push(row.put()?)?;
+        changes.push(row.put(alloc)?)?;
     }
     Ok(())
 }
@@ -59,6 +66,7 @@ fn is_live(state: &State, row: &SessionRow) -> bool
 
 /// Pushes the puts of those of the storage tokens that are live.
 fn push_tokens(
+    alloc: Global,
     state: &State,
     rows: &[TokenRow],
     changes: &mut Vec<Change>,
@@ -67,18 +75,23 @@ fn push_tokens(
         ≡ changes.old.items ++ map PutToken (filter (is_unexpired state.now.rows) rows.now)) }
 {
     for row in rows {
-        push_token(state, row, changes)?;
+        push_token(alloc, state, row, changes)?;
     }
     Ok(())
 }
 
 /// Pushes the put of the storage token where it is live.
-fn push_token(state: &State, row: &TokenRow, changes: &mut Vec<Change>) -> Result<(), OutOfMemory>
+fn push_token(
+    alloc: Global,
+    state: &State,
+    row: &TokenRow,
+    changes: &mut Vec<Change>,
+) -> Result<(), OutOfMemory>
     ensures { OnOk result (changes.new.items
         ≡ changes.old.items ++ map PutToken (filter (is_unexpired state.now.rows) (row.now ∷ []))) }
 {
     if is_unexpired(state, row) {
-        changes.push(row.put()?)?;
+        changes.push(row.put(alloc)?)?;
     }
     Ok(())
 }

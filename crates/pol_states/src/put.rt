@@ -3,25 +3,30 @@ ghost use Rattle.std.specs.Prelude.{◌≡◌, ◌++◌, map, IfOk, OnOk};
 ghost use Rattle.pol_content.specs.declared.change.Change.{Change};
 
 use pol_access::{CatalogRoleRow, GrantRow, JoinRow, MemberRow, PrincipalRoleRow, PrincipalRow};
-use pol_content::{CatalogRow, Change, NamespaceRow, TablePut, TableRow, ViewRow};
+use pol_content::{CatalogRow, Change, NamespaceRow, PutRow, TablePut, TableRow, ViewRow};
 use pol_tokens::{SessionRow, TokenRow};
 use pol_types::OutOfMemory;
+use std::alloc::Global;
 
 /// A row that a change puts.
 pub(crate) trait Put {
     ghost change: { Self → Change };
 
     /// The change that puts an equal row.
-    fn put(&self) -> Result<Change, OutOfMemory>
+    fn put(&self, alloc: Global) -> Result<Change, OutOfMemory>
         ensures { IfOk result (λ put. put ≡ change self.now) };
 }
 
 /// Pushes the puts of the rows, in their order.
-pub(crate) fn push_puts<R: Put>(rows: &[R], changes: &mut Vec<Change>) -> Result<(), OutOfMemory>
+pub(crate) fn push_puts<R: Put>(
+    alloc: Global,
+    rows: &[R],
+    changes: &mut Vec<Change>,
+) -> Result<(), OutOfMemory>
     ensures { OnOk result (changes.new.items ≡ changes.old.items ++ map R.change rows.now) }
 {
     for row in rows {
-        changes.push(row.put()?)?;
+        changes.push(row.put(alloc)?)?;
     }
     Ok(())
 }
@@ -31,8 +36,8 @@ impl Put for PrincipalRow {
 
     ghost change = { PutPrincipal };
 
-    fn put(&self) -> Result<Change, OutOfMemory> {
-        Ok(Change::PutPrincipal(self.clone()?))
+    fn put(&self, alloc: Global) -> Result<Change, OutOfMemory> {
+        Ok(Change::PutPrincipal(PutRow::new(alloc, self.clone()?)?))
     }
 }
 
@@ -41,7 +46,7 @@ impl Put for PrincipalRoleRow {
 
     ghost change = { PutPrincipalRole };
 
-    fn put(&self) -> Result<Change, OutOfMemory> {
+    fn put(&self, alloc: Global) -> Result<Change, OutOfMemory> {
         Ok(Change::PutPrincipalRole(self.clone()?))
     }
 }
@@ -51,8 +56,8 @@ impl Put for CatalogRow {
 
     ghost change = { PutCatalog };
 
-    fn put(&self) -> Result<Change, OutOfMemory> {
-        Ok(Change::PutCatalog(self.clone()?))
+    fn put(&self, alloc: Global) -> Result<Change, OutOfMemory> {
+        Ok(Change::PutCatalog(PutRow::new(alloc, self.clone()?)?))
     }
 }
 
@@ -61,7 +66,7 @@ impl Put for CatalogRoleRow {
 
     ghost change = { PutCatalogRole };
 
-    fn put(&self) -> Result<Change, OutOfMemory> {
+    fn put(&self, alloc: Global) -> Result<Change, OutOfMemory> {
         Ok(Change::PutCatalogRole(self.clone()?))
     }
 }
@@ -71,8 +76,8 @@ impl Put for NamespaceRow {
 
     ghost change = { PutNamespace };
 
-    fn put(&self) -> Result<Change, OutOfMemory> {
-        Ok(Change::PutNamespace(self.clone()?))
+    fn put(&self, alloc: Global) -> Result<Change, OutOfMemory> {
+        Ok(Change::PutNamespace(PutRow::new(alloc, self.clone()?)?))
     }
 }
 
@@ -81,8 +86,9 @@ impl Put for TableRow {
 
     ghost change = { PutTable };
 
-    fn put(&self) -> Result<Change, OutOfMemory> {
-        Ok(Change::PutTable(TablePut::new(self.clone()?)?))
+    fn put(&self, alloc: Global) -> Result<Change, OutOfMemory> {
+        let put = TablePut::new(self.clone()?)?;
+        Ok(Change::PutTable(PutRow::new(alloc, put)?))
     }
 }
 
@@ -91,8 +97,8 @@ impl Put for ViewRow {
 
     ghost change = { PutView };
 
-    fn put(&self) -> Result<Change, OutOfMemory> {
-        Ok(Change::PutView(self.clone()?))
+    fn put(&self, alloc: Global) -> Result<Change, OutOfMemory> {
+        Ok(Change::PutView(PutRow::new(alloc, self.clone()?)?))
     }
 }
 
@@ -101,7 +107,7 @@ impl Put for MemberRow {
 
     ghost change = { PutMember };
 
-    fn put(&self) -> Result<Change, OutOfMemory> {
+    fn put(&self, alloc: Global) -> Result<Change, OutOfMemory> {
         Ok(Change::PutMember(*self))
     }
 }
@@ -111,7 +117,7 @@ impl Put for JoinRow {
 
     ghost change = { PutJoin };
 
-    fn put(&self) -> Result<Change, OutOfMemory> {
+    fn put(&self, alloc: Global) -> Result<Change, OutOfMemory> {
         Ok(Change::PutJoin(*self))
     }
 }
@@ -121,7 +127,7 @@ impl Put for GrantRow {
 
     ghost change = { PutGrant };
 
-    fn put(&self) -> Result<Change, OutOfMemory> {
+    fn put(&self, alloc: Global) -> Result<Change, OutOfMemory> {
         Ok(Change::PutGrant(*self))
     }
 }
@@ -131,8 +137,8 @@ impl Put for SessionRow {
 
     ghost change = { PutSession };
 
-    fn put(&self) -> Result<Change, OutOfMemory> {
-        Ok(Change::PutSession(self.clone()?))
+    fn put(&self, alloc: Global) -> Result<Change, OutOfMemory> {
+        Ok(Change::PutSession(PutRow::new(alloc, self.clone()?)?))
     }
 }
 
@@ -141,7 +147,7 @@ impl Put for TokenRow {
 
     ghost change = { PutToken };
 
-    fn put(&self) -> Result<Change, OutOfMemory> {
-        Ok(Change::PutToken(self.clone()?))
+    fn put(&self, alloc: Global) -> Result<Change, OutOfMemory> {
+        Ok(Change::PutToken(PutRow::new(alloc, self.clone()?)?))
     }
 }

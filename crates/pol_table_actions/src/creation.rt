@@ -9,11 +9,12 @@ ghost use Rattle.pol_table_actions.specs.Loading.{loaded};
 use crate::loading::loaded;
 use pol_access::Privilege;
 use pol_commands::{CreateTable, Refusal, Words4};
-use pol_content::{Change, Handle, NamespaceRow, TablePut, TableRow};
+use pol_content::{Handle, NamespaceRow, TableRow};
 use pol_locations::Location;
 use pol_meta::{CreateRefused, TableMetadata};
 use pol_names::{Namespace, Plain};
 use pol_properties::Properties;
+use pol_puts::put_table;
 use pol_rules::callers::signed_in;
 use pol_rules::catalog_rules::catalog_there;
 use pol_rules::changes::under_next_id;
@@ -138,7 +139,6 @@ fn created(asked: &Asked<'_>, row: TableRow) -> Result<Acted, OutOfMemory>
     ensures changes { IfOk result (λ acted. acted.changes ≡ changes_to asked.now (λ s. with_table s row)) }
 {
     let answer = loaded(asked.alloc, &row, false)?;
-    let put = TablePut::new(row)?;
-    let changes = under_next_id(asked, Change::PutTable(put))?;
+    let changes = under_next_id(asked, put_table(asked.alloc, row)?)?;
     Ok(Acted { answer, changes })
 }

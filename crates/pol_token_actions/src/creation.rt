@@ -1,5 +1,6 @@
 //! Storage tokens of new tables.
 ghost use Rattle.std.specs.Prelude.{◌≡◌, ◌≤◌, ◌^◌, false, IfOk, Some};
+ghost use Rattle.pol_content.specs.declared.change.Change.TheVariants.{PutTable, PutToken};
 ghost use Rattle.pol_rules.specs.Judged.{Acts, changes_to};
 ghost use Rattle.pol_state.specs.Sound.{IsSound};
 ghost use Rattle.pol_token_actions.specs.Vending.{create_delegated, token_made, with_both};
@@ -8,8 +9,9 @@ ghost use Rattle.pol_table_actions.specs.Loading.{loaded_with};
 use crate::vending::token_with;
 use pol_access::{Privilege, Securable};
 use pol_commands::CreateTable;
-use pol_content::{Change, TablePut, TableRow};
+use pol_content::{Change, TableRow};
 use pol_names::{Namespace, Plain};
+use pol_puts::{put_table, put_token};
 use pol_rules::callers::signed_in;
 use pol_rules::catalog_rules::catalog_there;
 use pol_rules::namespace_rules::namespace_there;
@@ -23,6 +25,7 @@ use pol_token_rules::counts::tokens_open;
 use pol_token_rules::data::data_allowed_on_path;
 use pol_tokens::TokenRow;
 use pol_types::{Listed, OutOfMemory};
+use std::alloc::Global;
 
 /// Creates a table, and issues a storage token of it.
 #[tactic(auto, using(pol_state::proofs::BoundsLemmas::next_id_bound, pol_state::proofs::BoundsLemmas::next_serial_bound), unfolding(pol_table_actions::specs::Creation::new_table, pol_rules::specs::Prologues::namespace_row_at))]
@@ -108,12 +111,25 @@ fn under_both(
     requires last { token.serial ≡ asked.now.state.now.rows.next_serial }
     ensures { IfOk result (λ changes. changes ≡ changes_to asked.now (λ s. with_both s row token)) }
 {
-    let put = TablePut::new(row)?;
+    let (table, token) = puts(asked.alloc, row, token)?;
     Ok(Listed::from(vec![in asked.alloc;
         Change::Time(time_of(asked)),
         Change::NextId(asked.state.next_id() + 1),
         Change::NextSerial(asked.state.next_serial() + 1),
-        Change::PutTable(put),
-        Change::PutToken(token),
+        table,
+        token,
     ]?))
+}
+
+/// The puts of a table and of a storage token.
+fn puts(alloc: Global, row: TableRow, token: TokenRow) -> Result<(Change, Change), OutOfMemory>
+    ensures table { IfOk result (λ puts. puts.0 ≡ PutTable row) }
+    ensures token { IfOk result (λ puts. puts.1 ≡ PutToken token) }
+{
+    let table = put_table(alloc, row)?;
+    let Ok(token) = put_token(alloc, token) else {
+        drop(table);
+        return Err(OutOfMemory);
+    };
+    Ok((table, token))
 }

@@ -9,6 +9,7 @@ use pol_access::{Privilege, Securable};
 use pol_commands::Answer;
 use pol_content::{Change, TableRow};
 use pol_names::{Identifier, Plain};
+use pol_puts::put_token;
 use pol_rules::prologues::at_table;
 use pol_rules::rules::{Acted, Asked, Undone, time_of};
 use pol_table_actions::loading::loaded_with;
@@ -109,9 +110,10 @@ fn issuing(asked: &Asked<'_>, token: TokenRow) -> Result<Listed<Change>, OutOfMe
     requires next { token.serial ≡ asked.now.state.now.rows.next_serial }
     ensures { IfOk result (λ changes. changes ≡ changes_to asked.now (λ s. with_token s token)) }
 {
+    let token = put_token(asked.alloc, token)?;
     Ok(Listed::from(vec![in asked.alloc;
         Change::Time(time_of(asked)),
         Change::NextSerial(asked.state.next_serial() + 1),
-        Change::PutToken(token),
+        token,
     ]?))
 }

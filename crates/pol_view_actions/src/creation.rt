@@ -9,9 +9,10 @@ ghost use Rattle.pol_view_actions.specs.Views.{loaded};
 use crate::views::loaded;
 use pol_access::Privilege;
 use pol_commands::CreateView;
-use pol_content::{Change, Handle, NamespaceRow, ViewRow};
+use pol_content::{Handle, NamespaceRow, ViewRow};
 use pol_locations::Location;
 use pol_names::{Namespace, Plain};
+use pol_puts::put_view;
 use pol_rules::callers::signed_in;
 use pol_rules::catalog_rules::catalog_there;
 use pol_rules::changes::under_next_id;
@@ -117,6 +118,6 @@ fn created(asked: &Asked<'_>, row: ViewRow) -> Result<Acted, OutOfMemory>
     ensures changes { IfOk result (λ acted. acted.changes ≡ changes_to asked.now (λ s. with_view s row)) }
 {
     let answer = loaded(asked.alloc, &row)?;
-    let changes = under_next_id(asked, Change::PutView(row))?;
+    let changes = under_next_id(asked, put_view(asked.alloc, row)?)?;
     Ok(Acted { answer, changes })
 }

@@ -14,6 +14,7 @@ use pol_access::Privilege;
 use pol_commands::Answer;
 use pol_content::{CatalogRow, Change, NamespaceRow, ViewRow};
 use pol_names::{Identifier, Name, Plain};
+use pol_puts::put_view;
 use pol_rules::callers::signed_in;
 use pol_rules::catalog_rules::catalog_there;
 use pol_rules::changes::one_change;
@@ -94,5 +95,5 @@ fn renamed_changes(
         version: row.version,
         metadata: row.metadata.clone()?,
     };
-    one_change(asked, Change::PutView(renamed))
+    one_change(asked, put_view(asked.alloc, renamed)?)
 }

@@ -17,6 +17,7 @@ use pol_commands::{OptionName, Refusal, ViewCommit};
 use pol_content::{CatalogRow, Change, Handle, ViewRow};
 use pol_locations::Location;
 use pol_names::Plain;
+use pol_puts::put_view;
 use pol_rules::callers::signed_in;
 use pol_rules::catalog_rules::{catalog_there, located};
 use pol_rules::changes::{no_changes, one_change};
@@ -207,5 +208,5 @@ fn replaced_changes(
     if commit.updates.is_empty() {
         return Ok(no_changes(asked.alloc));
     }
-    one_change(asked, Change::PutView(after))
+    one_change(asked, put_view(asked.alloc, after)?)
 }

@@ -2,7 +2,7 @@ use Rattle.std.proofs.Common.{◌≡◌, Some, [], ◌∷◌, ◌+◌, ap, sym, 
 use Rattle.pol_content.specs.Content.{namespace_id}
 use Rattle.pol_content.specs.Rows.{namespace_rows_exact}
 use Rattle.pol_content.specs.contracts.rows.NamespaceRow.{the_row}
-use Rattle.pol_content.specs.declared.change.Change.TheVariants.{Time, PutNamespace}
+use Rattle.pol_content.specs.declared.change.Change.TheVariants.{Time}
 use Rattle.pol_content.specs.declared.rows.NamespaceRow.{NamespaceRow}
 use Rattle.pol_tables.specs.Table.{row_of}
 use Rattle.pol_tables.proofs.SameLemmas.{same-differ}
@@ -27,5 +27,5 @@ returns c =
     let other = same-differ the_row.coded c.args.altered c.args.row.now (λ is. true≢false (sym (namespace_rows_same c.args.altered c.args.row.now is) ∙ sym c.eq.ensures ∙ c.if-eq.false)) in
     c.from-2.ensures
     ∙ c.in_ok-vec.ensures.items
-    ∙ (λ i. Time (c.time_of.ensures i) ∷ PutNamespace c.args.altered ∷ [])
+    ∙ (λ i. Time (c.time_of.ensures i) ∷ c.in_ok-put.ensures i ∷ [])
     ∙ sym (changes-altered s c.requires.sound (time_of s command) (s.charged + command.charge) c.args.altered c.args.row.now there other)
