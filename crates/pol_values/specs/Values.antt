@@ -8,6 +8,7 @@ use Rattle.pol_names.specs.declared.namespace.NamespaceRefused.{NamespaceRefused
 use Rattle.pol_locations.specs.Location.{IsLocation, IsParseRefusal, is_cover, is_overlap, location_text, segments_of}
 use Rattle.pol_locations.specs.LocationRefused.{word_of}
 use Rattle.pol_locations.specs.declared.refused.LocationRefused.{LocationRefused}
+use Rattle.pol_values.specs.Changes.{TellsChanges, TellsChangesAgain, TellsObjectChange}
 use Rattle.pol_values.specs.Commits.{TellsCommit, TellsTransaction}
 use Rattle.pol_values.specs.Tables.{TellsMetadata, TellsTable}
 use Rattle.pol_values.specs.Views.{TellsView, TellsViewCommit, TellsViewMetadata}
@@ -88,6 +89,9 @@ Tells question.TableTransaction arguments told = OfOne (λ body. TellsTransactio
 Tells question.ViewRequest arguments told = OfOne (λ body. TellsView body told) arguments
 Tells question.ViewMetadata arguments told = OfOne (λ text. TellsViewMetadata text told) arguments
 Tells question.ViewCommit arguments told = OfTwo (λ text body. TellsViewCommit text body told) arguments
+Tells question.Changes arguments told = OfOne (λ digits. TellsChanges digits told) arguments
+Tells question.ChangesAgain arguments told = OfOne (λ digits. TellsChangesAgain digits told) arguments
+Tells question.ObjectChange arguments told = OfOne (λ digits. TellsObjectChange digits told) arguments
 
 -- a value is told to be what is wanted
 abbrev pub IsAsWanted : Value → Type 0

@@ -2,6 +2,7 @@
 //! what all lines have in common: texts with escapes, and why a line can't be read.
 #![tactic(auto)]
 
+mod changes;
 mod commits;
 mod difference;
 mod escapes;

@@ -3,6 +3,7 @@ ghost use Rattle.std.specs.Prelude.{◌≡◌, ◌++◌, IfOk, IfSome, None, All
 ghost use Rattle.pol_locations.specs.Location.{is_cover, is_overlap, segments_of};
 ghost use Rattle.pol_values.specs.Values.{Differs, IsAnother, IsAsWanted, Tells, TellsJoin, TellsLevels, TellsLocation, TellsName, TellsPlain, TellsSegment, TellsTest};
 
+use crate::changes::{changes, changes_again, object_change};
 use crate::commits::{commit, transaction};
 use crate::difference::Difference;
 use crate::escapes::{shown, unescaped, unescaped_text};
@@ -43,6 +44,9 @@ pub enum Question {
     ViewRequest,
     ViewMetadata,
     ViewCommit,
+    Changes,
+    ChangesAgain,
+    ObjectChange,
 }
 
 impl Value {
@@ -106,6 +110,9 @@ impl Question {
             "view-request" => Some(Question::ViewRequest),
             "view-metadata" => Some(Question::ViewMetadata),
             "view-commit" => Some(Question::ViewCommit),
+            "changes" => Some(Question::Changes),
+            "changes-again" => Some(Question::ChangesAgain),
+            "object-change" => Some(Question::ObjectChange),
             _ => None,
         }
     }
@@ -131,6 +138,9 @@ fn told(alloc: Global, question: Question, arguments: &[Text]) -> Result<String,
         (Question::ViewRequest, [body]) => view(alloc, body.as_str()),
         (Question::ViewMetadata, [text]) => view_metadata(alloc, text.as_str()),
         (Question::ViewCommit, [meta, body]) => view_commit(alloc, meta.as_str(), body.as_str()),
+        (Question::Changes, [digits]) => changes(alloc, digits.as_str()),
+        (Question::ChangesAgain, [digits]) => changes_again(alloc, digits.as_str()),
+        (Question::ObjectChange, [digits]) => object_change(alloc, digits.as_str()),
         _ => Err(Unread::Form),
     }
 }

@@ -1,0 +1,4 @@
+pub mod Change
+pub mod Codec
+pub mod Rows
+pub mod Told
