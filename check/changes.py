@@ -1,5 +1,4 @@
-"""The forms of rows, of the metadata of tables and views, and of changes. Those of the rows of tables and views, and of
-changes, are not in `pol_codec` yet."""
+"""The forms of rows, of the metadata of tables and views, and of changes, written a second time."""
 
 from forms import (
     BYTES,
@@ -280,6 +279,17 @@ CHANGE = enum(
     PutGrant=GRANT,
     DropGrant=GRANT,
     PutSession=struct(serial=NUMBER, word_a=NUMBER, word_b=NUMBER, principal=NUMBER, scope=SCOPE, expires=NUMBER),
+    PutToken=struct(
+        serial=NUMBER,
+        word_a=NUMBER,
+        word_b=NUMBER,
+        principal=NUMBER,
+        table=NUMBER,
+        moves=NUMBER,
+        location=LOCATION,
+        write=TRUTH,
+        expires=NUMBER,
+    ),
 )
 CHANGES = listed(CHANGE)
 OBJECT_CHANGE = enum(Put=struct(path=LOCATION, bytes=BYTES), Delete=struct(path=LOCATION))
