@@ -1,0 +1,4 @@
+pub mod DecidedLemmas
+pub mod SoundLemmas
+pub mod ValidLemmas
+pub mod WholeLemmas

@@ -1,0 +1,10 @@
+//! Whether the state after changes is sound.
+#![tactic(auto)]
+
+mod after;
+pub mod laws;
+mod soundness;
+mod ties;
+mod tokens;
+
+pub use soundness::sound_after;
