@@ -2,15 +2,16 @@ ghost use Rattle.std.specs.Prelude.{◌≡◌, None};
 
 use crate::{DiskOver, FileCalls};
 use std::fs::{OpenFile, OpenOptions};
-use std::io;
 use std::io::{Read, Seek, SeekFrom, Write};
 use std::marker::Model;
+use std::path::Path;
 use std::rt::Files;
+use std::{fs, io};
 
-/// A file of the system as a disk. It is opened at the first call, and made without bytes where it isn't there. An
-/// opening that fails is a fault, as is each call that the system refuses. It tells nothing of what it holds. That
-/// it keeps what the trait says of images is a property of an honest disk that nobody else writes; no clause says
-/// it.
+/// A file of the system as a disk. It is opened at the first call, and made without bytes where it isn't there. Its
+/// folder is synced then, so that the entry of a new file is there after a crash. An opening that fails is a fault, as
+/// is each call that the system refuses. It tells nothing of what it holds. That it keeps what the trait says of images
+/// is a property of an honest disk that nobody else writes; no clause says it.
 pub type FileDisk<R> = DiskOver<SystemFile<R>>;
 
 impl<R: Files> DiskOver<SystemFile<R>> {
@@ -44,7 +45,7 @@ impl<R: Files> Model for SystemFile<R> {
 }
 
 impl<R: Files> SystemFile<R> {
-    // The file, which is opened where it isn't open yet, and made where it isn't there.
+    // The file, which is opened where it isn't open yet, and made where it isn't there. Its folder is synced once.
     fn opened(&mut self) -> io::Result<&mut R::File> {
         if let Some(file) = self.opened.take() {
             return Ok(self.opened.insert(file));
@@ -54,6 +55,7 @@ impl<R: Files> SystemFile<R> {
             .write(true)
             .create(true)
             .open(&self.runtime, self.path.as_str())?;
+        sync_folder(&self.runtime, self.path.as_str())?;
         Ok(self.opened.insert(file))
     }
 
@@ -107,4 +109,13 @@ impl<R: Files> FileCalls for SystemFile<R> {
     fn moment(&self) -> u64 {
         0
     }
+}
+
+// Syncs the folder that the file of this path is in, and so its entry there.
+fn sync_folder<R: Files>(runtime: &R, path: &str) -> io::Result<()> {
+    let folder = match Path::new(path).parent() {
+        Some(folder) => folder.as_str(),
+        None => "",
+    };
+    fs::open(runtime, if folder.is_empty() { "." } else { folder })?.sync_all()
 }
