@@ -1,17 +1,19 @@
 -- What a journal over a disk promises, at rest and through its calls.
-use Rattle.std.specs.Prelude.{ℕ, ◌≡◌, ◌+◌, ◌-◌, ◌^◌, ◌<◌, List, [], ◌∷◌, ◌++◌, length, Option, Some, None, IsSome, IfSome, Result, Ok, Err, ⊤}
+use Rattle.std.specs.Prelude.{ℕ, ◌≡◌, ◌+◌, ◌-◌, ◌^◌, ◌<◌, ◌≤◌, List, [], ◌∷◌, ◌++◌, length, Option, Some, None, IsSome, IfSome, Result, Ok, Err, ⊤}
 use Rattle.pol_disk.specs.Disk.{IsDurable}
 use Rattle.pol_journal.specs.Format.{StandsFor, IsStaged, IsBeforeOrAfter, IsReadTo, extent}
 use Rattle.pol_journal.specs.declared.kind.Kind.{Kind}
+use Rattle.pol_journal.specs.declared.opening.Opening.{Opening}
 use Rattle.pol_journal.specs.declared.stage.Reached.{Reached}
 use Rattle.pol_journal.specs.declared.stage.Reached.TheVariants.{Body, Gate}
 use Rattle.pol_journal.specs.declared.stage.Stage.{Stage}
 use Rattle.pol_journal.specs.declared.stage.Stage.TheVariants.{Reading, Ready, Unsettled}
 
--- the disk, the kind, the gate of the record that was given last, the place of the next gate, and how far the journal
--- has come
+-- the disk, what it told at the opening, the kind, the gate of the record that was given last, the place of the next
+-- gate, and how far the journal has come
 pub record JournalState (D : Type 0) : Type 0 where
   pub disk : D
+  pub opening : Opening
   pub kind : Kind
   pub last : ℕ
   pub gate : ℕ
@@ -70,17 +72,31 @@ pub record IsUnsettled {D : Type 0} (seen : D → Option (List ℕ)) (may_leave 
   pub failed : journal.stage ≡ Unsettled reached
   pub hangs : Hangs reached journal.kind bodies body journal.gate (seen journal.disk) (may_leave journal.disk)
 
--- the journal reads these bytes, which no crash takes away, and has given these bodies of them
-pub record HasRead {D : Type 0} (seen : D → Option (List ℕ)) (may_leave : D → List ℕ → Type 0) (file : List ℕ) (bodies : List (List ℕ)) (journal : JournalState D) : Type 0 where
+-- since the opening the disk's clock and its count of faults have not gone back, and what a crash at any moment since
+-- then may have left has P
+pub record SinceOpening {D : Type 0} (clock : D → ℕ) (left_since : D → ℕ → List ℕ → Type 0) (fault_count : D → ℕ) (P : List ℕ → Type 0) (journal : JournalState D) : Type 0 where
+  pub later : journal.opening.moment ≤ clock journal.disk
+  pub counted : journal.opening.faults ≤ fault_count journal.disk
+  pub images : (image : List ℕ) → left_since journal.disk journal.opening.moment image → P image
+
+-- the journal reads these bytes, which no crash since the opening takes away, and has given these bodies of them
+pub record HasRead {D : Type 0} (seen : D → Option (List ℕ)) (may_leave : D → List ℕ → Type 0) (clock : D → ℕ) (left_since : D → ℕ → List ℕ → Type 0) (fault_count : D → ℕ) (file : List ℕ) (bodies : List (List ℕ)) (journal : JournalState D) : Type 0 where
   pub reading : IsReading journal
   pub told : seen journal.disk ≡ Some file
   pub durable : IsDurable (seen journal.disk) (may_leave journal.disk)
+  pub since : SinceOpening clock left_since fault_count (λ image. image ≡ file) journal
   pub read : IsReadTo journal.kind bodies journal.gate file
 
--- what comes after these bodies: the end, where the file stands for them and the journal is at rest, or one more
-abbrev pub GivesNext : {D : Type 0} → (D → Option (List ℕ)) → (D → List ℕ → Type 0) → List ℕ → List (List ℕ) → Option (List ℕ) → JournalState D → Type 0
-GivesNext seen may_leave file bodies None journal = IsAtRest seen may_leave bodies journal × StandsFor journal.kind bodies file
-GivesNext seen may_leave file bodies (Some body) journal = HasRead seen may_leave file (bodies ++ body ∷ []) journal
+-- the end of these bodies: the file stands for them, as each image since the opening does, and the journal is at rest
+pub record MeetsEnd {D : Type 0} (seen : D → Option (List ℕ)) (may_leave : D → List ℕ → Type 0) (clock : D → ℕ) (left_since : D → ℕ → List ℕ → Type 0) (fault_count : D → ℕ) (file : List ℕ) (bodies : List (List ℕ)) (journal : JournalState D) : Type 0 where
+  pub at_rest : IsAtRest seen may_leave bodies journal
+  pub stands : StandsFor journal.kind bodies file
+  pub since : SinceOpening clock left_since fault_count (StandsFor journal.kind bodies) journal
+
+-- what comes after these bodies: the end, or one more
+abbrev pub GivesNext : {D : Type 0} → (D → Option (List ℕ)) → (D → List ℕ → Type 0) → (D → ℕ) → (D → ℕ → List ℕ → Type 0) → (D → ℕ) → List ℕ → List (List ℕ) → Option (List ℕ) → JournalState D → Type 0
+GivesNext seen may_leave clock left_since fault_count file bodies None journal = MeetsEnd seen may_leave clock left_since fault_count file bodies journal
+GivesNext seen may_leave clock left_since fault_count file bodies (Some body) journal = HasRead seen may_leave clock left_since fault_count file (bodies ++ body ∷ []) journal
 
 -- a journal after a record was given, or the end was met
 abbrev pub after_next : {D : Type 0} → JournalState D → Option (List ℕ) → JournalState D

@@ -1,25 +1,27 @@
-ghost use Rattle.std.specs.Prelude.{◌≡◌, ◌≢◌, ◌≤◌, ◌<◌, ◌+◌, ◌-◌, ◌^◌, ◌++◌, ◌∷◌, [], ℕ, List, None, Ok, Some, IfErr, IfOk, IfSome, IsErrOf, OnErr, OnOk, is_err, length, max, option_map, true};
+ghost use Rattle.std.specs.Prelude.{◌≡◌, ◌≢◌, ◌≤◌, ◌<◌, ◌+◌, ◌-◌, ◌^◌, ◌↔◌, ◌++◌, ◌∷◌, [], ℕ, List, None, Ok, Some, IfErr, IfOk, IfSome, IsErrOf, IsTrue, OnErr, OnOk, is_err, length, max, option_map, true};
 ghost use Rattle.pol_journal.specs.declared.stage.Stage.TheVariants.{Reading, Ready};
 ghost use Rattle.pol_disk.specs.Disk.{IsDurable, LeavesOnly, Told, written};
 ghost use Rattle.pol_journal.specs.Crash.{IsUntouched};
-ghost use Rattle.pol_journal.specs.Format.{HasHeader, IsBeforeOrAfter, IsNoneOrStandsFor, area_of, header_of, record_of};
-ghost use Rattle.pol_journal.specs.Journal.{GivesNext, HasFailed, HasRead, IsAtRest, IsBlank, IsReading, IsReady, IsUnsettled, Stands, after_next, disk_of};
+ghost use Rattle.pol_journal.specs.Format.{HasHeader, IsBeforeOrAfter, IsNoneOrStandsFor, StandsFor, area_of, header_of, record_of};
+ghost use Rattle.pol_journal.specs.Journal.{GivesNext, HasFailed, HasRead, IsAtRest, IsBlank, IsReading, IsReady, IsUnsettled, SinceOpening, Stands, after_next, disk_of};
 ghost use Rattle.pol_journal.specs.Refused.{AppendRefused, CreateRefused, IsBadIn, NextRefused, OpenRefused, RepairRefused};
 
 use crate::format::{HEADER, LONGEST, RECORD};
 use crate::reads::{has_header, length_of, read_record};
 use crate::records::{take_back, write_journal, write_record};
 use crate::stage::Stage;
-use crate::{JournalRefused, Kind};
+use crate::{JournalRefused, Kind, Opening};
 use pol_disk::Disk;
 use pol_wire::Failed;
 use std::alloc::Global;
 use std::marker::Model;
 
-/// The records of a disk. They are read first, from the first to the last; then records are appended.
+/// The records of a disk. They are read first, from the first to the last; then records are appended. It keeps what
+/// its disk told when it was opened or made.
 #[derive(Drop)]
 pub struct Journal<D: Disk> {
     disk: D,
+    opening: Opening,
     kind: Kind,
     last: u64,
     gate: u64,
@@ -33,6 +35,7 @@ impl<D: Disk> Model for Journal<D> {
 
     ghost view = { λ journal. record {
       disk = journal.disk;
+      opening = journal.opening;
       kind = journal.kind;
       last = journal.last;
       gate = journal.gate;
@@ -83,8 +86,18 @@ impl<D: Disk> Journal<D> {
         ensures at_rest { IfOk result (λ journal. (bodies : List (List ℕ)) → first.now ≡ area_of bodies
             → IsBlank (D.seen disk) (D.may_leave disk)
             → IsAtRest D.seen D.may_leave bodies journal) }
-        ensures made { IfOk result (λ journal. journal
-            ≡ record { disk = journal.disk; kind = kind; last = 64; gate = 63 + length first.now; stage = Ready }) }
+        // What the disk tells now is the opening, and each image since then stands for the first bodies.
+        ensures since { IfOk result (λ journal. (bodies : List (List ℕ)) → first.now ≡ area_of bodies
+            → IsBlank (D.seen disk) (D.may_leave disk)
+            → SinceOpening D.clock D.left_since D.fault_count (StandsFor kind bodies) journal) }
+        ensures made { IfOk result (λ journal. journal ≡ record {
+          disk = journal.disk;
+          opening = record { faults = D.fault_count journal.disk; moment = D.clock journal.disk };
+          kind = kind;
+          last = 64;
+          gate = 63 + length first.now;
+          stage = Ready;
+        }) }
         ensures size { IfOk result (λ journal. IfSome (D.size journal.disk) (λ size. size ≡ 64 + length first.now)) }
         ensures bytes { IfOk result (λ journal.
             Told (λ old new. new ≡ header_of kind ++ first.now) (D.seen disk) (D.seen journal.disk)) }
@@ -99,6 +112,7 @@ impl<D: Disk> Journal<D> {
     {
         match Journal::create(&mut disk, kind, first) {
             Ok(()) => Ok(Journal {
+                opening: Opening::of(&disk),
                 disk,
                 kind,
                 last: HEADER,
@@ -113,10 +127,16 @@ impl<D: Disk> Journal<D> {
     /// first, so that what is read is what a crash leaves.
     pub fn open(mut disk: D, kind: Kind) -> Result<Self, (D, JournalRefused)>
         ensures opened { IfOk result (λ journal. (file : List ℕ) → D.seen disk ≡ Some file
-            → HasRead D.seen D.may_leave file [] journal) }
+            → HasRead D.seen D.may_leave D.clock D.left_since D.fault_count file [] journal) }
         ensures header { OnOk result (IfSome (D.seen disk) (HasHeader kind)) }
-        ensures made { IfOk result (λ journal.
-            journal ≡ record { disk = journal.disk; kind = kind; last = 64; gate = 64; stage = Reading }) }
+        ensures made { IfOk result (λ journal. journal ≡ record {
+          disk = journal.disk;
+          opening = record { faults = D.fault_count journal.disk; moment = D.clock journal.disk };
+          kind = kind;
+          last = 64;
+          gate = 64;
+          stage = Reading;
+        }) }
         ensures refused { IfErr result (λ refused.
             OpenRefused kind (D.seen disk) (D.fault_count disk) (D.fault_count refused.0) refused.1) }
         ensures untouched { IsUntouched D.clock D.left_since D.may_leave D.seen D.size disk (disk_of result) }
@@ -125,6 +145,7 @@ impl<D: Disk> Journal<D> {
     {
         match has_header(&mut disk, kind) {
             Ok(true) => Ok(Journal {
+                opening: Opening::of(&disk),
                 disk,
                 kind,
                 last: HEADER,
@@ -140,13 +161,13 @@ impl<D: Disk> Journal<D> {
     /// bad; after it, as after a fault or want of memory, the next call reads at the same gate again.
     pub fn next_record(&mut self, alloc: Global) -> Result<Option<Vec<u8>>, JournalRefused>
         // The bodies are those that the file's bytes stand for, one after the other, and a refusal is theirs.
-        ensures next { (file : List ℕ) (bodies : List (List ℕ)) → HasRead D.seen D.may_leave file bodies self.old
-            → IfOk result (λ next. GivesNext D.seen D.may_leave file bodies (option_map (λ body. body.items) next)
-            self.new) }
-        ensures bad { (file : List ℕ) (bodies : List (List ℕ)) → HasRead D.seen D.may_leave file bodies self.old
+        ensures next { (file : List ℕ) (bodies : List (List ℕ)) → HasRead D.seen D.may_leave D.clock D.left_since D.fault_count file bodies self.old
+            → IfOk result (λ next. GivesNext D.seen D.may_leave D.clock D.left_since D.fault_count file bodies
+            (option_map (λ body. body.items) next) self.new) }
+        ensures bad { (file : List ℕ) (bodies : List (List ℕ)) → HasRead D.seen D.may_leave D.clock D.left_since D.fault_count file bodies self.old
             → IfErr result (IsBadIn self.old.kind file) }
-        ensures still { (file : List ℕ) (bodies : List (List ℕ)) → HasRead D.seen D.may_leave file bodies self.old
-            → OnErr result (HasRead D.seen D.may_leave file bodies self.new) }
+        ensures still { (file : List ℕ) (bodies : List (List ℕ)) → HasRead D.seen D.may_leave D.clock D.left_since D.fault_count file bodies self.old
+            → OnErr result (HasRead D.seen D.may_leave D.clock D.left_since D.fault_count file bodies self.new) }
         ensures after { IfOk result (λ next. IsReading self.old
             → self.new ≡ record (after_next self.old (option_map (λ body. body.items) next)) { disk = self.new.disk }) }
         ensures left { OnErr result (self.new ≡ record self.old { disk = self.new.disk }) }
@@ -237,6 +258,20 @@ impl<D: Disk> Journal<D> {
             self.stage = Stage::Ready;
         }
         Ok(())
+    }
+
+    /// Whether an append failed, and no repair has succeeded since.
+    pub fn has_failed(&self) -> bool
+        ensures { IsTrue result ↔ HasFailed self.now }
+    {
+        matches!(self.stage, Stage::Unsettled(_))
+    }
+
+    /// What the disk told when the journal was opened or made. No later call changes it.
+    pub fn opening(&self) -> Opening
+        ensures { result ≡ self.now.opening }
+    {
+        self.opening
     }
 
     /// The place of the gate of the record that was given last, or of the first gate before any was given.

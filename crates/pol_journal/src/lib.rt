@@ -6,6 +6,7 @@ mod format;
 mod journal;
 mod kind;
 pub mod laws;
+mod opening;
 mod reads;
 mod records;
 mod refused;
@@ -14,4 +15,5 @@ mod writes;
 
 pub use journal::Journal;
 pub use kind::Kind;
+pub use opening::Opening;
 pub use refused::JournalRefused;
