@@ -1,0 +1,5 @@
+pub mod Declaration
+pub mod Faults
+pub mod Forms
+pub mod Reading
+pub mod Tables
