@@ -5,6 +5,7 @@ import os
 import subprocess
 import sys
 import tempfile
+import time
 from functools import cache
 
 TRIES = 3
@@ -75,7 +76,17 @@ def played_once(lines, times):
             file.write(f"== {number}\n" + "".join(f"{line}\n" for line in lines))
         file.flush()
         run = subprocess.Popen([program(), file.name], stdout=subprocess.DEVNULL)
-        _, ended, usage = os.wait4(run.pid, 0)
+        peak = 0
+        while (waited := os.wait4(run.pid, os.WNOHANG))[0] == 0:
+            peak = peak_of(run.pid) or peak
+            time.sleep(0.001)
+    _, ended, usage = waited
     if os.waitstatus_to_exitcode(ended) != 0:
         sys.exit(f"{lines[0][:40]}: status {os.waitstatus_to_exitcode(ended)}")
-    return usage.ru_utime + usage.ru_stime, usage.ru_maxrss * 1024
+    return usage.ru_utime + usage.ru_stime, peak
+
+
+def peak_of(process):
+    """The peak of a process's memory so far, in bytes. What `wait4` tells has the memory of this script in it."""
+    with open(f"/proc/{process}/status", encoding="ascii") as status:
+        return next((int(line.split()[1]) * 1024 for line in status if line.startswith("VmHWM")), 0)
