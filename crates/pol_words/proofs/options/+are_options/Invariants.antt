@@ -1,0 +1,4 @@
+use Rattle.pol_words.proofs.options.+are_options.Given as goal
+
+abbrev pub decreases-are_options : goal.decreases-are_options
+decreases-are_options l = l.count
