@@ -1,18 +1,19 @@
 -- The places of tables, once one is put or taken away, and the table that overlaps a location.
-use Rattle.std.proofs.Common.{◌≡◌, ℕ, Bool, true, false, not, cond, ◌&&◌, ◌||◌, List, [], ◌∷◌, filter, map, nat_eq, refl, sym, ap, ◌∙◌, inl, inr, true≢false}
+use Rattle.std.proofs.Common.{◌≡◌, ℕ, Bool, true, false, not, cond, ◌&&◌, ◌||◌, List, [], ◌∷◌, filter, map, nat_eq, None, Some, Option, is_some, refl, sym, ap, ◌∙◌, inl, inr, true≢false}
+use Rattle.std.specs.Cmp.Lexicographic.{bytes_decides, pointwise_decides}
 use Rattle.std.specs.List.{list_any}
 use Rattle.std.proofs.lemmas.Bool.{cases_Bool, eq-eqb, eqb-true}
 use Rattle.std.proofs.lemmas.List.Folds.{list_any-append}
 use Rattle.pol_locations.specs.contracts.location_set.Member.{the_row}
 use Rattle.pol_locations.specs.declared.location_set.Member.{Member}
-use Rattle.pol_table_rows.specs.Places.{IsPut, IsTaken, is_owner}
-use Rattle.pol_table_rows.specs.Tables.{ArePlaced, member_of, table_id}
+use Rattle.pol_table_rows.specs.Places.{IsPut, IsTaken, is_owner, is_placed}
+use Rattle.pol_table_rows.specs.Tables.{ArePlaced, member_of, stays_at, table_id}
 use Rattle.pol_table_rows.specs.declared.row.TableRow.{TableRow}
 use Rattle.pol_tables.specs.Same.{same}
-use Rattle.pol_tables.specs.Table.{has_id, knows, rows_with, rows_without}
+use Rattle.pol_tables.specs.Table.{has_id, knows, row_of, rows_with, rows_without, IdsDiffer}
 use Rattle.pol_tables.proofs.ListLemmas.{and_false, or_false}
 use Rattle.pol_tables.proofs.SameLemmas.{same-true}
-use Rattle.pol_tables.proofs.TableLemmas.{rows_with-known, rows_with-new}
+use Rattle.pol_tables.proofs.TableLemmas.{differ_past, knows-lacks, lacks_past, some_is, rows_with-known, rows_with-new}
 
 module _ (other : Member) where
   abbrev lies : TableRow → Bool
@@ -109,10 +110,51 @@ module _ (other : Member) where
         pushed unknown false apart =
             ap (λ b. list_any lies rows || (b || false)) (owns row apart) ∙ or_false (list_any lies rows) ∙ ap (λ b. b || list_any lies rows) (sym (owns row apart))
 
+    -- where a row of distinct ones has the row's id and its location, whether they have the owner's member is whether the row does
+    own-found : is_owner row.id other ≡ true → (known : TableRow) → known.location ≡ row.location → (rows : List TableRow) → IdsDiffer table_id rows → row_of table_id row.id rows ≡ Some known
+        → list_any lies rows ≡ lies row
+    own-found is known there [] differ found = absurd (true≢false (sym (ap is_some found)))
+    own-found is known there (kept ∷ rows) differ found =
+        by (has_id table_id row.id kept) refl found (λ rest. own-found is known there rows (differ_past table_id kept rows differ) rest)
+      where
+        here : has_id table_id row.id kept ≡ true → Some kept ≡ Some known → (lies kept || list_any lies rows) ≡ lies row
+        here has one =
+            let same_row : kept ≡ known = some_is kept known one in
+            let member : member_of kept ≡ member_of row =
+            λ i. record { owner = sym (eqb-true row.id kept.id has) i; location = (ap (λ (one : TableRow). one.location) same_row ∙ there) i } in
+            ap (λ b. lies kept || b) (none-own is rows (knows-lacks table_id row.id rows (lacks_past table_id row.id kept rows differ has)))
+            ∙ or_false (lies kept)
+            ∙ ap (λ one. same the_row.coded other one) member
+
+        by : (has : Bool) → has_id table_id row.id kept ≡ has → cond has (Some kept) (row_of table_id row.id rows) ≡ Some known → (row_of table_id row.id rows ≡ Some known → list_any lies rows ≡ lies row)
+            → (lies kept || list_any lies rows) ≡ lies row
+        by true has one others = here has one
+        by false elsewhere rest others =
+            ap (λ b. b || list_any lies rows) (owns kept (owner-not row.id kept is elsewhere)) ∙ others rest
+
+    -- so the row that is put has the places of those before it
+    pub lies-found : (known : TableRow) → known.location ≡ row.location → (rows : List TableRow) → IdsDiffer table_id rows → row_of table_id row.id rows ≡ Some known
+        → list_any lies rows ≡ (lies row || (not (is_owner row.id other) && list_any lies rows))
+    lies-found known there rows differ found = by (is_owner row.id other) refl
+      where
+        by : (owned : Bool) → is_owner row.id other ≡ owned → list_any lies rows ≡ (lies row || (not owned && list_any lies rows))
+        by true is = own-found is known there rows differ found ∙ sym (or_false (lies row))
+        by false apart = ap (λ b. b || list_any lies rows) (sym (owns row apart))
+
 -- members stay the places of the tables once a table and its location are put, or both are taken
 pub placed-put : (row : TableRow) (rows : List TableRow) (old new : List Member) → ArePlaced old rows → IsPut (member_of row) old new → ArePlaced new (rows_with table_id row rows)
 placed-put row rows old new placed put other =
     put other ∙ ap (λ b. same the_row.coded other (member_of row) || (not (is_owner row.id other) && b)) (placed other) ∙ sym (lies-with other row rows)
+
+-- and where the table stays at its location, they stay as they are
+pub placed-stays : (row : TableRow) (rows : List TableRow) (members : List Member) → IdsDiffer table_id rows → stays_at row.location (row_of table_id row.id rows) ≡ true
+    → ArePlaced members rows → ArePlaced members (rows_with table_id row rows)
+placed-stays row rows members differ stays placed other = by (row_of table_id row.id rows) refl stays
+  where
+    by : (found : Option TableRow) → row_of table_id row.id rows ≡ found → stays_at row.location found ≡ true → is_placed other members ≡ list_any (lies other) (rows_with table_id row rows)
+    by None none stays = absurd (true≢false (sym stays))
+    by (Some known) found stays =
+        placed other ∙ lies-found other row known ((pointwise_decides bytes_decides known.location row.location).0 stays) rows differ found ∙ sym (lies-with other row rows)
 
 pub placed-taken : (id : ℕ) (rows : List TableRow) (old new : List Member) → ArePlaced old rows → IsTaken id old new → ArePlaced new (rows_without table_id id rows)
 placed-taken id rows old new placed taken other =

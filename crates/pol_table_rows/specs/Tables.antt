@@ -1,6 +1,6 @@
 -- Tables, as contracts see them.
-use Rattle.std.specs.Prelude.{◌≡◌, ℕ, Bool, ◌&&◌, nat_eq, List, filter, Option}
-use Rattle.std.specs.Cmp.Lexicographic.{slice_cmp}
+use Rattle.std.specs.Prelude.{◌≡◌, ℕ, Bool, false, ◌&&◌, nat_eq, List, filter, Option, Some, None}
+use Rattle.std.specs.Cmp.Lexicographic.{pointwise, slice_cmp}
 use Rattle.std.specs.List.{find, list_any, IsDistinct}
 use Rattle.std.specs.Ordering.{nat_cmp}
 use Rattle.std.specs.Str.{bytes_eq}
@@ -52,6 +52,11 @@ holds_table namespace rows = list_any (λ row. nat_eq row.namespace namespace) r
 -- a table's location, as a member of a set of locations
 abbrev pub member_of : TableRow → Member
 member_of row = record { owner = row.id; location = row.location }
+
+-- whether there is a table, and it lies at the location
+abbrev pub stays_at : List (List ℕ) → Option TableRow → Bool
+stays_at place None = false
+stays_at place (Some known) = pointwise (pointwise nat_eq) known.location place
 
 -- the first table whose location overlaps a wanted one, but for those of some ids; where ids rise it is that of the
 -- least id

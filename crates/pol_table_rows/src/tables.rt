@@ -3,7 +3,7 @@ ghost use Rattle.std.specs.Slice.Iter.{iter_rest};
 ghost use Rattle.pol_tables.specs.Named.{Finds};
 ghost use Rattle.pol_tables.specs.Rising.{KeysRise};
 ghost use Rattle.pol_tables.specs.Table.{row_of, rows_with, rows_without};
-ghost use Rattle.pol_table_rows.specs.Tables.{TableNamesDiffer, holds_table, is_table_named, overlapping, table_id, table_named, tables_in};
+ghost use Rattle.pol_table_rows.specs.Tables.{TableNamesDiffer, holds_table, is_table_named, overlapping, stays_at, table_id, table_named, tables_in};
 
 use crate::{Places, TableName, TablePut, TableRow};
 use pol_locations::Location;
@@ -102,14 +102,18 @@ impl Tables {
         self.places.reserve(more)
     }
 
-    /// Puts a table, and takes no memory: a new id goes last, and a known id's row is replaced in its place.
+    /// Puts a table, and takes no memory: a new id goes last, and a known id's row is replaced in its place. Where the
+    /// table stays at its location, it looks at no other table's.
     pub fn put(&mut self, table: TablePut)
         requires { 0 < self.old.room }
         ensures rows { self.new.rows ≡ rows_with table_id table self.old.rows }
         ensures room { self.old.room ≤ self.new.room + 1 }
     {
         let (row, place) = table.into_parts();
-        self.places.put(row.id, place);
+        let _differ = self.rows.rows();
+        if !stays_at(self.rows.find(row.id), &place) {
+            self.places.put(row.id, place);
+        }
         self.rows.put(row);
     }
 
@@ -131,6 +135,13 @@ impl Clone for Tables {
         let places = self.places.clone()?;
         Ok(Tables { rows, places })
     }
+}
+
+/// Whether there is a table, and it lies at the location.
+fn stays_at(known: Option<&TableRow>, place: &Location) -> bool
+    ensures { result ≡ stays_at place.now (option_copied known.entry) }
+{
+    known.is_some_and(|known| known.location == *place)
 }
 
 /// Those of the tables that are in the namespace.
