@@ -93,7 +93,7 @@ pub(crate) fn kind_of(refusal: &Refusal) -> Option<&'static str>
 }
 
 /// The message that tells a refusal.
-pub(crate) fn message_of(alloc: Global, refusal: &Refusal) -> Result<String, AllocError>
+pub fn message_of(alloc: Global, refusal: &Refusal) -> Result<String, AllocError>
     ensures { IfOk result (λ message. string_bytes message ≡ spec.message_of refusal.now) }
 {
     match refusal {
