@@ -6,8 +6,17 @@ use Rattle.pol_journal.specs.declared.kind.Kind.TheVariants.{Catalogue}
 use Rattle.pol_journal.specs.declared.refused.JournalRefused.{JournalRefused}
 use Rattle.pol_journal.specs.declared.refused.JournalRefused.TheVariants.{NotAJournal, JournalThere, BadRecord, JournalFull, Unknown, DiskFault, OutOfMemory}
 use Rattle.pol_opening.specs.Opening.{IsRefusedAt, LeadsTo}
+use Rattle.pol_opening.specs.declared.making.Known.{Known}
+use Rattle.pol_opening.specs.declared.making.Known.TheVariants.{Valid, Sound}
+use Rattle.pol_sound_content.specs.Valid.{HasValidParts}
 use Rattle.pol_state.specs.Rows.{Rows, empty_state}
+use Rattle.pol_state.specs.Sound.{IsSound}
 use Rattle.pol_wire.specs.Faults.{Rises}
+
+-- what is known of the state before a record
+abbrev pub IsKnown : Known → Rows → Type 0
+IsKnown Valid s = HasValidParts s.content
+IsKnown Sound s = IsSound s
 
 -- Reading goes on from one journal to another: its kind and what its disk told at the opening stay, its disk reads as
 -- before, and the count of faults doesn't fall.

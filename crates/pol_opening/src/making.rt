@@ -1,9 +1,8 @@
 //! The changes of a record are made, where they lead to a sound state.
-ghost use Rattle.std.specs.Prelude.{◌≡◌, IfErr, OnOk};
+ghost use Rattle.std.specs.Prelude.{◌≡◌, Decides, IfErr, IfOk, OnOk};
 ghost use Rattle.std.specs.List.{AllByRecursion};
 ghost use Rattle.pol_opening.specs.Opening.{LeadsBy};
-ghost use Rattle.pol_opening.specs.Reading.{MakingRefused};
-ghost use Rattle.pol_sound_content.specs.Valid.{HasValidParts};
+ghost use Rattle.pol_opening.specs.Reading.{IsKnown, MakingRefused};
 ghost use Rattle.pol_soundness.specs.Base.{PutsValid, rows_after};
 ghost use Rattle.pol_state.specs.Applied.{changed};
 ghost use Rattle.pol_state.specs.Rows.{Rows};
@@ -13,10 +12,20 @@ use pol_changecodec::read_changes;
 use pol_content::Change;
 use pol_forms::CodecRefused;
 use pol_journal::JournalRefused;
+use pol_sound_steps::sound_next;
 use pol_soundness::sound_after;
 use pol_state::State;
 use pol_types::OutOfMemory;
 use std::alloc::Global;
+
+/// What is known of the state before a record.
+#[derive(Clone, Copy)]
+pub(crate) enum Known {
+    /// Its metadata are valid. So are those of the empty state, which isn't sound.
+    Valid,
+    /// It is sound, as the state behind each record is.
+    Sound,
+}
 
 /// Makes the changes whose form a body is. `at` is the place of its record's gate: the record is bad where the body is
 /// no form, or its changes lead to no sound state.
@@ -24,15 +33,16 @@ pub(crate) fn make(
     alloc: Global,
     body: &[u8],
     at: u64,
+    known: Known,
     state: &mut State,
 ) -> Result<(), JournalRefused>
-    requires { HasValidParts state.old.rows.content }
+    requires { IsKnown known state.old.rows }
     ensures made { OnOk result (LeadsBy body.now state.old.rows state.new.rows) }
     ensures charged { OnOk result (state.new.rows.charged ≡ state.old.rows.charged) }
     ensures refused { IfErr result (MakingRefused at ((t : Rows) → LeadsBy body.now state.old.rows t → ⊥)) }
 {
     match read_changes(alloc, body) {
-        Ok(changes) => make_all(alloc, changes, at, state),
+        Ok(changes) => make_all(alloc, changes, at, known, state),
         Err(CodecRefused::NoForm) => Err(JournalRefused::BadRecord { at }),
         Err(CodecRefused::OutOfMemory) => Err(JournalRefused::OutOfMemory),
     }
@@ -43,18 +53,37 @@ fn make_all(
     alloc: Global,
     changes: Vec<Change>,
     at: u64,
+    known: Known,
     state: &mut State,
 ) -> Result<(), JournalRefused>
-    requires state { HasValidParts state.old.rows.content }
+    requires state { IsKnown known state.old.rows }
     requires changes { AllByRecursion PutsValid changes.items }
     ensures made { OnOk result (state.new.rows ≡ rows_after changes.items state.old.rows) }
     ensures sound { OnOk result (IsSound state.new.rows) }
     ensures refused { IfErr result (MakingRefused at (IsSound (rows_after changes.items state.old.rows) → ⊥)) }
 {
-    match sound_after(alloc, state, changes.as_slice()) {
+    match is_sound_after(alloc, known, state, changes.as_slice()) {
         Ok(true) => apply(state, changes),
         Ok(false) => Err(JournalRefused::BadRecord { at }),
         Err(OutOfMemory) => Err(JournalRefused::OutOfMemory),
+    }
+}
+
+/// Whether changes lead to a sound state. Where the state before them is sound and they are of a known shape, it looks
+/// at the rows that they touch alone.
+fn is_sound_after(
+    alloc: Global,
+    known: Known,
+    state: &State,
+    changes: &[Change],
+) -> Result<bool, OutOfMemory>
+    requires state { IsKnown known state.now.rows }
+    requires changes { AllByRecursion PutsValid changes.now }
+    ensures { IfOk result (λ sound. Decides sound (IsSound (rows_after changes.now state.now.rows))) }
+{
+    match known {
+        Known::Valid => sound_after(alloc, state, changes),
+        Known::Sound => sound_next(alloc, state, changes),
     }
 }
 

@@ -3,13 +3,13 @@ ghost use Rattle.std.specs.Prelude.{◌≡◌, ◌≢◌, ◌≤◌, ◌<◌, �
 ghost use Rattle.pol_journal.specs.Crash.{IsUntouched};
 ghost use Rattle.pol_journal.specs.Journal.{IsReading, IsReady};
 ghost use Rattle.pol_opening.specs.Opening.{Opens, OpeningRefused, disk_left};
-ghost use Rattle.pol_opening.specs.Reading.{GoesOn, IsReadSoFar, IsReadSome, IsToldBy, ReadingRefused, ReadsOn};
+ghost use Rattle.pol_opening.specs.Reading.{GoesOn, IsKnown, IsReadSoFar, IsReadSome, IsToldBy, ReadingRefused, ReadsOn};
 ghost use Rattle.pol_sound_content.specs.Valid.{HasValidParts};
 ghost use Rattle.pol_state.specs.Rows.{empty_state};
 ghost use Rattle.pol_state.specs.Sound.{IsSound};
 
 use crate::Opened;
-use crate::making::make;
+use crate::making::{Known, make};
 use pol_disk::Disk;
 use pol_journal::{Journal, JournalRefused, Kind};
 use pol_state::State;
@@ -86,7 +86,7 @@ fn read_all<D: Disk>(
         (D.fault_count journal.old.disk) (D.fault_count journal.new.disk)) }
     ensures reads { ReadsOn D.clock D.left_since D.may_leave D.seen D.size D.fault_count journal.old journal.new }
 {
-    if !read_one(alloc, journal, state)? {
+    if !read_one(alloc, journal, Known::Valid, state)? {
         return Err(JournalRefused::BadRecord {
             at: journal.last_gate(),
         });
@@ -115,7 +115,7 @@ fn read_on<D: Disk>(
         (D.fault_count journal.old.disk) (D.fault_count journal.new.disk)) }
     ensures reads { ReadsOn D.clock D.left_since D.may_leave D.seen D.size D.fault_count journal.old journal.new }
 {
-    while read_one(alloc, journal, state)? {}
+    while read_one(alloc, journal, Known::Sound, state)? {}
     Ok(())
 }
 
@@ -123,10 +123,11 @@ fn read_on<D: Disk>(
 fn read_one<D: Disk>(
     alloc: Global,
     journal: &mut Journal<D>,
+    known: Known,
     state: &mut State,
 ) -> Result<bool, JournalRefused>
     requires reading { IsReading journal.old }
-    requires valid { HasValidParts state.old.rows.content }
+    requires known { IsKnown known state.old.rows }
     ensures read { IfOk result (λ more. (file : List ℕ) (bodies : List (List ℕ))
         → IsReadSoFar D.seen D.may_leave D.clock D.left_since D.fault_count file bodies journal.old state.old.rows
         → GoesOn D.seen D.may_leave D.clock D.left_since D.fault_count file bodies journal.new state.new.rows more) }
@@ -147,6 +148,6 @@ fn read_one<D: Disk>(
     let Some(body) = journal.next_record(alloc)? else {
         return Ok(false);
     };
-    make(alloc, body.as_slice(), journal.last_gate(), state)?;
+    make(alloc, body.as_slice(), journal.last_gate(), known, state)?;
     Ok(true)
 }

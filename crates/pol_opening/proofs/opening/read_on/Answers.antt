@@ -1,7 +1,6 @@
 use Rattle.std.proofs.Common.{◌++◌, ◌∷◌, [], ◌∙◌}
 use Rattle.std.proofs.lemmas.Result.{err_from_is_err_and}
 use Rattle.pol_opening.proofs.ReadingLemmas.{all_read, reads_both, some_more}
-use Rattle.pol_soundness.proofs.ValidLemmas.{sound-valid}
 use Rattle.pol_opening.proofs.opening.read_on.Goals as goal
 
 pub returns-in_err-read_one-clause-told : goal.returns-in_err-read_one-clause-told
@@ -27,6 +26,3 @@ pub returns-clause-opened : goal.returns-clause-opened
 returns-clause-opened g c file some =
     let d = g.D.Disk in
     all_read d.seen d.may_leave d.clock d.left_since d.fault_count c.loop.journal c.read_one.new.journal c.loop.state.rows c.read_one.new.state.rows _ c.if-branch.false c.in_ok-read_one.ensures.read file (c.loop.invariant.read file some)
-
-pub read_one-requires-clause-valid : goal.read_one-requires-clause-valid
-read_one-requires-clause-valid g c = sound-valid c.loop.state.rows c.loop.invariant.sound
