@@ -1,0 +1,7 @@
+pub mod Drawing
+pub mod FirstRecord
+pub mod Journals
+pub mod Output
+pub mod Prepared
+pub mod Reading
+pub mod SetUp
