@@ -1,5 +1,5 @@
 -- What the machine leaves: an object that is put stays, and what is counted.
-use Rattle.std.proofs.Common.{◌≡◌, ◌≤◌, ◌+◌, ℕ, Bool, true, false, not, cond, List, [], ◌∷◌, length, None, Some, is_some, refl, ap, sym, subst, ◌∙◌, true≢false, arith}
+use Rattle.std.proofs.Common.{◌≡◌, ◌≤◌, ◌+◌, ◌-◌, ℕ, Bool, true, false, not, cond, List, [], ◌∷◌, length, None, Some, is_some, refl, ap, sym, subst, ◌∙◌, true≢false, arith}
 use Rattle.std.specs.Cmp.Lexicographic.{nat_list_cmp_total}
 use Rattle.std.specs.List.{find}
 use Rattle.std.specs.Ordering.{is_eq, is_lt}
@@ -13,7 +13,7 @@ use Rattle.pol_locations.specs.Location.{location_text}
 use Rattle.pol_objects.proofs.Covered.{texts_tell}
 use Rattle.pol_objects.proofs.Kept.{same_text}
 use Rattle.pol_objects.specs.Laws.{CountIsBounded, PutIsThere, PutsAreCounted, TakenBack, TextsTell, WrittenOnce, counted_by, counted_unless, deletes}
-use Rattle.pol_objects.specs.Machine.{after_put, object_next, put_refusal}
+use Rattle.pol_objects.specs.Machine.{after_put, object_next, put_refusal, stored}
 use Rattle.pol_objects.specs.Objects.{byte_order, has_text, is_at, object_at, order_at, with_object, without_object}
 use Rattle.pol_objects.specs.Rules.{size_refusal}
 use Rattle.pol_objects.specs.declared.action.ObjectAction.{ObjectAction}
@@ -182,7 +182,7 @@ none_taken : (path : List (List ℕ)) (first : Object) (objects : List Object) (
 none_taken path first objects true none rest = cc
 none_taken path first objects false none rest = ap (λ kept. first ∷ kept) (rest none)
 
-all_kept : (path : List (List ℕ)) (objects : List Object) → object_at objects path ≡ None → without_object path objects ≡ objects
+pub all_kept : (path : List (List ℕ)) (objects : List Object) → object_at objects path ≡ None → without_object path objects ≡ objects
 all_kept path [] none = refl
 all_kept path (first ∷ objects) none = none_taken path first objects (is_at path first) none (all_kept path objects)
 
@@ -202,3 +202,12 @@ pub taken_back : TakenBack
 taken_back [] object new = subst (λ own. cond (not own) (object ∷ []) [] ≡ []) (sym (own_text object)) refl
 taken_back (first ∷ objects) object new =
     back object first objects (order_at (location_text object.path) first) refl new new (taken_back objects object)
+
+-- a state that an object was added to, once it is taken out again
+pub taken_back_state : (before old : ObjectState) (path : List (List ℕ)) (bytes : List ℕ) (objects : List Object) (counted : ℕ) → put_refusal before path bytes ≡ None
+    → old ≡ stored before path bytes → objects ≡ without_object path old.objects → counted ≡ old.counted - length bytes → record { objects = objects; counted = counted } ≡ before
+taken_back_state before old path bytes objects counted accepted was taken left =
+    let same : objects ≡ before.objects = taken ∙ ap (λ (s : ObjectState). without_object path s.objects) was
+    ∙ taken_back before.objects (record { path = path; bytes = bytes }) (absent before path bytes accepted) in
+    let count : counted ≡ before.counted = omega (arith, left, ap (λ (s : ObjectState). s.counted) was) in
+    λ i. record { objects = same i; counted = count i }

@@ -1,8 +1,8 @@
 -- Objects in byte order of their texts: one is found, added or taken away, and those that a path covers.
-use Rattle.std.specs.Prelude.{◌≡◌, ℕ, Bool, not, List, [], ◌∷◌, ◌++◌, map, filter, Option, None, Some, if◌then◌else◌}
+use Rattle.std.specs.Prelude.{◌≡◌, ℕ, Bool, not, List, [], ◌∷◌, ◌++◌, length, map, filter, Option, None, Some, if◌then◌else◌}
 use Rattle.std.specs.BTreeMap.Range.{range_contains}
 use Rattle.std.specs.Cmp.Lexicographic.{slice_cmp}
-use Rattle.std.specs.List.{AllByRecursion, find}
+use Rattle.std.specs.List.{AllByRecursion, find, sum_by}
 use Rattle.std.specs.List.Sorted.{IsStrictlySortedBy}
 use Rattle.std.specs.Map.{keys_of, values_of}
 use Rattle.std.specs.Ordering.{is_eq, is_lt, nat_cmp}
@@ -26,6 +26,10 @@ has_text text object = is_eq (order_at text object)
 abbrev pub is_at : List (List ℕ) → Object → Bool
 is_at path object = has_text (location_text path) object
 
+-- a text is that of a path
+abbrev pub IsKey : List ℕ → Type 0
+IsKey text = (path : List (List ℕ)) × (text ≡ location_text path)
+
 -- the object at a path
 abbrev pub object_at : List Object → List (List ℕ) → Option Object
 object_at objects path = find (is_at path) objects
@@ -43,6 +47,10 @@ without_object path objects = filter (λ object. not (is_at path object)) object
 -- the paths of the objects that a path covers, in their order
 abbrev pub paths_under : List Object → List (List ℕ) → List (List (List ℕ))
 paths_under objects path = map (λ object. object.path) (filter (λ object. is_cover path object.path) objects)
+
+-- how many bytes objects have together
+abbrev pub total_length : List Object → ℕ
+total_length objects = sum_by (λ object. length object.bytes) objects
 
 -- an object under the text of its path
 abbrev pub keyed : Object → List ℕ × Object

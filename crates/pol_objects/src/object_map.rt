@@ -1,7 +1,7 @@
-ghost use Rattle.std.specs.Prelude.{◌≡◌, ◌++◌, [], filter, map, IfOk, OnOk, OnErr, None, List, option_copied};
+ghost use Rattle.std.specs.Prelude.{◌≡◌, ◌++◌, [], ℕ, filter, map, IfOk, OnOk, OnErr, None, List, option_copied};
 ghost use Rattle.std.specs.BTreeMap.{get, values};
 ghost use Rattle.pol_locations.specs.Location.{IsLocation, location_text};
-ghost use Rattle.pol_objects.specs.Objects.{IsKept, byte_order, is_between, object_at, path_of, paths_under, with_object, without_object};
+ghost use Rattle.pol_objects.specs.Objects.{IsKept, IsKey, byte_order, is_between, object_at, path_of, paths_under, total_length, with_object, without_object};
 ghost use Rattle.pol_objects.specs.declared.object.Object.{Object};
 
 use crate::Object;
@@ -53,6 +53,23 @@ impl ObjectMap {
         Ok(())
     }
 
+    /// The text under which an object of this path is kept.
+    pub fn key(alloc: Global, path: &Location) -> Result<Text, OutOfMemory>
+        ensures { IfOk result (λ key. key ≡ location_text path.now) }
+    {
+        text_of(alloc, path)
+    }
+
+    /// Takes the object whose path has this text away, and tells whether there was one. It takes no memory.
+    pub fn take(&mut self, key: &Text) -> Option<Object>
+        requires { IsKey key.now }
+        ensures taken { (path : List (List ℕ)) → key.now ≡ location_text path → result ≡ object_at self.old path }
+        ensures without { (path : List (List ℕ)) → key.now ≡ location_text path
+            → self.new ≡ without_object path self.old }
+    {
+        self.by_text.remove(key)
+    }
+
     /// Takes the object at this path away, and tells whether there was one. Where there is no memory to look for it,
     /// the objects stay.
     pub fn remove(&mut self, alloc: Global, path: &Location) -> Result<Option<Object>, OutOfMemory>
@@ -60,8 +77,8 @@ impl ObjectMap {
         ensures without { OnOk result (self.new ≡ without_object path.now self.old) }
         ensures error { OnErr result (self.new ≡ self.old) }
     {
-        let text = text_of(alloc, path)?;
-        Ok(self.by_text.remove(&text))
+        let key = text_of(alloc, path)?;
+        Ok(self.take(&key))
     }
 
     /// The paths of the objects that this path covers, in byte order of their texts. Only these are looked at.
@@ -77,6 +94,14 @@ impl ObjectMap {
         push_at(&mut paths, &self.by_text, &text)?;
         push_below(&mut paths, &self.by_text, alloc, &text)?;
         Ok(Listed::from(paths))
+    }
+
+    /// How many bytes the objects have together. It is `OutOfMemory` where they are more than a number of 64 bits
+    /// tells, which no memory holds.
+    pub fn total_length(&self) -> Result<u64, OutOfMemory>
+        ensures { IfOk result (λ total. total ≡ total_length self.now) }
+    {
+        sum_of_lengths(&self.by_text)
     }
 }
 
@@ -97,6 +122,20 @@ fn text_of(alloc: Global, path: &Location) -> Result<Text, OutOfMemory>
 {
     path.segments();
     Ok(Text::from(path.text(alloc)?))
+}
+
+/// The sum of the lengths of the objects.
+fn sum_of_lengths(by_text: &BTreeMap<Text, Object>) -> Result<u64, OutOfMemory>
+    ensures { IfOk result (λ total. total ≡ total_length (values by_text.now)) }
+{
+    let mut total = 0u64;
+    for object in by_text.values() {
+        let Some(more) = total.checked_add(object.bytes.len() as u64) else {
+            return Err(OutOfMemory);
+        };
+        total = more;
+    }
+    Ok(total)
 }
 
 /// Pushes the path of the object whose text this is, if there is one.

@@ -1,14 +1,17 @@
-ghost use Rattle.std.specs.Prelude.{◌≡◌, [], IfOk, None, OnErr, OnOk};
+ghost use Rattle.std.specs.Prelude.{◌≡◌, ◌≤◌, [], ℕ, IfOk, List, None, OnErr, OnOk, length};
+ghost use Rattle.pol_locations.specs.Location.{location_text};
+ghost use Rattle.pol_objects.specs.Objects.{IsKey};
 ghost use Rattle.pol_objects.specs.Rules.{size_refusal};
 ghost use Rattle.pol_objects.specs.declared.action.ObjectAction.TheVariants as action;
+ghost use Rattle.pol_objects.specs.declared.object_state.ObjectState.{ObjectState};
 ghost use Rattle.pol_objects.specs.declared.reply.ObjectReply.TheVariants as reply;
 ghost use Rattle.pol_objects.specs.declared.rule.ObjectRule.TheVariants.{NoObject};
 
 use crate::{Object, ObjectMap, ObjectReply, ObjectRule};
 use pol_locations::Location;
 use pol_shared_bytes::SharedBytes;
-use pol_types::OutOfMemory;
-use std::alloc::Global;
+use pol_types::{OutOfMemory, Text};
+use std::alloc::{AllocError, Global};
 
 /// The most bytes that an object has.
 const MAX_LENGTH: u64 = 8_388_608;
@@ -102,7 +105,7 @@ impl ObjectState {
     }
 
     /// The first rule that refuses a put.
-    fn put_refusal(
+    pub fn put_refusal(
         &self,
         alloc: Global,
         path: &Location,
@@ -118,7 +121,7 @@ impl ObjectState {
 
     /// Adds an object that no rule refuses. The step that can fail for want of memory is the last but one, and
     /// nothing has changed before it.
-    fn store(
+    pub fn store(
         &mut self,
         alloc: Global,
         path: &Location,
@@ -135,6 +138,40 @@ impl ObjectState {
         self.objects.insert(alloc, object)?;
         self.counted += bytes.len() as u64;
         Ok(())
+    }
+
+    /// Takes the object whose path has this text away, as a delete does. It takes no memory.
+    pub fn take(&mut self, key: &Text)
+        requires { IsKey key.now }
+        ensures { (path : List (List ℕ)) → key.now ≡ location_text path
+            → self.new ≡ object_next self.old (action.Delete path) }
+    {
+        self.objects.take(key);
+    }
+
+    /// Takes an object of so many bytes that was just added, whose path has this text, out again: the state is the one
+    /// before it was added. It takes no memory.
+    pub fn take_back(&mut self, key: &Text, count: u64)
+        requires key { IsKey key.now }
+        requires counted { count ≤ self.old.counted }
+        ensures { (before : ObjectState) (path : List (List ℕ)) (bytes : List ℕ) → key.now ≡ location_text path
+            → count ≡ length bytes → put_refusal before path bytes ≡ None → self.old ≡ stored before path bytes
+            → self.new ≡ before }
+    {
+        self.objects.take(key);
+        self.counted -= count;
+    }
+}
+
+impl Clone for ObjectState {
+    ghost is_clone = { λ source clone. clone ≡ source };
+
+    /// A copy, which shares all bytes.
+    fn clone(&self) -> Result<Self, AllocError> {
+        Ok(ObjectState {
+            objects: self.objects.clone()?,
+            counted: self.counted,
+        })
     }
 }
 

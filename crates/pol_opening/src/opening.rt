@@ -25,6 +25,7 @@ pub fn open<D: Disk>(alloc: Global, disk: D) -> Result<Opened<D>, (D, JournalRef
     ensures charged { IfOk result (λ opened. opened.state.rows.charged ≡ 0) }
     ensures ready { IfOk result (λ opened. IsReady opened.journal × (opened.journal.kind ≡ Kind.Catalogue)
         × (D.fault_count disk ≤ opened.journal.opening.faults)) }
+    ensures counted { IfOk result (λ opened. opened.journal.opening.faults ≤ D.fault_count opened.journal.disk) }
     ensures refused { IfErr result (λ refused.
         OpeningRefused (D.seen disk) (D.fault_count disk) (D.fault_count refused.0) refused.1) }
     ensures untouched { IsUntouched D.clock D.left_since D.may_leave D.seen D.size disk (disk_left result) }
