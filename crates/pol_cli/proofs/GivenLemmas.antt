@@ -9,9 +9,9 @@ use Rattle.std.specs.declared.io.ErrorKind.TheVariants.{OutOfMemory}
 use Rattle.std.specs.declared.string.String.{String}
 use Rattle.std.specs.declared.vec.IntoIter.{IntoIter}
 use Rattle.pol_cli.specs.Given.{behind_name, why_not_given, words_behind}
-use Rattle.pol_cli.specs.declared.report.Reason.{Reason}
-use Rattle.pol_cli.specs.declared.report.Reason.TheVariants.{NoMemory, Usage}
-use Rattle.pol_cli.specs.declared.words.Words.{Words}
+use Rattle.pol_cli.specs.declared.reason.Reason.{Reason}
+use Rattle.pol_cli.specs.declared.reason.Reason.TheVariants.{NoMemory, Usage}
+use Rattle.pol_words.specs.declared.plan.Words.{Words}
 
 -- the first word left out before its text is read, or after
 pub behind-drop : {A : Type 0} (text : A → List ℕ) (all : List A) → map text (drop 1 all) ≡ behind_name (map text all)

@@ -1,117 +1,122 @@
--- What the reason of a run tells of its link.
-use Rattle.std.proofs.Common.{◌≡◌, ◌≢◌, ◌<◌, ◌⊎◌, ℕ, List, [], ◌∷◌, length, Option, Some, None, refl, sym, ap, subst, ◌∙◌, inl, inr, arith, length-append}
-use Rattle.std.specs.Prelude.{IfSome, IsSome}
-use Rattle.std.specs.Io.KnownBytes.{Consumes}
-use Rattle.pol_shared.specs.Seen.{AreOfPasses, entry_number}
-use Rattle.pol_shared.proofs.SeenLemmas.{alone-founding}
-use Rattle.pol_shared_objects.specs.SeenObjects.{AreOfObjectPasses, object_entry_number}
+-- What the reason of a run tells of its devices, by what was done.
+use Rattle.std.proofs.Common.{◌≡◌, ◌≢◌, ◌⊎◌, ℕ, List, [], refl, sym, ap, subst, ◌∙◌, inl, inr}
+use Rattle.pol_cli.proofs.FilesLemmas.{cause-files, planned-files, status-files}
+use Rattle.pol_cli.proofs.ServingLemmas.{cause-link, planned-link, status-link}
+use Rattle.pol_init.specs.Prepared.{IsNotPrepared}
+use Rattle.pol_init.specs.declared.journals.NotMade.{NotMade}
+use Rattle.pol_init.specs.declared.journals.NotMade.TheVariants as unmade
+use Rattle.pol_init.specs.declared.prepared.NotPrepared.{NotPrepared}
+use Rattle.pol_init.specs.declared.prepared.NotPrepared.TheVariants as unprepared
+use Rattle.pol_init.specs.declared.prepared.Prepared.{Prepared}
 use Rattle.pol_server.specs.Ends.{Ends}
-use Rattle.pol_server.specs.Link.{EndsBy, taken_bound}
-use Rattle.pol_server.specs.Turn.{Turn}
-use Rattle.pol_server.specs.declared.stores.Stores.{Stores}
-use Rattle.pol_server.specs.declared.served.Ending.{Ending}
-use Rattle.pol_server.specs.declared.served.Ending.TheVariants as ending
-use Rattle.pol_cli.specs.Run.{HasCause, IsDecided, IsUnfailing, RunsLink, Serves, reason_of, report_of, stores_fresh, status_of}
-use Rattle.pol_cli.specs.declared.report.Reason.{Reason}
-use Rattle.pol_cli.specs.declared.report.Reason.TheVariants.{Done, ReadFault, WriteFault, Usage, NoMemory, InputCut, Spent}
+use Rattle.pol_cli.specs.Causes.{HasCause}
+use Rattle.pol_cli.specs.Disks.{Tells, both_told}
+use Rattle.pol_cli.specs.Reasons.{reason_not_made, reason_not_prepared, report_of, status_of}
+use Rattle.pol_cli.specs.declared.reason.Reason.{Reason}
+use Rattle.pol_cli.specs.declared.reason.Reason.TheVariants.{Done, NoMemory, Usage, WriteFault}
 use Rattle.pol_cli.specs.declared.report.Report.{Report}
 use Rattle.pol_cli.specs.declared.report.ServedLink.{ServedLink}
+use Rattle.pol_cli.proofs.CauseLemmas.{cause-unmade, status-told}
+use Rattle.pol_words.specs.declared.plan.Plan.{Plan}
+use Rattle.pol_words.specs.declared.plan.Plan.TheVariants.{Exec, ExecFresh, Init}
+use Rattle.pol_words.specs.Words.{Means, MeansNothing}
+use Rattle.pol_words.proofs.LineLemmas.{means-one}
+use Rattle.pol_cli.specs.Init.{Initialises, IsMade, IsRefused, Writes, inputs, sink}
+use Rattle.pol_cli.specs.Run.{Does, IsExec, IsUncalled}
 
-module _ (before after : Ends) (turns : List Turn) (taken rest text : List ℕ) (takes : Consumes before.left after.left taken) where
-  cause-by : (how : Ending) → EndsBy how before after turns (length taken) rest text → HasCause before after (reason_of how)
-  cause-by ending.Ended ends = record { read_fault = λ is. cc; write_fault = λ is. cc; spent = λ is. cc }
-  cause-by ending.Cut ends = record { read_fault = λ is. cc; write_fault = λ is. cc; spent = λ is. cc }
-  cause-by ending.Closed ends = record { read_fault = λ is. cc; write_fault = λ is. cc; spent = λ is. cc }
-  cause-by ending.ReadFault ends = record { read_fault = λ is. ends.1; write_fault = λ is. cc; spent = λ is. cc }
-  cause-by ending.WriteFault ends = record { read_fault = λ is. cc; write_fault = λ is. ends.0; spent = λ is. cc }
-  cause-by ending.Spent ends = record { read_fault = λ is. cc; write_fault = λ is. cc; spent = λ is. (taken, takes, ends.1) }
-  cause-by ending.NoMemory ends = record { read_fault = λ is. cc; write_fault = λ is. cc; spent = λ is. cc }
+not-prepared-other : (why : NotPrepared) → reason_not_prepared why ≢ Usage
+not-prepared-other unprepared.ReadFault is = cc
+not-prepared-other (unprepared.BadDeclaration fault) is = cc
+not-prepared-other unprepared.DrawFault is = cc
+not-prepared-other (unprepared.Refused index why) is = cc
+not-prepared-other unprepared.OutOfMemory is = cc
 
--- a run without a fault of its own
-no-cause : (before after : Ends) → HasCause before after NoMemory
-no-cause before after = record { read_fault = λ is. cc; write_fault = λ is. cc; spent = λ is. cc }
+not-made-other : (why : NotMade) → reason_not_made why ≢ Usage
+not-made-other (unmade.JournalThere objects) is = cc
+not-made-other (unmade.DiskFault objects) is = cc
 
-cause-serves : (old new : Stores) (before after : Ends) (report : Report) → Serves old before after new report → HasCause before after report.reason
-cause-serves old new before after report (inl serves) =
-    subst (HasCause before after) (sym (ap (λ report. report.reason) serves.report_is))
-    (cause-by before after serves.link.turns serves.link.taken serves.link.rest serves.link.text serves.link.takes serves.served.ending serves.link.ends)
-cause-serves old new before after report (inr wanting) =
-    subst (HasCause before after) (sym (ap (λ report. report.reason) wanting.1)) (no-cause before after)
+module _ {D O : Type 0} (d : Tells D) (o : Tells O) (old new : D) (objects_old objects_new : O) (before after : Ends) where
+  abbrev Caused : Reason → Type 0
+  Caused reason = HasCause before after (both_told d o old new objects_old objects_new) reason
 
-pub cause-run : (secret : List ℕ) (before after : Ends) (report : Report) → RunsLink secret before after report → HasCause before after report.reason
-cause-run secret before after report runs = cause-serves (stores_fresh secret) runs.0 before after report runs.1
+  cause-unprepared : (why : NotPrepared) → IsNotPrepared (inputs before) (inputs after) why → Caused (reason_not_prepared why)
+  cause-unprepared unprepared.ReadFault is = is.0
+  cause-unprepared (unprepared.BadDeclaration fault) is = tt
+  cause-unprepared unprepared.DrawFault is = is.caused
+  cause-unprepared (unprepared.Refused index why) is = tt
+  cause-unprepared unprepared.OutOfMemory is = tt
 
--- fewer bytes than the bound can't be spent
-fewer : (left after : Option (List ℕ)) (taken : List ℕ) → IsSome left → IfSome left (λ bytes. length bytes < taken_bound) → Consumes left after taken → length taken ≢ taken_bound
-fewer None after taken known short takes is = cc
-fewer (Some bytes) None taken known short takes is = absurd takes
-fewer (Some bytes) (Some rest) taken known short takes is = absurd (omega (arith, short, is, ap length takes, length-append taken rest))
+  cause-writes : (output : List ℕ) (reason : Reason) → Writes (sink before) (sink after) output reason → Caused reason
+  cause-writes output reason (inl done) = subst Caused (sym done.0) tt
+  cause-writes output reason (inr failed) = subst Caused (sym failed.0) failed.1
 
-pub decided : (before after : Ends) (reason : Reason) → HasCause before after reason → IsUnfailing before after → IsDecided reason
-decided before after Done cause unfailing = tt
-decided before after ReadFault cause unfailing = unfailing.source (cause.read_fault refl)
-decided before after WriteFault cause unfailing = unfailing.sink (cause.write_fault refl)
-decided before after Usage cause unfailing = tt
-decided before after NoMemory cause unfailing = tt
-decided before after InputCut cause unfailing = tt
-decided before after Spent cause unfailing =
-    let spent = cause.spent refl in
-    absurd (fewer before.left after.left spent.0 unfailing.known unfailing.input spent.1 spent.2)
+  cause-comes : (body : List ℕ) (prepared : Prepared) (reason : Reason)
+      → IsRefused d o old new objects_old objects_new (sink before) (sink after) reason ⊎ IsMade d o old new objects_old objects_new (sink before) (sink after) body prepared reason
+      → Caused reason
+  cause-comes body prepared reason (inl refused) =
+      subst Caused (sym refused.reason_is) (cause-unmade before after (both_told d o old new objects_old objects_new) refused.why refused.cause)
+  cause-comes body prepared reason (inr made) = cause-writes prepared.output reason made.writes
 
-other-by : (how : Ending) → reason_of how ≢ Usage
-other-by ending.Ended is = cc
-other-by ending.Cut is = cc
-other-by ending.Closed is = cc
-other-by ending.ReadFault is = cc
-other-by ending.WriteFault is = cc
-other-by ending.Spent is = cc
-other-by ending.NoMemory is = cc
+  -- a run of `init`
+  pub cause-init : (reason : Reason) → Initialises d o old new objects_old objects_new before after reason → Caused reason
+  cause-init reason (inl none) = subst Caused (sym none.reason_is) (cause-unprepared none.why none.refused)
+  cause-init reason (inr makes) = cause-comes makes.prepares.ready.body makes.prepared reason makes.makes.comes
 
-other-serves : (old new : Stores) (before after : Ends) (report : Report) → Serves old before after new report → report.reason ≢ Usage
-other-serves old new before after report (inl serves) is = other-by serves.served.ending (sym (ap (λ report. report.reason) serves.report_is) ∙ is)
-other-serves old new before after report (inr wanting) is = let contrary : NoMemory ≡ Usage = sym (ap (λ report. report.reason) wanting.1) ∙ is in cc
+  comes-other : (body : List ℕ) (prepared : Prepared) (reason : Reason)
+      → IsRefused d o old new objects_old objects_new (sink before) (sink after) reason ⊎ IsMade d o old new objects_old objects_new (sink before) (sink after) body prepared reason
+      → reason ≢ Usage
+  comes-other body prepared reason (inl refused) is = not-made-other refused.why (sym refused.reason_is ∙ is)
+  comes-other body prepared reason (inr made) is = writes-other made.writes is where
+    writes-other : Writes (sink before) (sink after) prepared.output reason → reason ≢ Usage
+    writes-other (inl done) usage = let contrary : Done ≡ Usage = sym done.0 ∙ usage in cc
+    writes-other (inr failed) usage = let contrary : WriteFault ≡ Usage = sym failed.0 ∙ usage in cc
 
--- a link that was served is no faulty line
-pub other-run : (secret : List ℕ) (before after : Ends) (report : Report) → RunsLink secret before after report → report.reason ≢ Usage
-other-run secret before after report runs = other-serves (stores_fresh secret) runs.0 before after report runs.1
+  -- is no faulty line
+  pub init-other : (reason : Reason) → Initialises d o old new objects_old objects_new before after reason → reason ≢ Usage
+  init-other reason (inl none) is = not-prepared-other none.why (sym none.reason_is ∙ is)
+  init-other reason (inr makes) is = comes-other makes.prepares.ready.body makes.prepared reason makes.makes.comes is
 
-status-serves : (old new : Stores) (before after : Ends) (report : Report) → Serves old before after new report → report.status ≡ status_of report.reason
-status-serves old new before after report (inl serves) = ap (λ report. report.status) serves.report_is ∙ ap (λ report. status_of report.reason) (sym serves.report_is)
-status-serves old new before after report (inr wanting) = ap (λ report. report.status) wanting.1 ∙ ap (λ report. status_of report.reason) (sym wanting.1)
+  module _ (report : Report) where
+    -- of a run that did what its plan asks for
+    pub cause-does : (plan : Plan) → Does d o old new objects_old objects_new before after report plan → Caused report.reason
+    cause-does (ExecFresh secret) does = cause-link secret before after report (both_told d o old new objects_old objects_new) does.runs
+    cause-does (Exec catalogue objects) does = cause-files d o old new objects_old objects_new before after report does
+    cause-does (Init catalogue objects) does = subst Caused (sym (ap (λ report. report.reason) does.report_is)) (cause-init does.reason does.initialises)
 
--- the status of a run is that of its reason
-pub status-run : (secret : List ℕ) (before after : Ends) (report : Report) → RunsLink secret before after report → report.status ≡ status_of report.reason
-status-run secret before after report runs = status-serves (stores_fresh secret) runs.0 before after report runs.1
+    pub other-does : (plan : Plan) → Does d o old new objects_old objects_new before after report plan → report.reason ≢ Usage
+    other-does (ExecFresh secret) does is = planned-link secret before after report does.runs is
+    other-does (Exec catalogue objects) does is = planned-files d o old new objects_old objects_new before after report does is
+    other-does (Init catalogue objects) does is = init-other does.reason does.initialises (sym (ap (λ report. report.reason) does.report_is) ∙ is)
 
--- memory was wanting before the link was called
-pub runs-nothing : (secret : List ℕ) (ends : Ends) (report : Report) → report ≡ report_of NoMemory [] → RunsLink secret ends ends report
-runs-nothing secret ends report is = (stores_fresh secret, inr (refl, is), record { catalogue = ([], refl, tt); objects = ([], refl, tt) })
+    pub status-does : (plan : Plan) → Does d o old new objects_old objects_new before after report plan → report.status ≡ status_of report.reason
+    status-does (ExecFresh secret) does = status-link secret before after report does.runs
+    status-does (Exec catalogue objects) does = status-files d o old new objects_old objects_new before after report does
+    status-does (Init catalogue objects) does = status-told does.reason [] report does.report_is
 
--- what stores that are fresh serve
-pub runs-fresh : (secret : List ℕ) (old new : Stores) (before after : Ends) (report : Report) → old ≡ stores_fresh secret
-    → new.catalogue.made ≡ 1 → AreOfPasses new.catalogue.made new.catalogue.front → new.objects.made ≡ 1 → AreOfObjectPasses new.objects.made new.objects.front
-    → Serves old before after new report → RunsLink secret before after report
-runs-fresh secret old new before after report is one made objects_one objects_made serves = (
-  new,
-  subst (λ old. Serves old before after new report) is serves,
-  record {
-    catalogue = alone-founding entry_number [] new.catalogue.front (new.catalogue.front, refl) (subst (λ made. AreOfPasses made new.catalogue.front) one made);
-    objects = alone-founding object_entry_number [] new.objects.front (new.objects.front, refl) (subst (λ made. AreOfObjectPasses made new.objects.front) objects_one objects_made);
-  },
-)
+    -- words that mean nothing ask for nothing
+    pub does-nothing : (words : List (List ℕ)) → MeansNothing words → (plan : Plan) → Means words plan → Does d o old new objects_old objects_new before after report plan
+    does-nothing words nothing plan means = absurd (nothing plan means)
 
--- a report with a link that was served has one
-pub served-something : (reason : Reason) (report : Report) (link : ServedLink) → report ≡ report_of reason (link ∷ []) → report.served ≢ []
-served-something reason report link is none = let contrary : link ∷ [] ≡ [] = sym (ap (λ report. report.served) is) ∙ none in cc
+    -- what is done by one plan is done by each that the words mean
+    module _ (words : List (List ℕ)) (plan : Plan) (meant : Means words plan) (does : Does d o old new objects_old objects_new before after report plan) where
+      pub does-meant : (other : Plan) → Means words other → Does d o old new objects_old objects_new before after report other
+      does-meant other means = subst (Does d o old new objects_old objects_new before after report) (means-one words plan other meant means) does
 
--- a link that was not called
-pub cause-quiet : (ends : Ends) (report : Report) → (report ≡ report_of Usage []) ⊎ (report ≡ report_of NoMemory []) → HasCause ends ends report.reason
-cause-quiet ends report (inl is) = subst (HasCause ends ends) (sym (ap (λ report. report.reason) is)) (record { read_fault = λ is. cc; write_fault = λ is. cc; spent = λ is. cc })
-cause-quiet ends report (inr is) = subst (HasCause ends ends) (sym (ap (λ report. report.reason) is)) (no-cause ends ends)
+      pub exec-untouched : {P : Type 0} → (IsExec plan → P) → (other : Plan) → Means words other → IsExec other → P
+      exec-untouched untouched other means is = untouched (subst IsExec (means-one words other plan means meant) is)
+
+  -- of one that called nothing
+  pub cause-quiet : (report : Report) → (report ≡ report_of Usage []) ⊎ (report ≡ report_of NoMemory []) → Caused report.reason
+  cause-quiet report (inl is) = subst Caused (sym (ap (λ report. report.reason) is)) tt
+  cause-quiet report (inr is) = subst Caused (sym (ap (λ report. report.reason) is)) tt
 
 pub report-quiet : (reason : Reason) (report : Report) → report ≡ report_of reason [] → (reason ≡ Usage) ⊎ (reason ≡ NoMemory) → (report ≡ report_of Usage []) ⊎ (report ≡ report_of NoMemory [])
 report-quiet reason report is (inl usage) = inl (is ∙ ap (λ reason. report_of reason []) usage)
 report-quiet reason report is (inr memory) = inr (is ∙ ap (λ reason. report_of reason []) memory)
 
-pub status-told : (reason : Reason) (report : Report) → report ≡ report_of reason [] → report.status ≡ status_of report.reason
-status-told reason report is = ap (λ report. report.status) is ∙ ap (λ report. status_of report.reason) (sym is)
+pub uncalled : {D O : Type 0} (disk : D) (objects : O) (ends : Ends) (report : Report) → report ≡ report_of NoMemory [] → IsUncalled disk disk objects objects ends ends report
+uncalled disk objects ends report is = record { link = refl; catalogue = refl; objects = refl; report_is = is }
+
+-- a report without links
+pub reports-none : (reason : Reason) (served : List ServedLink) (report : Report) → report ≡ report_of reason served → served ≡ [] → report ≡ report_of reason []
+reports-none reason served report is none = is ∙ ap (report_of reason) none

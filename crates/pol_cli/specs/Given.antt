@@ -3,8 +3,8 @@ use Rattle.std.specs.Prelude.{ℕ, List, [], ◌∷◌, map, string_bytes}
 use Rattle.std.specs.declared.string.String.{String}
 use Rattle.std.specs.declared.io.ErrorKind.{ErrorKind}
 use Rattle.std.specs.declared.io.ErrorKind.TheVariants.{OutOfMemory}
-use Rattle.pol_cli.specs.declared.report.Reason.{Reason}
-use Rattle.pol_cli.specs.declared.report.Reason.TheVariants.{NoMemory, Usage}
+use Rattle.pol_cli.specs.declared.reason.Reason.{Reason}
+use Rattle.pol_cli.specs.declared.reason.Reason.TheVariants.{NoMemory, Usage}
 
 -- what stands behind the program's name
 abbrev pub behind_name : List (List ℕ) → List (List ℕ)

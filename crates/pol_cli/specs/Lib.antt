@@ -1,5 +1,10 @@
+pub mod Causes
+pub mod Disks
+pub mod Files
 pub mod Given
-pub mod Laws
+pub mod Init
+pub mod Places
+pub mod Reasons
 pub mod Run
+pub mod Serving
 pub mod Told
-pub mod Words

@@ -4,8 +4,9 @@ ghost use Rattle.std.specs.IoError.{error_kind};
 ghost use Rattle.std.specs.Vec.Iter.{into_iter_items};
 ghost use Rattle.pol_cli.specs.Given.{why_not_given, words_behind};
 
-use crate::{Reason, Words};
+use crate::reason::Reason;
 use pol_types::{Listed, Text};
+use pol_words::Words;
 use std::alloc::Global;
 use std::env::Args;
 use std::io;

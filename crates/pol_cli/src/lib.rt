@@ -1,15 +1,22 @@
-//! The program as a library: its words, a run over its devices, and what is told of the run.
+//! The program as a library: the words that the system gave, a run over its devices, and what it reports.
 #![tactic(auto)]
 
+mod exec;
+mod files;
+mod fresh;
 mod given;
-pub mod laws;
+mod places;
 mod program;
+mod reason;
 mod report;
+mod setup;
+mod stores;
 mod told;
-mod words;
 
 pub use given::words_given;
+pub use places::{Places, places_given};
+pub use pol_words::{Plan, Words, plan_of};
 pub use program::{Devices, run, run_given};
-pub use report::{Reason, Report, ServedLink};
+pub use reason::Reason;
+pub use report::{Report, ServedLink};
 pub use told::end;
-pub use words::{Plan, Words, plan_of};

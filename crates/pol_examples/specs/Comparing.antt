@@ -1,8 +1,10 @@
 -- When what came agrees with what an example wants, and at which line a difference is shown.
-use Rattle.std.specs.Prelude.{◌≡◌, ◌≢◌, ◌⊎◌, ℕ, ◌-◌, nat_lt, List, length, take, Option, unwrap_or, position}
+use Rattle.std.specs.Prelude.{◌≡◌, ◌≢◌, ◌⊎◌, ℕ, ◌-◌, nat_lt, List, length, take, Option, unwrap_or, position, IfSome}
 use Rattle.std.specs.List.{slice_get}
 use Rattle.std.specs.Option.{option_map}
 use Rattle.pol_examples.specs.declared.example.Example.{Example}
+use Rattle.pol_examples.specs.declared.files.Held.{Held}
+use Rattle.pol_examples.specs.declared.files.Holds.{Holds}
 use Rattle.pol_examples.specs.declared.script.Part.{Part}
 
 -- a run agrees with an example: its output has the very bytes, and it ends with the status and the reason that are said
@@ -10,6 +12,15 @@ pub record Agrees (example : Example) (output : List ℕ) (status : ℕ) (reason
   pub output_is : output ≡ example.script.output.items
   pub status_is : status ≡ example.end.status
   pub reason_is : reason ≡ example.end.reason
+
+-- a disk holds these bytes at the end of a run, where an example says it
+abbrev pub IsHeld : Option Held → List ℕ → Type 0
+IsHeld held bytes = IfSome held (λ wanted. bytes ≡ wanted.bytes.items)
+
+-- both disks do
+pub record AreHeld (holds : Holds) (catalogue objects : List ℕ) : Type 0 where
+  pub catalogue_is : IsHeld holds.catalogue catalogue
+  pub objects_is : IsHeld holds.objects objects
 
 -- the first place at which two lists differ, or that only one of them has
 pub record IsFirstDifference (wanted got : List ℕ) (place : ℕ) : Type 0 where

@@ -8,5 +8,7 @@ use Rattle.pol_examples.specs.declared.draft.Whole.TheVariants.{Example, Opening
 abbrev pub IsWhole : Draft → Whole → Type 0
 IsWhole draft (Example example) =
     (draft.is_opening ≡ false) × (example.title ≡ draft.title) × (example.line ≡ draft.line)
-    × (example.settings ≡ draft.settings) × (example.end ≡ draft.end) × (example.values ≡ draft.values)
-IsWhole draft (Opening opening) = (draft.is_opening ≡ true) × (opening.name ≡ draft.title)
+    × (example.settings ≡ draft.settings) × (example.end ≡ draft.end) × (example.holds ≡ draft.holds) × (example.values ≡ draft.values)
+IsWhole draft (Opening opening) =
+    (draft.is_opening ≡ true) × (opening.name ≡ draft.title)
+    × (opening.catalogue ≡ draft.settings.catalogue.start) × (opening.objects ≡ draft.settings.objects.start)

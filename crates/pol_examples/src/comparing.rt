@@ -1,8 +1,9 @@
 //! How what came differs from what an example wants.
 ghost use Rattle.std.specs.Prelude.{◌≡◌, ◌↔◌, IfOk, IfSome, None, unwrap_or, nat_lt, position};
-ghost use Rattle.pol_examples.specs.Comparing.{IsFirstDifference, index_at, line_at};
+ghost use Rattle.pol_examples.specs.Comparing.{IsFirstDifference, IsHeld, index_at, line_at};
 
 use crate::example::Example;
+use crate::files::Held;
 use crate::script::Part;
 use pol_types::{OutOfMemory, Text};
 use pol_values::{Difference, shown};
@@ -15,7 +16,7 @@ const BEFORE: usize = 30;
 const BEHIND: usize = 40;
 
 impl Example {
-    ghost use Rattle.pol_examples.specs.Comparing.{Agrees, IsShownAt};
+    ghost use Rattle.pol_examples.specs.Comparing.{Agrees, AreHeld, IsShownAt};
 
     /// Where the output, the exit status and the reason of a run differ from what the example wants: the output comes
     /// first, and then how the run ended.
@@ -40,6 +41,25 @@ impl Example {
         }
         let difference = self.end_difference(alloc, status, reason)?;
         Ok(Some(difference))
+    }
+
+    /// Where what the disks hold at the end of a run differs from what the example wants: the catalogue's comes first.
+    pub fn files_difference(
+        &self,
+        alloc: Global,
+        catalogue: &[u8],
+        objects: &[u8],
+    ) -> Result<Option<Difference>, OutOfMemory>
+        ensures { IfOk result
+            (λ difference. (difference ≡ None) ↔ AreHeld self.now.holds catalogue.now objects.now) }
+    {
+        let held = &self.holds.catalogue;
+        let difference = held_difference(alloc, "catalogue's", held, catalogue)?;
+        if difference.is_some() {
+            return Ok(difference);
+        }
+        let difference = held_difference(alloc, "objects'", &self.holds.objects, objects)?;
+        Ok(difference)
     }
 
     /// Tells the difference of the output at a place.
@@ -78,6 +98,31 @@ impl Example {
             got: ending(alloc, status, reason)?,
         })
     }
+}
+
+/// Where what a disk holds differs from what it is to hold.
+fn held_difference(
+    alloc: Global,
+    whose: &str,
+    held: &Option<Held>,
+    bytes: &[u8],
+) -> Result<Option<Difference>, AllocError>
+    ensures { IfOk result (λ difference. (difference ≡ None) ↔ IsHeld held.now bytes.now) }
+{
+    let Some(held) = held else {
+        return Ok(None);
+    };
+    let wanted = held.bytes.as_slice();
+    let Some(place) = first_difference(wanted, bytes) else {
+        return Ok(None);
+    };
+    let what = format!(in alloc; "byte {place} of what the {whose} disk holds is another")?;
+    Ok(Some(Difference {
+        line: held.line,
+        what: Text::from(what),
+        wanted: around(alloc, wanted, place)?,
+        got: around(alloc, bytes, place)?,
+    }))
 }
 
 /// How a run ends.

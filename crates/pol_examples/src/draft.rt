@@ -3,6 +3,7 @@ ghost use Rattle.std.specs.Prelude.{◌≡◌, IfOk};
 ghost use Rattle.pol_examples.specs.Draft.{IsWhole};
 
 use crate::example::{End, Example, Opening};
+use crate::files::Holds;
 use crate::numbers::number_of;
 use crate::settings::Settings;
 use crate::turns::Turns;
@@ -14,6 +15,8 @@ use std::alloc::{AllocError, Global};
 #[derive(Drop)]
 pub(crate) struct Draft {
     is_opening: bool,
+    /// Whether a run stands above it in its file.
+    is_behind_run: bool,
     /// The title, or the name of the opening.
     title: Text,
     line: usize,
@@ -21,6 +24,7 @@ pub(crate) struct Draft {
     settings: Settings,
     turns: Turns,
     end: End,
+    holds: Holds,
     values: Vec<Value>,
 }
 
@@ -47,6 +51,7 @@ impl Draft {
         title: &str,
         line: usize,
         is_opening: bool,
+        is_behind_run: bool,
     ) -> Result<Self, AllocError>
         ensures kind { IfOk result (λ draft. draft.is_opening ≡ is_opening) }
         ensures title { IfOk result (λ draft. draft.title ≡ title.now) }
@@ -56,6 +61,7 @@ impl Draft {
         let reason = Text::from(String::from_str(alloc, "done")?);
         Ok(Draft {
             is_opening,
+            is_behind_run,
             title: Text::from(String::from_str(alloc, title)?),
             line,
             stage: Stage::Nothing,
@@ -66,6 +72,7 @@ impl Draft {
                 status,
                 reason,
             },
+            holds: Holds::unsaid(),
             values: Vec::new(alloc),
         })
     }
@@ -76,18 +83,25 @@ impl Draft {
     {
         let Draft {
             is_opening,
+            is_behind_run: _,
             title,
             line,
             stage: _,
             settings,
             turns,
             end,
+            holds,
             values,
         } = self;
         let script = turns.finish(alloc)?;
         if is_opening {
-            let name = title;
-            return Ok(Whole::Opening(Opening { name, script }));
+            let (catalogue, objects) = settings.starts();
+            return Ok(Whole::Opening(Opening {
+                name: title,
+                script,
+                catalogue,
+                objects,
+            }));
         }
         Ok(Whole::Example(Example {
             title,
@@ -95,6 +109,7 @@ impl Draft {
             settings,
             script,
             end,
+            holds,
             values,
         }))
     }
@@ -139,8 +154,14 @@ impl Draft {
         }
         match word {
             "begin" => self.read_begin(rest, openings),
-            "token" => self.turns.read_token(alloc, rest),
+            "token" => {
+                self.begin_turn()?;
+                self.turns.read_token(alloc, rest)
+            }
             "ends" => self.read_end(alloc, rest, line),
+            "holds" => self.read_holds(alloc, rest, line),
+            "file" => self.read_file(alloc, rest),
+            "files" => self.read_files(alloc, rest),
             "line" | "clock" | "words" | "fail" | "pieces" => self.read_setting(alloc, word, rest),
             _ => self.read_value(alloc, word, rest, line),
         }
@@ -170,7 +191,8 @@ impl Draft {
         for opening in openings.iter().rev() {
             if opening.name.as_str() == name {
                 self.turns.script.append(&opening.script)?;
-                return Ok(());
+                self.settings.catalogue.begin(&opening.catalogue)?;
+                return self.settings.objects.begin(&opening.objects);
             }
         }
         Err(Unread::Unknown)
@@ -183,6 +205,29 @@ impl Draft {
         }
         self.begin_setting()?;
         self.settings.read(alloc, word, rest)
+    }
+
+    /// Reads what a disk holds at the start, which an opening may say too.
+    fn read_file(&mut self, alloc: Global, rest: &str) -> Result<(), Unread> {
+        self.begin_setting()?;
+        self.settings.read(alloc, "file", rest)
+    }
+
+    /// Reads how the run above left both disks.
+    fn read_files(&mut self, alloc: Global, rest: &str) -> Result<(), Unread> {
+        if !self.is_behind_run {
+            return Err(Unread::Place);
+        }
+        self.read_setting(alloc, "files", rest)
+    }
+
+    /// Reads what a disk is to hold at the end of the run.
+    fn read_holds(&mut self, alloc: Global, rest: &str, line: usize) -> Result<(), Unread> {
+        if self.is_opening {
+            return Err(Unread::Place);
+        }
+        self.begin_turn()?;
+        self.holds.read(alloc, rest, line)
     }
 
     /// Reads the status and the reason of the run.

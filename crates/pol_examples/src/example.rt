@@ -1,4 +1,5 @@
 //! Examples and their parts.
+use crate::files::{Holds, Start};
 use crate::script::Script;
 use crate::settings::Settings;
 use pol_types::Text;
@@ -14,6 +15,7 @@ pub struct Example {
     pub settings: Settings,
     pub script: Script,
     pub end: End,
+    pub holds: Holds,
     /// The values that are asked for in place of a run.
     pub values: Vec<Value>,
 }
@@ -28,9 +30,11 @@ pub struct End {
     pub reason: Text,
 }
 
-/// Turns that examples begin with.
+/// Turns that examples begin with, and what their disks hold at the start.
 #[derive(Drop)]
 pub(crate) struct Opening {
     pub(crate) name: Text,
     pub(crate) script: Script,
+    pub(crate) catalogue: Start,
+    pub(crate) objects: Start,
 }

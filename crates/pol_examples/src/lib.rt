@@ -6,6 +6,7 @@ mod comparing;
 mod draft;
 mod errors;
 mod example;
+mod files;
 mod making;
 mod numbers;
 mod reader;
@@ -15,6 +16,7 @@ mod turns;
 
 pub use comparing::first_difference;
 pub use example::{End, Example};
+pub use files::{DiskSettings, Held, Holds, Image, Start};
 pub use reader::Reader;
 pub use script::{Part, Script, Token};
 pub use settings::{Pieces, Settings};

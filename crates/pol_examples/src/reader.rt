@@ -16,6 +16,8 @@ pub struct Reader {
     shared: Option<usize>,
     draft: Option<Draft>,
     line: usize,
+    /// Whether an example that is a run was read of this file.
+    has_run: bool,
 }
 
 impl Model for Reader {
@@ -36,6 +38,7 @@ impl Reader {
             shared: None,
             draft: None,
             line: 0,
+            has_run: false,
         }
     }
 
@@ -78,6 +81,7 @@ impl Reader {
         self.openings.truncate(shared);
         self.shared = Some(shared);
         self.line = 0;
+        self.has_run = false;
         Ok(example)
     }
 
@@ -91,7 +95,8 @@ impl Reader {
         ensures { self.new ≡ self.old }
     {
         let example = self.finish(alloc)?;
-        self.draft = Some(Draft::new(alloc, title, self.line, is_opening)?);
+        let draft = Draft::new(alloc, title, self.line, is_opening, self.has_run)?;
+        self.draft = Some(draft);
         Ok(example)
     }
 
@@ -103,7 +108,10 @@ impl Reader {
             return Ok(None);
         };
         match draft.finish(alloc)? {
-            Whole::Example(example) => Ok(Some(example)),
+            Whole::Example(example) => {
+                self.has_run = self.has_run || example.values.is_empty();
+                Ok(Some(example))
+            }
             Whole::Opening(opening) => {
                 self.openings.push(opening)?;
                 Ok(None)

@@ -1,6 +1,8 @@
 //! What an example is played with.
 ghost use Rattle.std.specs.Prelude.{◌≡◌, ◌∷◌, [], IfOk, None};
+ghost use Rattle.pol_examples.specs.Starting.{HoldsNothing};
 
+use crate::files::{DiskSettings, Start, name_and_text};
 use crate::numbers::{number_of, numbers};
 use pol_types::{Listed, Text};
 use pol_values::{Unread, unescaped_text};
@@ -22,6 +24,8 @@ pub struct Settings {
     /// Those of the draw.
     pub draws: Vec<u64>,
     pub pieces: Pieces,
+    pub catalogue: DiskSettings,
+    pub objects: DiskSettings,
 }
 
 /// The pieces in which the input comes.
@@ -41,6 +45,8 @@ impl Settings {
         ensures takes { IfOk result (λ settings. settings.takes.items ≡ []) }
         ensures gives { IfOk result (λ settings. settings.gives.items ≡ []) }
         ensures draws { IfOk result (λ settings. settings.draws.items ≡ []) }
+        ensures catalogue { IfOk result (λ settings. HoldsNothing settings.catalogue.start) }
+        ensures objects { IfOk result (λ settings. HoldsNothing settings.objects.start) }
     {
         let mut words = Vec::new(alloc);
         for word in ["exec", "--root-secret", "s3cr3t"] {
@@ -56,7 +62,21 @@ impl Settings {
             gives: Vec::new(alloc),
             draws: Vec::new(alloc),
             pieces: Pieces::At(Vec::new(alloc)),
+            catalogue: DiskSettings::usual(alloc),
+            objects: DiskSettings::usual(alloc),
         })
+    }
+
+    /// What both disks hold at the start.
+    pub(crate) fn starts(self) -> (Start, Start)
+        ensures { result ≡ (self.catalogue.start, self.objects.start) }
+    {
+        let Settings {
+            catalogue,
+            objects,
+            ..
+        } = self;
+        (catalogue.into_start(), objects.into_start())
     }
 
     /// Reads a setting, which begins with this word.
@@ -67,25 +87,57 @@ impl Settings {
             "words" => self.drawn = Some(Listed::from(numbers(alloc, rest)?)),
             "pieces" => self.pieces = pieces_of(alloc, rest)?,
             "fail" => return self.read_failing(rest),
+            "file" => return self.read_file(alloc, rest),
+            "files" => return self.read_files(rest),
             _ => return Err(Unread::Form),
         }
         Ok(())
     }
 
-    /// Reads a call that is to fail.
+    /// Reads calls that are to fail.
     fn read_failing(&mut self, rest: &str) -> Result<(), Unread> {
-        let Some((kind, number)) = rest.split_once(' ') else {
+        let Some((kind, calls)) = rest.split_once(' ') else {
             return Err(Unread::Form);
         };
-        let number = number_of(number)?;
         match kind {
-            "take" => self.takes.push(number)?,
-            "give" => self.gives.push(number)?,
-            "word" => self.draws.push(number)?,
-            _ => return Err(Unread::Form),
+            "take" => push_calls(calls, &mut self.takes),
+            "give" => push_calls(calls, &mut self.gives),
+            "word" => push_calls(calls, &mut self.draws),
+            "catalogue" => push_calls(calls, &mut self.catalogue.failing),
+            "objects" => push_calls(calls, &mut self.objects.failing),
+            _ => Err(Unread::Form),
         }
+    }
+
+    /// Reads what a disk holds at the start.
+    fn read_file(&mut self, alloc: Global, rest: &str) -> Result<(), Unread> {
+        let (name, text) = name_and_text(rest);
+        match name {
+            "catalogue" => self.catalogue.read_start(alloc, text),
+            "objects" => self.objects.read_start(alloc, text),
+            _ => Err(Unread::Form),
+        }
+    }
+
+    /// Reads how both disks were left.
+    fn read_files(&mut self, rest: &str) -> Result<(), Unread> {
+        self.catalogue.start = Start::left(rest)?;
+        self.objects.start = Start::left(rest)?;
         Ok(())
     }
+}
+
+/// Adds the number of a call, or those from the first on and below the second.
+fn push_calls(text: &str, calls: &mut Vec<u64>) -> Result<(), Unread> {
+    let Some((first, end)) = text.split_once("..") else {
+        calls.push(number_of(text)?)?;
+        return Ok(());
+    };
+    let first = number_of(first)?;
+    for number in first..number_of(end)? {
+        calls.push(number)?;
+    }
+    Ok(())
 }
 
 /// The words between single spaces.

@@ -68,7 +68,10 @@ impl Turns {
             return self.begin_request(alloc, line, None);
         }
         if let Some(text) = behind(rest, "=") {
-            return self.send(alloc, text);
+            return self.send(alloc, text, b"");
+        }
+        if let Some(text) = behind(rest, "|") {
+            return self.send(alloc, text, b"\n");
         }
         match &mut self.last {
             Turn::Request(request) => request.said.read(alloc, rest, ">"),
@@ -111,9 +114,10 @@ impl Turns {
         Ok(())
     }
 
-    /// Sends bytes as they are.
-    fn send(&mut self, alloc: Global, text: &str) -> Result<(), Unread> {
-        let bytes = unescaped(alloc, text)?;
+    /// Sends bytes as they are, and these behind them.
+    fn send(&mut self, alloc: Global, text: &str, end: &[u8]) -> Result<(), Unread> {
+        let mut bytes = unescaped(alloc, text)?;
+        bytes.extend_from_slice(end)?;
         if !matches!(&self.last, Turn::Sent) {
             self.close(alloc)?;
             self.script.is_head = bytes.as_slice().starts_with(b"HEAD ");
@@ -134,15 +138,30 @@ impl Turns {
             return self.begin_answer(alloc, text, line);
         }
         if let Some(text) = behind(rest, "=") {
-            self.close(alloc)?;
-            let bytes = unescaped(alloc, text)?;
-            self.script.await_bytes(bytes.as_slice(), line)?;
-            return Ok(());
+            return self.receive(alloc, text, b"", line);
+        }
+        if let Some(text) = behind(rest, "|") {
+            return self.receive(alloc, text, b"\n", line);
         }
         match &mut self.last {
             Turn::Answer(answer) => answer.said.read(alloc, rest, "<"),
             _ => Err(Unread::Place),
         }
+    }
+
+    /// Awaits bytes as they are, and these behind them.
+    fn receive(
+        &mut self,
+        alloc: Global,
+        text: &str,
+        end: &[u8],
+        line: usize,
+    ) -> Result<(), Unread> {
+        self.close(alloc)?;
+        let mut bytes = unescaped(alloc, text)?;
+        bytes.extend_from_slice(end)?;
+        self.script.await_bytes(bytes.as_slice(), line)?;
+        Ok(())
     }
 
     /// Begins an answer of this status, with an error if one is said.
@@ -161,8 +180,19 @@ impl Turns {
         Ok(())
     }
 
+    /// Reads the name of the one who has a token: the one that is said, or that of the last answer.
+    pub(crate) fn read_token(&mut self, alloc: Global, rest: &str) -> Result<(), Unread> {
+        match rest.split_once(' ') {
+            Some((name, text)) => {
+                let text = Text::from(String::from_str(alloc, text)?);
+                self.name_token(alloc, name, text)
+            }
+            None => self.read_given(alloc, rest),
+        }
+    }
+
     /// Reads the name of the one who has the token of the last answer.
-    pub(crate) fn read_token(&mut self, alloc: Global, name: &str) -> Result<(), Unread> {
+    fn read_given(&mut self, alloc: Global, name: &str) -> Result<(), Unread> {
         let Turn::Answer(answer) = &self.last else {
             return Err(Unread::Place);
         };
@@ -170,6 +200,11 @@ impl Turns {
             return Err(Unread::NoToken);
         };
         let text = given_token(alloc, body.as_slice())?;
+        self.name_token(alloc, name, text)
+    }
+
+    /// Gives a token a name.
+    fn name_token(&mut self, alloc: Global, name: &str, text: Text) -> Result<(), Unread> {
         let name = Text::from(String::from_str(alloc, name)?);
         self.script.tokens.push(Token { name, text })?;
         Ok(())

@@ -1,1 +1,4 @@
 pub mod HistoryLemmas
+pub mod ImagesLemmas
+pub mod LeadLemmas
+pub mod ReadingLemmas

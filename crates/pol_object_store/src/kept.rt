@@ -1,100 +1,179 @@
-ghost use Rattle.std.specs.Prelude.{◌≡◌, ◌<◌, [], ◌∷◌, ◌++◌, IfOk, OnErr, OnOk, length, vec_len, vec_capacity};
-ghost use Rattle.pol_objects.specs.Machine.{object_next, object_reply};
-ghost use Rattle.pol_object_store.specs.ObjectHistory.{no_objects, object_state_at, object_state_of, with_action};
+ghost use Rattle.std.specs.Prelude.{◌≡◌, ◌≤◌, ◌≢◌, [], ℕ, IfErr, IfOk, IfSome, List, Some, length};
+ghost use Rattle.pol_disk.specs.Disk.{LeavesOnly};
+ghost use Rattle.pol_journal.specs.Crash.{IsUntouched};
+ghost use Rattle.pol_journal.specs.Format.{IsNoneOrStandsFor};
+ghost use Rattle.pol_journal.specs.Journal.{IsBlank};
+ghost use Rattle.pol_journal.specs.Refused.{CreateRefused};
+ghost use Rattle.pol_journal.specs.declared.kind.Kind.TheVariants.{Objects};
+ghost use Rattle.pol_objects.specs.Objects.{total_length};
+ghost use Rattle.pol_object_store.specs.Acted.{Acts};
+ghost use Rattle.pol_object_store.specs.ObjectHistory.{no_objects, object_state_of};
+ghost use Rattle.pol_object_store.specs.ObjectImages.{KeepsObjectImages};
+ghost use Rattle.pol_object_store.specs.ObjectRecords.{AreFormed, object_changes, object_opened};
+ghost use Rattle.pol_object_store.specs.Reopened.{IsNewLog, OpenObjectsRefused, Reopens, disk_left};
+ghost use Rattle.pol_records.specs.Holding.{RisesBy};
 
-use crate::{ClosedObjects, ObjectEntry};
-use pol_objects::{ObjectAction, ObjectReply, ObjectState};
-use pol_types::OutOfMemory;
+use crate::opening::read_state;
+use crate::stages::{perform, reserve, undone};
+use crate::{Acted, ClosedObjects, ObjectEntry};
+use pol_disk::Disk;
+use pol_journal::{Journal, JournalRefused, Kind};
+use pol_objects::{ObjectAction, ObjectState};
+use pol_records::Records;
 use std::alloc::Global;
 use std::marker::Model;
 
-/// Objects with their history: the state at the opening, the actions that were done since, and the state that they led
-/// to. Contracts see the first two, which determine the third.
+/// Objects with their history, in a journal: the state at the opening, the actions that were done since, the numbers
+/// of the passes whose call the disk failed, and the state that the actions led to. Contracts see all but the last,
+/// which the first two determine.
 #[derive(Drop)]
-pub struct KeptObjects {
+pub struct KeptObjects<D: Disk> {
     base: ObjectState,
     history: Vec<ObjectEntry>,
+    marks: Vec<u64>,
     state: ObjectState,
+    records: Records<D>,
 }
 
-impl Model for KeptObjects {
-    ghost use Rattle.std.specs.Prelude.{◌≡◌};
+impl<D: Disk> Model for KeptObjects<D> {
+    ghost use Rattle.std.specs.Prelude.{◌≡◌, ◌≤◌, ◌+◌, length};
     ghost use Rattle.pol_object_store.specs.ObjectHistory.{ObjectLog, object_state_at};
+    ghost use Rattle.pol_object_store.specs.ObjectRecords.{AreFormed, object_records, object_size_of};
+    ghost use Rattle.pol_records.specs.Holding.{RisesBy};
 
-    ghost Value = { ObjectLog };
+    ghost Value = { ObjectLog D };
 
-    ghost view = { λ kept. record { base = kept.base; history = kept.history.items } };
+    ghost view = { λ kept. record {
+      base = kept.base;
+      history = kept.history.items;
+      marks = kept.marks.items;
+      journal = kept.records;
+    } };
 
-    ghost invariant = { λ kept. kept.state ≡ object_state_at kept.base kept.history.items };
+    ghost invariant = { λ kept. (kept.state ≡ object_state_at kept.base kept.history.items)
+        × RisesBy (length kept.marks.items) kept.records.opening.faults (D.fault_count kept.records.disk)
+        × (object_size_of (object_records kept.base kept.history.items) ≤ kept.records.gate + 1)
+        × AreFormed kept.base kept.history.items };
 }
 
-impl KeptObjects {
-    /// No objects, and no history.
-    pub fn empty(alloc: Global) -> Self
-        ensures { result ≡ record { base = no_objects; history = [] } }
+impl<D: Disk> KeptObjects<D> {
+    /// Makes a journal of objects without records on an empty disk. A refusal hands the disk back.
+    pub fn fresh(alloc: Global, disk: D) -> Result<Self, (D, JournalRefused)>
+        ensures base { IfOk result (λ log. log.base ≡ no_objects) }
+        ensures new { IfOk result (λ log. IsNewLog log) }
+        ensures images { IfOk result (λ log. IsBlank (D.seen disk) (D.may_leave disk)
+            → KeepsObjectImages D.seen D.may_leave D.clock D.left_since D.fault_count []
+            log.base log.history log.journal) }
+        // At each moment of the call each image is no journal, or stands for no bodies.
+        ensures moments { IsBlank (D.seen disk) (D.may_leave disk)
+            → LeavesOnly D.clock D.left_since disk (disk_left result) (IsNoneOrStandsFor Objects []) }
+        ensures opened { IfOk result (λ log. object_opened log ≡ 65) }
+        ensures since { IfOk result (λ log. D.fault_count disk ≤ log.journal.opening.faults) }
+        ensures refused { IfErr result (λ refused.
+            CreateRefused (D.size disk) (D.fault_count disk) (D.fault_count refused.0) refused.1) }
+        // A disk with bytes isn't touched.
+        ensures untouched { IfSome (D.size disk) (λ size. size ≢ 0
+            → IsUntouched D.clock D.left_since D.may_leave D.seen D.size disk (disk_left result)) }
+        ensures kept { D.fault_count disk ≤ D.fault_count (disk_left result) }
     {
-        KeptObjects {
-            base: ObjectState::empty(alloc),
-            history: Vec::new(alloc),
-            state: ObjectState::empty(alloc),
+        match Journal::fresh(disk, Kind::Objects, &[0]) {
+            Ok(journal) => Ok(KeptObjects {
+                base: ObjectState::empty(alloc),
+                history: Vec::new(alloc),
+                marks: Vec::new(alloc),
+                state: ObjectState::empty(alloc),
+                records: Records::of(journal),
+            }),
+            Err(refused) => Err(refused),
         }
     }
 
-    /// Does an action for the pass of this number, which the access at this place of the catalogue's history allowed,
-    /// and tells its own place and its reply. Where memory is wanting nothing has changed.
-    pub fn act(
-        &mut self,
-        alloc: Global,
-        number: u64,
-        access: u64,
-        action: ObjectAction,
-    ) -> Result<(u64, ObjectReply), OutOfMemory>
-        ensures place { IfOk result (λ done. done.0 ≡ length self.old.history) }
-        ensures reply { IfOk result (λ done. done.1 ≡ object_reply (object_state_of self.old) action) }
-        ensures entered { OnOk result (self.new
-            ≡ with_action self.old (record { number = number; access = access; action = action })) }
-        ensures error { OnErr result (self.new ≡ self.old) }
+    /// Opens a journal of objects and reads it whole. Each body must be the form of a change that fits the objects
+    /// to which those before it lead: the first gate behind which none such stands is told by `BadRecord`. A refusal
+    /// hands the disk back, and its bytes stay.
+    pub fn open(alloc: Global, disk: D) -> Result<Self, (D, JournalRefused)>
+        ensures opened { IfOk result (λ log. (file : List ℕ) → D.seen disk ≡ Some file
+            → Reopens D.seen D.may_leave D.clock D.left_since D.fault_count file log) }
+        ensures counted { IfOk result (λ log. log.base.counted ≡ total_length log.base.objects) }
+        ensures new { IfOk result (λ log. IsNewLog log) }
+        ensures since { IfOk result (λ log. D.fault_count disk ≤ log.journal.opening.faults) }
+        ensures refused { IfErr result (λ refused.
+            OpenObjectsRefused (D.seen disk) (D.fault_count disk) (D.fault_count refused.0) refused.1) }
+        ensures untouched { IsUntouched D.clock D.left_since D.may_leave D.seen D.size disk (disk_left result) }
+        ensures kept { D.fault_count disk ≤ D.fault_count (disk_left result) }
     {
-        self.history.reserve(1)?;
-        let reply = done(alloc, &mut self.state, &action)?;
-        let place = self.history.len() as u64;
-        self.history.push_reserved(ObjectEntry {
-            number,
-            access,
-            action,
-        });
-        Ok((place, reply))
+        let mut journal = match Journal::open(disk, Kind::Objects) {
+            Ok(journal) => journal,
+            Err(refused) => return Err(refused),
+        };
+        match read_state(alloc, &mut journal) {
+            Ok((base, state)) => Ok(KeptObjects {
+                base,
+                history: Vec::new(alloc),
+                marks: Vec::new(alloc),
+                state,
+                records: Records::of(journal),
+            }),
+            Err(why) => Err((journal.close(), why)),
+        }
+    }
+
+    /// Does an action for the pass of this number, which the access at this place of the catalogue's history allowed.
+    /// Room is made before anything is written, so that nothing has changed where memory is wanting. A put or a delete
+    /// that is accepted is in the journal before it is told, once an append that failed before is taken back.
+    pub fn act(&mut self, alloc: Global, number: u64, access: u64, action: ObjectAction) -> Acted
+        ensures acts { Acts D.fault_count self.old self.new number access action result }
+        // What a crash since the opening may have left.
+        ensures images { (opening : List (List ℕ))
+            → KeepsObjectImages D.seen D.may_leave D.clock D.left_since D.fault_count opening
+            self.old.base self.old.history self.old.journal
+            → KeepsObjectImages D.seen D.may_leave D.clock D.left_since D.fault_count opening
+            self.new.base self.new.history self.new.journal }
+        // What makes no change leaves the journal.
+        ensures idle { object_changes (object_state_of self.old) action ≡ [] → self.new.journal ≡ self.old.journal }
+        // What is recorded can be read back.
+        ensures formed { AreFormed self.new.base self.new.history }
+        ensures opened { object_opened self.new ≡ object_opened self.old }
+        ensures opening { self.new.journal.opening ≡ self.old.journal.opening }
+        ensures kind { self.new.journal.kind ≡ self.old.journal.kind }
+        ensures kept { D.fault_count self.old.journal.disk ≤ D.fault_count self.new.journal.disk }
+    {
+        let Ok(()) = reserve(&mut self.history, &mut self.marks) else {
+            drop(action);
+            return Acted::OutOfMemory;
+        };
+        match perform(alloc, &mut self.state, &mut self.records, &action) {
+            Ok(reply) => {
+                let place = self.history.len() as u64;
+                self.history.push_reserved(ObjectEntry {
+                    number,
+                    access,
+                    action,
+                });
+                Acted::Done { place, reply }
+            }
+            Err(why) => {
+                drop(action);
+                undone(&mut self.marks, number, why)
+            }
+        }
     }
 
     /// Closes the store.
-    pub fn close(self) -> ClosedObjects
+    pub fn close(self) -> ClosedObjects<D>
+        ensures disk { result.disk ≡ self.journal.disk }
         ensures base { result.base ≡ self.base }
         ensures history { result.history.items ≡ self.history }
         ensures state { result.state ≡ object_state_of self }
+        ensures formed { AreFormed self.base self.history }
+        // No more calls were marked than the disk's count of faults rose since the opening, until it is at its end.
+        ensures marked { RisesBy (length self.marks) self.journal.opening.faults (D.fault_count self.journal.disk) }
     {
         ClosedObjects {
+            disk: self.records.close(),
             base: self.base,
             history: self.history,
             state: self.state,
         }
-    }
-}
-
-/// Does an action. Where memory is wanting the state stays.
-fn done(
-    alloc: Global,
-    state: &mut ObjectState,
-    action: &ObjectAction,
-) -> Result<ObjectReply, OutOfMemory>
-    ensures reply { IfOk result (λ reply. reply ≡ object_reply state.old action.now) }
-    ensures next { OnOk result (state.new ≡ object_next state.old action.now) }
-    ensures error { OnErr result (state.new ≡ state.old) }
-{
-    match action {
-        ObjectAction::Get { path } => state.get(alloc, path),
-        ObjectAction::Head { path } => state.head(alloc, path),
-        ObjectAction::Put { path, bytes } => state.put(alloc, path, bytes),
-        ObjectAction::Delete { path } => state.delete(alloc, path),
-        ObjectAction::List { path } => state.list(alloc, path),
     }
 }

@@ -17,7 +17,7 @@ differing_after count (Some difference) = next_count count
 -- an example was played and counted
 pub record IsCounted (example : Example) (old new : Played) : Type 0 where
   pub difference : Option Difference
-  pub outcome : IsOutcome example difference
+  pub outcome : IsOutcome example old.disks new.disks difference
   pub examples : new.examples ≡ next_count old.examples
   pub differing : new.differing ≡ differing_after old.differing difference
 

@@ -1,6 +1,7 @@
 //! What is told of the examples that were played.
 ghost use Rattle.std.specs.Prelude.{◌≡◌, ◌==◌, IfOk, OnOk, if◌then◌else◌, string_bytes};
 
+use crate::disks::Disks;
 use crate::playing::play;
 use pol_examples::{Example, Reader};
 use pol_types::OutOfMemory;
@@ -16,6 +17,8 @@ pub struct Played {
     pub differing: u64,
     /// What is told of those that differ, and wasn't written yet.
     pub text: String,
+    /// The disks as the last run of a file left them.
+    disks: Option<Disks>,
 }
 
 /// A line that can't be read.
@@ -38,6 +41,7 @@ impl Played {
             examples: 0,
             differing: 0,
             text: String::new(alloc),
+            disks: None,
         }
     }
 
@@ -92,7 +96,9 @@ impl Played {
             }
         }
         let line = reader.line();
-        match self.play_last(rt, name, reader) {
+        let last = self.play_last(rt, name, reader);
+        self.disks = None;
+        match last {
             Ok(()) => Ok(()),
             Err(why) => Err(UnreadLine { line, why }),
         }
@@ -134,7 +140,7 @@ impl Played {
     ) -> Result<(), Unread>
         ensures { OnOk result (IsCounted example.now self.old self.new) }
     {
-        match play(rt, example)? {
+        match play(rt, example, &mut self.disks)? {
             Some(difference) => {
                 let title = example.title.as_str();
                 self.count_differing(rt.alloc(), name, title, &difference)?;
@@ -148,6 +154,7 @@ impl Played {
     fn count_agreeing(&mut self)
         ensures examples { self.new.examples ≡ next_count self.old.examples }
         ensures differing { self.new.differing ≡ self.old.differing }
+        ensures disks { self.new.disks ≡ self.old.disks }
     {
         self.examples = self.examples.saturating_add(1);
     }
@@ -162,6 +169,7 @@ impl Played {
     ) -> Result<(), OutOfMemory>
         ensures examples { OnOk result (self.new.examples ≡ next_count self.old.examples) }
         ensures differing { OnOk result (self.new.differing ≡ next_count self.old.differing) }
+        ensures disks { OnOk result (self.new.disks ≡ self.old.disks) }
     {
         let (line, what) = (difference.line, difference.what.as_str());
         let (wanted, got) = (difference.wanted.as_str(), difference.got.as_str());

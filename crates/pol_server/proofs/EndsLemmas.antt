@@ -11,7 +11,7 @@ use Rattle.std.proofs.lemmas.Bool.{cases_lt}
 use Rattle.std.proofs.lemmas.List.{get_or_append_left, get_or_past, take_all, take-append-drop}
 use Rattle.pol_commands.specs.declared.command.Words4.{Words4}
 use Rattle.pol_server.specs.Ends.{Draws, Ends, GivesPiece}
-use Rattle.pol_server.specs.Serving.{DrawsWords, GivesAll}
+use Rattle.pol_server.specs.Calls.{DrawsWords, GivesAll}
 
 -- a count that rose is above every earlier one
 pub rises-earlier : (first old new : ℕ) → first ≤ old → Rises old new → Rises first new

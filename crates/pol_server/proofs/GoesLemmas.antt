@@ -9,15 +9,16 @@ use Rattle.pol_http.specs.Message.{IsMessage, Message, print_message}
 use Rattle.pol_wire.proofs.StreamsLemmas.{IsShifted-nil, IsShifted-trans}
 use Rattle.pol_wire.specs.Streams.{IsShifted}
 use Rattle.pol_server.specs.Link.{EndsLastText}
-use Rattle.pol_server.specs.Serving.{Continues, Finishes, FitsEnding, Goes, Handles, Standing, told_text}
-use Rattle.pol_server.specs.Stores.{HasSeenBoth}
-use Rattle.pol_server.specs.Turn.{AreOrdered, IsAnswered, NoneCloses, Turn, output_of, place_of}
+use Rattle.pol_server.specs.Handling.{Handles}
+use Rattle.pol_server.specs.Serving.{Continues, Finishes, FitsEnding, Goes, Standing, told_text}
+use Rattle.pol_server.specs.Both.{HasSeenBoth}
+use Rattle.pol_server.specs.Turn.{AreMarked, AreOrdered, IsAnswered, NoneCloses, Turn, output_of, place_of}
 use Rattle.pol_server.specs.declared.served.Ending.{Ending}
 use Rattle.pol_server.specs.declared.served.Ending.TheVariants.{Ended, Cut, Closed, ReadFault, WriteFault, Spent, NoMemory}
 use Rattle.pol_server.specs.declared.served.Place.{Place}
 use Rattle.pol_server.proofs.EndsLemmas.{rises-earlier}
-use Rattle.pol_server.proofs.StoresLemmas.{both-same, both-trans}
-use Rattle.pol_server.proofs.TurnLemmas.{answered-later, both-ordered, each-append, failed_draws-append, last-append}
+use Rattle.pol_server.proofs.BothLemmas.{both-same, both-trans}
+use Rattle.pol_server.proofs.TurnLemmas.{answered-later, both-marked, both-ordered, each-append, failed_draws-append, last-append}
 
 -- an equation of texts, and then one more
 joined : {A : Type 0} (f : Turn → List A) (turns others : List Turn) (first out middle more last : List A)
@@ -50,6 +51,7 @@ module _ (a b c : Standing) (turns others : List Turn) where
     whole = each-append _ turns others first.whole second.whole;
     answered = each-append (IsAnswered c.seen) turns others (answered-later b.seen c.seen (map place_of others) turns second.stores first.answered) second.answered;
     ordered = both-ordered a.seen b.seen c.seen turns others first.ordered second.ordered;
+    marked = both-marked a.seen b.seen c.seen turns others first.marked second.marked;
   }
 
 -- a link that goes on twice goes on
@@ -116,6 +118,12 @@ module _ (a b : Standing) where
     objects = omega (arith, ap (λ seen. length seen.objects.front) same);
   }
 
+  stays-marked : b.seen ≡ a.seen → AreMarked a.seen b.seen []
+  stays-marked same = record {
+    catalogue = omega (arith, ap (λ seen. seen.catalogue.failed) same);
+    objects = omega (arith, ap (λ seen. seen.objects.failed) same);
+  }
+
   -- giving bytes alone
   pub goes-given : (out : List ℕ) → Stays a b → b.ends ≡ record a.ends { given = b.ends.given; sink_faults = b.ends.sink_faults }
       → Appends a.ends.given b.ends.given out → a.ends.sink_faults ≤ b.ends.sink_faults → Goes a b [] [] out
@@ -135,6 +143,7 @@ module _ (a b : Standing) where
     whole = tt;
     answered = tt;
     ordered = stays-ordered stays.seen;
+    marked = stays-marked stays.seen;
   }
 
   -- taking bytes alone
@@ -157,6 +166,7 @@ module _ (a b : Standing) where
     whole = tt;
     answered = tt;
     ordered = stays-ordered seen;
+    marked = stays-marked seen;
   }
 
   -- one message that was handled, whose answer is still to be given
@@ -179,4 +189,5 @@ module _ (a b : Standing) where
     whole = (subst IsMessage (sym handles.message_is) whole, tt);
     answered = (handles.answered, tt);
     ordered = handles.ordered;
+    marked = handles.marked;
   }

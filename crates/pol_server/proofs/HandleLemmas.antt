@@ -10,36 +10,42 @@ use Rattle.pol_http.specs.Head.{closes}
 use Rattle.pol_http.specs.Message.{Message}
 use Rattle.pol_http.specs.declared.answer.Answer.{Answer}
 use Rattle.pol_http.specs.declared.answer.TheConstants.{INSUFFICIENT_STORAGE}
-use Rattle.pol_machine.specs.Machine.{reply_of}
+use Rattle.pol_shared.specs.Machine.{reply_of}
 use Rattle.pol_commands.specs.declared.command.Command.{Command}
 use Rattle.pol_commands.specs.declared.command.Words4.{Words4}
 use Rattle.pol_commands.specs.declared.reply.Refusal.TheVariants as refusal
 use Rattle.pol_commands.specs.declared.reply.Reply.{Reply}
 use Rattle.pol_commands.specs.declared.reply.Reply.TheVariants.{Refused}
+use Rattle.pol_records.specs.declared.unwritten.Unwritten.{Unwritten}
+use Rattle.pol_records.specs.declared.unwritten.Unwritten.TheVariants.{JournalFull, Unknown, DiskFault}
 use Rattle.pol_requests.specs.Refused.{Meets}
 use Rattle.pol_requests.specs.declared.refused.RouteRefused.{RouteRefused}
 use Rattle.pol_requests.specs.declared.refused.Unplanned.{Unplanned}
 use Rattle.pol_requests.specs.declared.refused.Unplanned.TheVariants as plan
 use Rattle.pol_answers.specs.Texts.{answer_of, draw_fault_answer, refusal_answer}
 use Rattle.pol_routes.specs.Plan.{command_of, plan_of}
+use Rattle.pol_routes.specs.Verbs.{AsksFor}
 use Rattle.pol_routes.specs.declared.plans.Planned.{Planned}
 use Rattle.pol_routes.specs.declared.verb.Verb.{Verb}
 use Rattle.pol_shared.specs.Accessed.{access_allowed}
-use Rattle.pol_shared.specs.History.{state_at}
+use Rattle.pol_tokens.specs.declared.token.Act.{Act}
+use Rattle.pol_shared.specs.History.{changes_of, end_after, end_with, state_at}
 use Rattle.pol_shared.specs.Seen.{HasSeen, Seen, entry_number}
-use Rattle.pol_shared.specs.declared.entry.Entry.{Entry}
+use Rattle.pol_shared.specs.Stepped.{HasSpace}
+use Rattle.pol_shared.specs.Entry.{Entry}
 use Rattle.pol_shared.proofs.SeenLemmas.{seen-push, seen-same, seen-trans}
 use Rattle.pol_shared_objects.specs.SeenObjects.{HasSeenObjects, SeenObjects, object_entry_number}
 use Rattle.pol_wire.proofs.StreamsLemmas.{IsShifted-nil}
 use Rattle.pol_wire.specs.Streams.{IsShifted}
 use Rattle.pol_server.specs.Ends.{Ends, Reads}
-use Rattle.pol_server.specs.Serving.{DrawsWords, Handles, IsEntered, IsUnplannedAs, text_by}
-use Rattle.pol_server.specs.Stores.{HasSeenBoth}
-use Rattle.pol_server.specs.Turn.{AreOrdered, Case, IsAnswered, IsEnteredAt, Turn, failed_in, framed, full, is_head, place_by, stepped, text_of, undrawn, unplanned, without_memory, four_words}
+use Rattle.pol_server.specs.Calls.{DrawsWords}
+use Rattle.pol_server.specs.Handling.{Handles, IsEntered, IsUnplannedAs, IsUnwrittenIn, text_by}
+use Rattle.pol_server.specs.Both.{HasSeenBoth}
+use Rattle.pol_server.specs.Turn.{AreMarked, AreOrdered, Case, IsAnswered, IsEnteredAt, IsFullAs, Turn, failed_in, four_words, framed, full, is_head, marks_by, place_by, stepped, text_of, undrawn, unplanned, unwritten, unwritten_answer, without_memory}
 use Rattle.pol_server.specs.declared.served.Place.{Place}
 use Rattle.pol_server.specs.declared.served.Place.TheVariants.{Catalogue, Object, NoEntry}
-use Rattle.pol_server.specs.declared.stores.Stores.{Stores}
-use Rattle.pol_server.proofs.StoresLemmas.{seen-longer}
+use Rattle.pol_server.specs.Both.{SeenBoth}
+use Rattle.pol_server.proofs.BothLemmas.{seen-longer}
 
 -- what holds of the bytes of a result holds of those that it keeps
 pub kept-text : {E : Type 0} (message : Message) (answer : Answer) (close head_only : Bool) (result : Result (Vec ℕ Global) E) → close ≡ closes message.head → head_only ≡ is_head message
@@ -54,7 +60,7 @@ made-or-not None bytes is = inr refl
 made-or-not (Some made) bytes is = inl is
 
 -- the moment of a plan's command
-pub moment-command : (planned : Planned) (moment : ℕ) (words : Words4) → (command_of planned moment words).moment ≡ moment
+moment-command : (planned : Planned) (moment : ℕ) (words : Words4) → (command_of planned moment words).moment ≡ moment
 unfolding command_of
 moment-command planned moment words = refl
 
@@ -62,9 +68,20 @@ pub action-command : (planned : Planned) (moment : ℕ) (words : Words4) → (co
 unfolding command_of
 action-command planned moment words = refl
 
-pub charge-command : (planned : Planned) (moment : ℕ) (words : Words4) → (command_of planned moment words).charge ≡ planned.charge
+charge-command : (planned : Planned) (moment : ℕ) (words : Words4) → (command_of planned moment words).charge ≡ planned.charge
 unfolding command_of
 charge-command planned moment words = refl
+
+-- a command that is a plan's, of these words
+module _ (planned : Planned) (moment : ℕ) (four : Words4) (command : Command) (is : command ≡ command_of planned moment four) where
+  pub moment-within : moment ≤ 2 ^ 62 → command.moment ≤ 2 ^ 62
+  moment-within within = omega (arith, within, ap (λ command. command.moment) is, moment-command planned moment four)
+
+  pub asks-command : (act : Act) → AsksFor act planned.action → AsksFor act command.action
+  asks-command act asks = (asks.0, ap (λ command. command.action) is ∙ action-command planned moment four ∙ asks.1)
+
+  pub command-by : (words : List ℕ) → four ≡ four_words words → command ≡ command_of planned moment (four_words words)
+  command-by words four_is = is ∙ ap (command_of planned moment) four_is
 
 -- no access is asked for where there is no verb
 pub no-verb : (asked : Option Verb) → asked ≡ None → (reply : Reply) → ⊤ → (verb : Verb) → asked ≡ Some verb → reply ≢ access_allowed
@@ -72,13 +89,13 @@ no-verb None is reply also verb some told = cc
 no-verb (Some other) is reply also verb some told = cc
 
 -- nothing was entered
-pub seen-nowhere : (before after : Stores) → HasSeen before.catalogue after.catalogue [] → HasSeenObjects before.objects after.objects [] → HasSeenBoth before after (NoEntry ∷ [])
+pub seen-nowhere : (before after : SeenBoth) → HasSeen before.catalogue after.catalogue [] → HasSeenObjects before.objects after.objects [] → HasSeenBoth before after (NoEntry ∷ [])
 seen-nowhere before after catalogue objects = record { catalogue = catalogue; objects = objects }
 
-quiet : (seen : Stores) → HasSeenBoth seen seen (NoEntry ∷ [])
+quiet : (seen : SeenBoth) → HasSeenBoth seen seen (NoEntry ∷ [])
 quiet seen = seen-nowhere seen seen (seen-same entry_number seen.catalogue) (seen-same object_entry_number seen.objects)
 
-module _ (ends : Ends) (seen : Stores) (message : Message) where
+module _ (ends : Ends) (seen : SeenBoth) (message : Message) where
   -- memory was wanting before the clock was read
   pub handles-nothing : Handles ends ends seen seen message NoEntry None
   handles-nothing = record {
@@ -92,6 +109,7 @@ module _ (ends : Ends) (seen : Stores) (message : Message) where
     stores = quiet seen;
     answered = record { reads = inl (refl, refl); answer = refl };
     ordered = record { catalogue = (tt, omega arith); objects = (tt, omega arith) };
+    marked = record { catalogue = omega arith; objects = omega arith };
     place_is = refl;
     text_is = refl;
   }
@@ -110,6 +128,7 @@ module _ (ends : Ends) (seen : Stores) (message : Message) where
     stores = quiet seen;
     answered = record { why = why; refused = refused; moments = refl; words = refl; answer = text_is };
     ordered = record { catalogue = (tt, omega arith); objects = (tt, omega arith) };
+    marked = record { catalogue = omega arith; objects = omega arith };
     place_is = refl;
     text_is = refl;
   }
@@ -158,15 +177,15 @@ module _ (old now new : Ends) (moment : ℕ) where
           → new ≡ record old { moments = new.moments; words = new.words; draw_faults = new.draw_faults }
       same-both first second = second ∙ sym (ap as_of (ap (λ ends. ends.moments) second)) ∙ ap as_read first
 
-module _ (old new : Ends) (seen : Stores) (message : Message) (plan : Planned) (moment : ℕ) (words : List ℕ) (planned : plan_of message ≡ Ok plan) (read : IsReadFor old new moment words) where
+module _ (old new : Ends) (seen : SeenBoth) (message : Message) (plan : Planned) (moment : ℕ) (words : List ℕ) (planned : plan_of message ≡ Ok plan) (read : IsReadFor old new moment words) where
   -- the message's turn, by how it was answered
   abbrev pub turn-as : Case → List ℕ → Turn
   turn-as case answer = record { message = message; moments = moment ∷ []; words = words; case = case; answer = answer }
 
   -- a message for which no draw failed
-  pub handles-as : (after : Stores) (case : Case) (answer : List ℕ) (text : Option (List ℕ)) → failed_in case ≡ 0 → text_by text ≡ answer → HasSeenBoth seen after (place_by case ∷ [])
-      → IsAnswered after (turn-as case answer) → AreOrdered seen after (turn-as case answer ∷ []) → Handles old new seen after message (place_by case) text
-  handles-as after case answer text drawn text_is more answered ordered = record {
+  pub handles-as : (after : SeenBoth) (case : Case) (answer : List ℕ) (text : Option (List ℕ)) → failed_in case ≡ 0 → text_by text ≡ answer → HasSeenBoth seen after (place_by case ∷ [])
+      → IsAnswered after (turn-as case answer) → AreOrdered seen after (turn-as case answer ∷ []) → AreMarked seen after (turn-as case answer ∷ []) → Handles old new seen after message (place_by case) text
+  handles-as after case answer text drawn text_is more answered ordered marked = record {
     turn = turn-as case answer;
     message_is = refl;
     same = read.same;
@@ -177,6 +196,7 @@ module _ (old new : Ends) (seen : Stores) (message : Message) (plan : Planned) (
     stores = more;
     answered = answered;
     ordered = ordered;
+    marked = marked;
     place_is = refl;
     text_is = text_is;
   }
@@ -195,6 +215,7 @@ module _ (old new : Ends) (seen : Stores) (message : Message) (plan : Planned) (
     stores = quiet seen;
     answered = record { plan = plan; planned = planned; moments = refl; words = few; answer = made-or-not text _ text_is };
     ordered = record { catalogue = (tt, omega arith); objects = (tt, omega arith) };
+    marked = record { catalogue = omega arith; objects = omega arith };
     place_is = refl;
     text_is = refl;
   }
@@ -225,10 +246,13 @@ module _ (old new : Ends) (seen : Stores) (message : Message) (plan : Planned) (
         subst (λ front. (state_at seen.catalogue.base front).charged + plan.charge ≤ 2 ^ 30) (sym (take-append_seam front (entry ∷ [])))
         (subst (λ charge. (state_at seen.catalogue.base front).charged + charge ≤ 2 ^ 30) (charge-command plan moment (four_words words)) room)
 
+    pub space-there : (front : List Entry) → HasSpace seen.catalogue front command → HasSpace (with-entry front) (take (length front) (front ++ entry ∷ [])) command
+    space-there front space = subst (λ front. HasSpace seen.catalogue front command) (sym (take-append_seam front (entry ∷ []))) space
+
     -- the command was entered behind what was seen then
-    abbrev pub entered-at : (objects : SeenObjects) (front : List Entry) (case : Case) (answer : List ℕ) → (state_at seen.catalogue.base front).charged + command.charge ≤ 2 ^ 30
+    abbrev pub entered-at : (objects : SeenObjects) (front : List Entry) (case : Case) (answer : List ℕ) → (state_at seen.catalogue.base front).charged + command.charge ≤ 2 ^ 30 → HasSpace seen.catalogue front command
         → IsEnteredAt (record { catalogue = with-entry front; objects = objects }) (turn-as case answer) (length front)
-    entered-at objects front case answer room = record {
+    entered-at objects front case answer room space = record {
       plan = plan;
       moment = moment;
       entry = entry;
@@ -236,6 +260,7 @@ module _ (old new : Ends) (seen : Stores) (message : Message) (plan : Planned) (
       entry_is = refl;
       there = there front;
       has_room = room-there front room;
+      has_space = space-there front space;
     }
 
     pub seen-entry : (front : List Entry) → HasSeen seen.catalogue (record seen.catalogue { front = front }) [] → HasSeen seen.catalogue (with-entry front) (length front ∷ [])
@@ -251,7 +276,7 @@ module _ (old new : Ends) (seen : Stores) (message : Message) (plan : Planned) (
     entry-high front = omega (arith, length-append front (entry ∷ []))
 
     -- memory was wanting
-    wanting : (after : Stores) → HasSeen seen.catalogue after.catalogue [] → after.objects ≡ seen.objects → Handles old new seen after message NoEntry None
+    wanting : (after : SeenBoth) → HasSeen seen.catalogue after.catalogue [] → after.objects ≡ seen.objects → Handles old new seen after message NoEntry None
     wanting after more same =
         let none : HasSeenObjects seen.objects after.objects [] = subst (λ objects. HasSeenObjects seen.objects objects []) (sym same) (seen-same object_entry_number seen.objects) in
         handles-as after without_memory INSUFFICIENT_STORAGE.now None refl refl (seen-nowhere seen after more none)
@@ -260,20 +285,22 @@ module _ (old new : Ends) (seen : Stores) (message : Message) (plan : Planned) (
           catalogue = (tt, seen-longer entry_number seen.catalogue after.catalogue [] more);
           objects = (tt, seen-longer object_entry_number seen.objects after.objects [] none);
         })
+        (record { catalogue = omega (arith, more.kept); objects = omega (arith, none.kept) })
 
     -- the command was entered, and answered by its reply
-    handles-done : (front : List Entry) (bytes : List ℕ) → HasSeen seen.catalogue (record seen.catalogue { front = front }) [] → (state_at seen.catalogue.base front).charged + command.charge ≤ 2 ^ 30
+    handles-done : (front : List Entry) (bytes : List ℕ) → HasSeen seen.catalogue (record seen.catalogue { front = front }) [] → (state_at seen.catalogue.base front).charged + command.charge ≤ 2 ^ 30 → HasSpace seen.catalogue front command
         → ((verb : Verb) → plan.verb ≡ Some verb → reply_of (state_at seen.catalogue.base front) command ≢ access_allowed)
         → bytes ≡ text_of message (answer_of (reply_of (state_at seen.catalogue.base front) command)) → Handles old new seen (record seen { catalogue = with-entry front }) message (Catalogue (length front)) (Some bytes)
-    handles-done front bytes more room other text_is =
+    handles-done front bytes more room space other text_is =
         handles-as (record seen { catalogue = with-entry front }) (stepped (length front)) bytes (Some bytes) refl refl
         (record { catalogue = seen-entry front more; objects = seen-same object_entry_number seen.objects })
         (record {
-          entered = entered-at seen.objects front (stepped (length front)) bytes room;
+          entered = entered-at seen.objects front (stepped (length front)) bytes room space;
           other = λ verb some. subst (λ reply. reply ≢ access_allowed) (sym (reply-there front)) (other verb some);
           answer = text_is ∙ ap (λ reply. text_of message (answer_of reply)) (sym (reply-there front));
         })
         (record { catalogue = (entry-low front more, entry-high front); objects = (tt, omega arith) })
+        (record { catalogue = omega arith; objects = omega arith })
 
     -- the run was full
     handles-full : (after : Seen) (charged : ℕ) (bytes : List ℕ) → HasSeen seen.catalogue after [] → charged ≡ (state_at after.base after.front).charged → 2 ^ 30 < charged + command.charge
@@ -292,6 +319,36 @@ module _ (old new : Ends) (seen : Stores) (message : Message) (plan : Planned) (
           answer = text_is ∙ ap (λ charge. text_of message (answer_of (Refused (refusal.RunFull charged charge)))) (charge-command plan moment (four_words words));
         })
         (record { catalogue = (seen-longer entry_number seen.catalogue after [] more, omega arith); objects = (tt, omega arith) })
+        (record { catalogue = omega (arith, more.kept); objects = omega arith })
+
+    -- its changes weren't written
+    handles-unwritten : (after : Seen) (why : Unwritten) (bytes : List ℕ) → HasSeen seen.catalogue after [] → changes_of (state_at after.base after.front) command ≢ []
+        → IsFullAs why (end_after after.opened after.base after.front) (end_with after.opened after.base after.front command) → seen.catalogue.failed + marks_by why ≤ after.failed
+        → bytes ≡ text_of message (unwritten_answer why) → Handles old new seen (record seen { catalogue = after }) message NoEntry (Some bytes)
+    handles-unwritten after why bytes more some reached marks text_is =
+        let all : take (length after.front) after.front ≡ after.front = take-length after.front in
+        handles-as (record seen { catalogue = after }) (unwritten why (length after.front)) bytes (Some bytes) refl refl
+        (record { catalogue = more; objects = seen-same object_entry_number seen.objects })
+        (record {
+          plan = plan;
+          moment = moment;
+          command = command;
+          read = record { planned = planned; moments = refl; words = drawn };
+          command_is = refl;
+          within = omega arith;
+          some = subst (λ front. changes_of (state_at after.base front) command ≢ []) (sym all) some;
+          full = subst (λ front. IsFullAs why (end_after after.opened after.base front) (end_with after.opened after.base front command)) (sym all) reached;
+          answer = text_is;
+        })
+        (record { catalogue = (seen-longer entry_number seen.catalogue after [] more, omega arith); objects = (tt, omega arith) })
+        (record { catalogue = omega (arith, marks); objects = omega arith })
+
+    handles-unwritten-by : (after : Seen) (why : Unwritten) (bytes : List ℕ) → IsUnwrittenIn seen.catalogue after command why → bytes ≡ text_of message (unwritten_answer why)
+        → Handles old new seen (record seen { catalogue = after }) message NoEntry (Some bytes)
+    handles-unwritten-by after (JournalFull end wanted) bytes is text_is =
+        handles-unwritten after (JournalFull end wanted) bytes is.stays.seen is.some (is.end_is, is.wanted_is, is.above) (omega (arith, is.stays.seen.kept)) text_is
+    handles-unwritten-by after Unknown bytes is text_is = handles-unwritten after Unknown bytes is.seen is.some tt (omega (arith, is.marked)) text_is
+    handles-unwritten-by after DiskFault bytes is text_is = handles-unwritten after DiskFault bytes is.seen is.some tt (omega (arith, is.marked)) text_is
 
     -- the text of a reply, framed as the message asks
     framed-as : (close head_only : Bool) (answer : Answer) (text : List ℕ) → close ≡ closes message.head → head_only ≡ is_head message → text ≡ answer_text (framed close head_only answer) → text ≡ text_of message answer
@@ -299,7 +356,7 @@ module _ (old new : Ends) (seen : Stores) (message : Message) (plan : Planned) (
         is ∙ ap (λ close. answer_text (framed close head_only answer)) closing ∙ ap (λ head_only. answer_text (framed (closes message.head) head_only answer)) heading
 
     -- what came of the command, where the objects stayed as they were
-    pub handles-entered : (Also : Reply → Type 0) (after : Stores) (close head_only : Bool) (place : Place) (text : Option (List ℕ)) → close ≡ closes message.head → head_only ≡ is_head message
+    pub handles-entered : (Also : Reply → Type 0) (after : SeenBoth) (close head_only : Bool) (place : Place) (text : Option (List ℕ)) → close ≡ closes message.head → head_only ≡ is_head message
         → ((reply : Reply) → Also reply → (verb : Verb) → plan.verb ≡ Some verb → reply ≢ access_allowed) → after.objects ≡ seen.objects
         → IsEntered Also seen.catalogue after.catalogue command close head_only place text → Handles old new seen after message place text
     handles-entered Also after close head_only (Catalogue place) (Some bytes) closing heading other same is =
@@ -308,14 +365,18 @@ module _ (old new : Ends) (seen : Stores) (message : Message) (plan : Planned) (
         let after_is : after ≡ record seen { catalogue = with-entry is.before } = λ i. record { catalogue = enters i; objects = same i } in
         subst (λ place. Handles old new seen after message (Catalogue place) (Some bytes)) (sym is.place_is)
         (subst (λ after. Handles old new seen after message (Catalogue (length is.before)) (Some bytes)) (sym after_is)
-        (handles-done is.before bytes is.seen is.has_room (λ verb some. other (reply_of (state_at seen.catalogue.base is.before) command) is.rendered.0 verb some) text_is))
+        (handles-done is.before bytes is.seen is.has_room is.has_space (λ verb some. other (reply_of (state_at seen.catalogue.base is.before) command) is.rendered.0 verb some) text_is))
     handles-entered Also after close head_only (Catalogue place) None closing heading other same is = absurd is
     handles-entered Also after close head_only (Object access place) text closing heading other same is = absurd is
-    handles-entered Also after close head_only NoEntry (Some bytes) closing heading other same (charged, charge, is) =
+    handles-entered Also after close head_only NoEntry (Some bytes) closing heading other same (inl (charged, charge, is)) =
         let rendered : bytes ≡ answer_text (framed close head_only (answer_of (Refused (refusal.RunFull charged command.charge)))) =
         is.rendered.1 ∙ ap (λ charge. answer_text (framed close head_only (answer_of (Refused (refusal.RunFull charged charge))))) is.charge_is in
         let after_is : after ≡ record seen { catalogue = after.catalogue } = λ i. record { catalogue = after.catalogue; objects = same i } in
         subst (λ after. Handles old new seen after message NoEntry (Some bytes)) (sym after_is)
-        (handles-full after.catalogue charged bytes is.seen is.charged_is (subst (λ charge. 2 ^ 30 < charged + charge) is.charge_is is.full)
+        (handles-full after.catalogue charged bytes is.stays.seen is.charged_is (subst (λ charge. 2 ^ 30 < charged + charge) is.charge_is is.full)
         (framed-as close head_only (answer_of (Refused (refusal.RunFull charged command.charge))) bytes closing heading rendered))
+    handles-entered Also after close head_only NoEntry (Some bytes) closing heading other same (inr (why, is, told)) =
+        let after_is : after ≡ record seen { catalogue = after.catalogue } = λ i. record { catalogue = after.catalogue; objects = same i } in
+        subst (λ after. Handles old new seen after message NoEntry (Some bytes)) (sym after_is)
+        (handles-unwritten-by after.catalogue why bytes is (framed-as close head_only (unwritten_answer why) bytes closing heading told))
     handles-entered Also after close head_only NoEntry None closing heading other same is = wanting after is same

@@ -1,13 +1,9 @@
 pub mod AccessLemmas
-pub mod AlikeLemmas
-pub mod CauseLemmas
+pub mod BothLemmas
 pub mod EndsLemmas
 pub mod GoesLemmas
 pub mod HandleLemmas
 pub mod MovesLemmas
-pub mod OutputLemmas
 pub mod ServeLemmas
-pub mod SpotLemmas
-pub mod StopsLemmas
 pub mod StoresLemmas
 pub mod TurnLemmas

@@ -12,9 +12,11 @@ use Rattle.pol_wire.specs.Faults.{Rises}
 use Rattle.std.proofs.KnownBytes.{Appends-nil}
 use Rattle.pol_server.specs.declared.connection.Connection.{Connection}
 use Rattle.pol_server.specs.Ends.{Ends}
-use Rattle.pol_server.specs.declared.stores.Stores.{Stores}
+use Rattle.pol_server.specs.Both.{SeenBoth}
 use Rattle.pol_server.specs.Link.{IsRestWithoutMemory, IsToldBefore, IsUnfinishedRest}
-use Rattle.pol_server.specs.Serving.{GivesAll, ReadsOn, standing, Continues, Finishes, FitsEnding, Goes, Handles, IsToldAsked, Moves, Says, Standing, text_by, told_text}
+use Rattle.pol_server.specs.Calls.{GivesAll}
+use Rattle.pol_server.specs.Handling.{Handles, text_by}
+use Rattle.pol_server.specs.Serving.{ReadsOn, standing, Continues, Finishes, FitsEnding, Goes, IsToldAsked, Moves, Says, Standing, told_text}
 use Rattle.pol_server.specs.Turn.{LastCloses, NoneCloses, Turn, output_of, told_before}
 use Rattle.pol_server.specs.declared.served.Ending.{Ending}
 use Rattle.pol_server.specs.declared.served.Ending.TheVariants.{Ended, Cut, Closed, WriteFault, NoMemory}
@@ -169,7 +171,7 @@ module _ (a b : Standing) (now : Ends) (message : Message) (place : Place) (text
   ]
 
 -- the source gave some bytes, or stopped
-pub reads-on : (before after : Ends) (old new : Connection) (seen : Stores) → ReadsOn before after old new → Continues (standing before seen old) (standing after seen new)
+pub reads-on : (before after : Ends) (old new : Connection) (seen : SeenBoth) → ReadsOn before after old new → Continues (standing before seen old) (standing after seen new)
 reads-on before after old new seen reads = record {
   turns = [];
   taken = reads.taken;

@@ -4,9 +4,9 @@ use Rattle.std.specs.Io.KnownBytes.{IsAtEnd}
 use Rattle.std.proofs.KnownBytes.{Appends-nil}
 use Rattle.pol_wire.specs.Faults.{Rises}
 use Rattle.pol_server.specs.Ends.{Ends}
-use Rattle.pol_server.specs.declared.stores.Stores.{Stores}
+use Rattle.pol_server.specs.Both.{SeenBoth}
 use Rattle.pol_server.specs.Link.{EndsBy, ServesLink, taken_bound}
-use Rattle.pol_server.specs.Stores.{HasSeenBoth}
+use Rattle.pol_server.specs.Both.{HasSeenBoth}
 use Rattle.pol_server.specs.Turn.{Turn, place_of}
 use Rattle.pol_server.specs.declared.served.Served.{Served}
 use Rattle.pol_server.specs.declared.served.Ending.TheVariants.{Ended, Cut, Closed, ReadFault, WriteFault, Spent, NoMemory}
@@ -19,7 +19,7 @@ use Rattle.pol_server.proofs.EndsLemmas.{rises-earlier}
 use Rattle.pol_server.proofs.GoesLemmas.{continues-trans, goes-given}
 
 -- what holds between two calls of the source or two messages, since the start
-pub record IsServed (before now : Ends) (first seen : Stores) (start connection : Connection) : Type 0 where
+pub record IsServed (before now : Ends) (first seen : SeenBoth) (start connection : Connection) : Type 0 where
   pub goes : Continues (standing before first start) (standing now seen connection)
   pub told : IsToldAsked connection.told connection.buffer.items
   pub stopped : IsStopped connection.stop before now connection.budget
@@ -61,7 +61,7 @@ continues-start a = record {
   open_ = tt;
 }
 
-pub served-start : (before : Ends) (first : Stores) (start : Connection) → start.stop ≡ None → start.told ≡ false → IsServed before before first first start start
+pub served-start : (before : Ends) (first : SeenBoth) (start : Connection) → start.stop ≡ None → start.told ≡ false → IsServed before before first first start start
 served-start before first start none untold = record {
   goes = continues-start (standing before first start);
   told = λ told. let contrary : false ≡ true = sym untold ∙ told in cc;
@@ -69,7 +69,7 @@ served-start before first start none untold = record {
 }
 
 -- one call of the source or one message more
-pub served-on : (before now new : Ends) (first seen after : Stores) (start connection next : Connection) → IsServed before now first seen start connection
+pub served-on : (before now new : Ends) (first seen after : SeenBoth) (start connection next : Connection) → IsServed before now first seen start connection
     → Continues (standing now seen connection) (standing new after next) → IsToldAsked next.told next.buffer.items → KeepsStop now new connection next
     → IsServed before new first after start next
 served-on before now new first seen after start connection next served goes told stops = record {
@@ -99,7 +99,7 @@ ends-by Spent why before after turns budget taken rest text fits is stopped spen
 ends-by NoMemory why before after turns budget taken rest text fits is stopped spent caused = fits
 
 -- the whole link
-pub serves : (before after : Ends) (first last : Stores) (start connection : Connection) (served : Served)
+pub serves : (before after : Ends) (first last : SeenBoth) (start connection : Connection) (served : Served)
     → Finishes served.ending (standing before first start) (standing after last connection)
     → start.buffer.items ≡ [] → start.places.items ≡ [] → start.budget ≡ taken_bound → start.told ≡ false
     → IsEndingOf connection.stop served.ending → IsStopped connection.stop before after connection.budget → served.places ≡ connection.places.items
@@ -125,6 +125,7 @@ serves before after first last start connection served finishes empty unplaced w
       stores = subst (HasSeenBoth first last) (sym places) goes.stores;
       answered = goes.answered;
       ordered = goes.ordered;
+      marked = goes.marked;
       gives = goes.output;
       output = sym (ap (λ told. told_text told ++ (finishes.out ++ finishes.missing)) untold) ∙ finishes.said;
       complete = finishes.complete;

@@ -1,50 +1,28 @@
--- What is seen of both stores, and then more.
-use Rattle.std.proofs.Common.{◌≡◌, ◌≤◌, ℕ, List, [], ◌++◌, sym, ap, subst, ◌∙◌, arith, length, length-append}
-use Rattle.std.proofs.lemmas.Grind.{flat_map-append}
-use Rattle.pol_object_store.specs.declared.entry.ObjectEntry.{ObjectEntry}
-use Rattle.pol_shared.specs.Passes.{HasSeenOf, SeenOf}
-use Rattle.pol_shared.specs.Seen.{HasSeen, entry_number}
-use Rattle.pol_shared.specs.declared.entry.Entry.{Entry}
-use Rattle.pol_shared.proofs.SeenLemmas.{seen-same, seen-trans}
-use Rattle.pol_shared_objects.specs.SeenObjects.{HasSeenObjects, object_entry_number}
-use Rattle.pol_server.specs.Stores.{HasSeenBoth, catalogue_place, catalogue_places, object_place, object_places}
-use Rattle.pol_server.specs.declared.served.Place.{Place}
-use Rattle.pol_server.specs.declared.stores.Stores.{Stores}
+-- What a crash may have left of the stores stays known: where nothing was done, and over one call and then another.
+use Rattle.std.proofs.Common.{ℕ, List, Option, refl, ◌∙◌, arith}
+use Rattle.pol_server.specs.Stores.{KeepsCatalogue, KeepsObjects}
+use Rattle.pol_shared.specs.Held.{Held}
+use Rattle.pol_shared_objects.specs.HeldObjects.{HeldObjects}
 
--- nothing more was seen
-pub both-same : (seen : Stores) → HasSeenBoth seen seen []
-both-same seen = record {
-  catalogue = seen-same entry_number seen.catalogue;
-  objects = seen-same object_entry_number seen.objects;
-}
+module _ {D : Type 0} (seen : D → Option (List ℕ)) (may_leave : D → List ℕ → Type 0) (clock : D → ℕ) (left_since : D → ℕ → List ℕ → Type 0) (fault_count : D → ℕ) where
+  pub catalogue-same : (held : Held D) → KeepsCatalogue seen may_leave clock left_since fault_count held held
+  catalogue-same held = record { images = λ opening images. images; opening = refl; faults = omega arith }
 
--- more was seen, and then more again
-pub both-trans : (a b c : Stores) (places more : List Place) → HasSeenBoth a b places → HasSeenBoth b c more → HasSeenBoth a c (places ++ more)
-both-trans a b c places more first second = record {
-  catalogue = subst (HasSeen a.catalogue c.catalogue) (sym (flat_map-append catalogue_place places more))
-      (seen-trans entry_number a.catalogue b.catalogue c.catalogue (catalogue_places places) (catalogue_places more) first.catalogue second.catalogue);
-  objects = subst (HasSeenObjects a.objects c.objects) (sym (flat_map-append object_place places more))
-      (seen-trans object_entry_number a.objects b.objects c.objects (object_places places) (object_places more) first.objects second.objects);
-}
+  pub catalogue-trans : (a b c : Held D) → KeepsCatalogue seen may_leave clock left_since fault_count a b → KeepsCatalogue seen may_leave clock left_since fault_count b c
+      → KeepsCatalogue seen may_leave clock left_since fault_count a c
+  catalogue-trans a b c first second = record {
+    images = λ opening images. second.images opening (first.images opening images);
+    opening = second.opening ∙ first.opening;
+    faults = omega (arith, first.faults, second.faults);
+  }
 
--- what a pass has seen, with more behind it
-abbrev pub grown-by : {Base Entry : Type 0} → SeenOf Base Entry → List Entry → SeenOf Base Entry
-grown-by seen more = record seen { front = seen.front ++ more }
+  pub objects-same : (held : HeldObjects D) → KeepsObjects seen may_leave clock left_since fault_count held held
+  objects-same held = record { images = λ opening images. images; opening = refl; faults = omega arith }
 
--- both stores, with more behind what was seen of them
-abbrev pub both-grown : Stores → List Entry → List ObjectEntry → Stores
-both-grown seen more later = record { catalogue = grown-by seen.catalogue more; objects = grown-by seen.objects later }
-
-grows : {Base Entry : Type 0} (number_of : Entry → ℕ) (old new : SeenOf Base Entry) (places : List ℕ) (seen : HasSeenOf number_of old new places) → new ≡ grown-by old seen.front.0
-grows number_of old new places seen = seen.same ∙ ap (λ front. record old { front = front }) seen.front.1
-
--- what was seen goes on
-pub both-grow : (old new : Stores) (places : List Place) (seen : HasSeenBoth old new places) → new ≡ both-grown old seen.catalogue.front.0 seen.objects.front.0
-both-grow old new places seen =
-    let catalogue = grows entry_number old.catalogue new.catalogue (catalogue_places places) seen.catalogue in
-    let objects = grows object_entry_number old.objects new.objects (object_places places) seen.objects in
-    λ i. record { catalogue = catalogue i; objects = objects i }
-
--- what a pass has seen grows no shorter
-pub seen-longer : {Base Entry : Type 0} (number_of : Entry → ℕ) (old new : SeenOf Base Entry) (places : List ℕ) → HasSeenOf number_of old new places → length old.front ≤ length new.front
-seen-longer number_of old new places seen = omega (arith, ap length seen.front.1, length-append old.front seen.front.0)
+  pub objects-trans : (a b c : HeldObjects D) → KeepsObjects seen may_leave clock left_since fault_count a b → KeepsObjects seen may_leave clock left_since fault_count b c
+      → KeepsObjects seen may_leave clock left_since fault_count a c
+  objects-trans a b c first second = record {
+    images = λ opening images. second.images opening (first.images opening images);
+    opening = second.opening ∙ first.opening;
+    faults = omega (arith, first.faults, second.faults);
+  }

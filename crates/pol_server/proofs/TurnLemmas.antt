@@ -4,21 +4,25 @@ use Rattle.std.specs.Prelude.{false, slice_get}
 use Rattle.std.specs.List.{AllByRecursion}
 use Rattle.std.proofs.lemmas.List.{take-append-le, get_or_append_left}
 use Rattle.std.proofs.lemmas.Option.{slice_get_within, slice_get-get_or}
-use Rattle.pol_machine.specs.Machine.{reply_of}
+use Rattle.pol_shared.specs.Machine.{reply_of}
 use Rattle.pol_answers.specs.Texts.{answer_of}
 use Rattle.pol_objects.specs.Machine.{object_reply}
 use Rattle.pol_object_answers.specs.ObjectAnswers.{object_answer_of}
 use Rattle.pol_object_store.specs.ObjectHistory.{object_state_at}
+use Rattle.pol_object_store.specs.ObjectRecords.{object_changes, object_end_after, object_end_with}
 use Rattle.pol_object_store.specs.declared.entry.ObjectEntry.{ObjectEntry}
+use Rattle.pol_records.specs.declared.unwritten.Unwritten.{Unwritten}
 use Rattle.pol_shared.specs.Accessed.{access_allowed}
-use Rattle.pol_shared.specs.History.{state_at}
-use Rattle.pol_shared.specs.declared.entry.Entry.{Entry}
+use Rattle.pol_shared.specs.Stepped.{HasSpace}
+use Rattle.pol_shared_objects.specs.Acted.{HasObjectSpace}
+use Rattle.pol_shared.specs.History.{changes_of, end_after, end_with, state_at}
+use Rattle.pol_shared.specs.Entry.{Entry}
 use Rattle.pol_server.specs.Actions.{tells_change}
-use Rattle.pol_server.specs.Stores.{HasSeenBoth}
-use Rattle.pol_server.specs.Turn.{AnsweredAs, AreOrdered, Case, IsActed, IsAllowedAt, IsAnswered, IsDoneAt, IsEnteredAt, IsFrom, IsFullAt, IsOrdered, IsStepped, IsUnacted, IsUntold, LastCloses, NoneCloses, Spot, Turn, acted, behind, catalogue_spot, entry_at, failed_draws, full, low_after, nowhere, object_spot, stepped, text_of, unacted, undrawn, unplanned, untold, without_memory}
+use Rattle.pol_server.specs.Both.{HasSeenBoth}
+use Rattle.pol_server.specs.Turn.{AnsweredAs, AreMarked, AreOrdered, Case, IsActed, IsAllowedAt, IsAnswered, IsDoneAt, IsEnteredAt, IsFrom, IsFullAs, IsFullAt, IsOrdered, IsStepped, IsUnacted, IsUnstored, IsUntold, IsUnwritten, LastCloses, NoneCloses, Spot, Turn, acted, behind, catalogue_marks_in, catalogue_spot, entry_at, failed_draws, failed_in, full, low_after, nowhere, object_marks_in, object_spot, stepped, text_of, total_of, unacted, undrawn, unplanned, unstored, untold, unwritten, without_memory}
 use Rattle.pol_server.specs.declared.served.Place.{Place}
-use Rattle.pol_server.specs.declared.stores.Stores.{Stores}
-use Rattle.pol_server.proofs.StoresLemmas.{both-grow, both-grown}
+use Rattle.pol_server.specs.Both.{SeenBoth}
+use Rattle.pol_server.proofs.BothLemmas.{both-grow, both-grown}
 
 -- what holds of each of two lists holds of each of both
 pub each-append : {X : Type 0} (P : X → Type 0) (xs ys : List X) → AllByRecursion P xs → AllByRecursion P ys → AllByRecursion P (xs ++ ys)
@@ -44,9 +48,9 @@ module _ {X : Type 0} (history more : List X) where
       let within : place < length history = slice_get_within history place entry there in
       take-append-le place history more (omega (arith, within))
 
-module _ (seen : Stores) (more : List Entry) (later : List ObjectEntry) where
-  abbrev longer : Stores
-  longer = both-grown seen more later
+module _ (seen : SeenBoth) (more : List Entry) (later : List ObjectEntry) (failed lost : ℕ) where
+  abbrev longer : SeenBoth
+  longer = both-grown seen more later failed lost
 
   abbrev entered-longer : (turn : Turn) (place : ℕ) → IsEnteredAt seen turn place → IsEnteredAt longer turn place
   entered-longer turn place is =
@@ -59,6 +63,7 @@ module _ (seen : Stores) (more : List Entry) (later : List ObjectEntry) where
         entry_is = is.entry_is;
         there = there-longer seen.catalogue.front more place is.entry is.there;
         has_room = subst (λ front. (state_at seen.catalogue.base front).charged + is.plan.charge ≤ 2 ^ 30) (sym same) is.has_room;
+        has_space = subst (λ front. HasSpace seen.catalogue front is.entry.command) (sym same) is.has_space;
       }
 
   stepped-longer : (turn : Turn) (place : ℕ) → IsStepped seen turn place → IsStepped longer turn place
@@ -84,6 +89,21 @@ module _ (seen : Stores) (more : List Entry) (later : List ObjectEntry) where
         answer = is.answer;
       }
 
+  unwritten-longer : (turn : Turn) (why : Unwritten) (count : ℕ) → IsUnwritten seen turn why count → IsUnwritten longer turn why count
+  unwritten-longer turn why count is =
+      let same : take count (seen.catalogue.front ++ more) ≡ take count seen.catalogue.front = take-append-le count seen.catalogue.front more is.within in
+      record {
+        plan = is.plan;
+        moment = is.moment;
+        command = is.command;
+        read = is.read;
+        command_is = is.command_is;
+        within = omega (arith, is.within, length-append seen.catalogue.front more);
+        some = subst (λ front. changes_of (state_at seen.catalogue.base front) is.command ≢ []) (sym same) is.some;
+        full = subst (λ front. IsFullAs why (end_after seen.catalogue.opened seen.catalogue.base front) (end_with seen.catalogue.opened seen.catalogue.base front is.command)) (sym same) is.full;
+        answer = is.answer;
+      }
+
   abbrev allowed-longer : (turn : Turn) (access : ℕ) → IsAllowedAt seen turn access → IsAllowedAt longer turn access
   allowed-longer turn access is =
       let same : take access (seen.catalogue.front ++ more) ≡ take access seen.catalogue.front = before-entry seen.catalogue.front more access is.entered.entry is.entered.there in
@@ -102,6 +122,7 @@ module _ (seen : Stores) (more : List Entry) (later : List ObjectEntry) where
     action = is.action;
     action_is = is.action_is;
     there = there-longer seen.objects.front later entry _ is.there;
+    has_space = subst (λ front. HasObjectSpace seen.objects front is.action) (sym (before-entry seen.objects.front later entry _ is.there)) is.has_space;
   }
 
   objects-before : (turn : Turn) (access entry : ℕ) → IsDoneAt seen turn access entry → take entry (seen.objects.front ++ later) ≡ take entry seen.objects.front
@@ -123,14 +144,29 @@ module _ (seen : Stores) (more : List Entry) (later : List ObjectEntry) where
   unacted-longer : (turn : Turn) (access : ℕ) → IsUnacted seen turn access → IsUnacted longer turn access
   unacted-longer turn access is = record { allowed = allowed-longer turn access is.allowed; answer = is.answer }
 
+  unstored-longer : (turn : Turn) (why : Unwritten) (access count : ℕ) → IsUnstored seen turn why access count → IsUnstored longer turn why access count
+  unstored-longer turn why access count is =
+      let same : take count (seen.objects.front ++ later) ≡ take count seen.objects.front = take-append-le count seen.objects.front later is.within in
+      record {
+        allowed = allowed-longer turn access is.allowed;
+        action = is.action;
+        action_is = is.action_is;
+        within = omega (arith, is.within, length-append seen.objects.front later);
+        some = subst (λ front. object_changes (object_state_at seen.objects.base front) is.action ≢ []) (sym same) is.some;
+        full = subst (λ front. IsFullAs why (object_end_after seen.objects.opened seen.objects.base front) (object_end_with seen.objects.opened seen.objects.base front is.action)) (sym same) is.full;
+        answer = is.answer;
+      }
+
   answered-by : (case : Case) (turn : Turn) → AnsweredAs seen case turn → AnsweredAs longer case turn
   answered-by unplanned turn is = is
   answered-by undrawn turn is = is
   answered-by (stepped place) turn is = stepped-longer turn place is
   answered-by (full count) turn is = full-longer turn count is
+  answered-by (unwritten why count) turn is = unwritten-longer turn why count is
   answered-by (acted access entry) turn is = acted-longer turn access entry is
   answered-by (untold access entry) turn is = untold-longer turn access entry is
   answered-by (unacted access) turn is = unacted-longer turn access is
+  answered-by (unstored why access count) turn is = unstored-longer turn why access count is
   answered-by without_memory turn is = is
 
   answered-longer : (turns : List Turn) → AllByRecursion (IsAnswered seen) turns → AllByRecursion (IsAnswered longer) turns
@@ -138,9 +174,9 @@ module _ (seen : Stores) (more : List Entry) (later : List ObjectEntry) where
       each-weaken (IsAnswered seen) (IsAnswered longer) turns (λ turn is. answered-by turn.case turn is) answered
 
 -- a turn that was answered stays so while the histories go on
-pub answered-later : (old new : Stores) (places : List Place) (turns : List Turn) → HasSeenBoth old new places → AllByRecursion (IsAnswered old) turns → AllByRecursion (IsAnswered new) turns
+pub answered-later : (old new : SeenBoth) (places : List Place) (turns : List Turn) → HasSeenBoth old new places → AllByRecursion (IsAnswered old) turns → AllByRecursion (IsAnswered new) turns
 answered-later old new places turns seen answered =
-    subst (λ new. AllByRecursion (IsAnswered new) turns) (sym (both-grow old new places seen)) (answered-longer old seen.catalogue.front.0 seen.objects.front.0 turns answered)
+    subst (λ new. AllByRecursion (IsAnswered new) turns) (sym (both-grow old new places seen)) (answered-longer old seen.catalogue.front.0 seen.objects.front.0 new.catalogue.failed new.objects.failed turns answered)
 
 -- turns that follow others
 low_after-later : (low high : ℕ) (spot : Spot) → low ≤ high → low_after low spot ≤ low_after high spot
@@ -166,15 +202,32 @@ module _ (spot : Case → Spot) where
   ordered-append low (turn ∷ turns) others middle high first second =
       (first.0, ordered-append (low_after low (spot turn.case)) turns others middle high first.1 second)
 
-pub both-ordered : (a b c : Stores) (turns others : List Turn) → AreOrdered a b turns → AreOrdered b c others → AreOrdered a c (turns ++ others)
+pub both-ordered : (a b c : SeenBoth) (turns others : List Turn) → AreOrdered a b turns → AreOrdered b c others → AreOrdered a c (turns ++ others)
 both-ordered a b c turns others first second = record {
   catalogue = ordered-append catalogue_spot (length a.catalogue.front) turns others (length b.catalogue.front) (length c.catalogue.front) first.catalogue second.catalogue;
   objects = ordered-append object_spot (length a.objects.front) turns others (length b.objects.front) (length c.objects.front) first.objects second.objects;
 }
 
+-- how often something failed in turns and in others
+pub total_of-append : (count : Case → ℕ) (turns others : List Turn) → total_of count (turns ++ others) ≡ total_of count turns + total_of count others
+total_of-append count [] others = omega arith
+total_of-append count (turn ∷ turns) others = omega (arith, total_of-append count turns others)
+
 pub failed_draws-append : (turns others : List Turn) → failed_draws (turns ++ others) ≡ failed_draws turns + failed_draws others
-failed_draws-append [] others = omega arith
-failed_draws-append (turn ∷ turns) others = omega (arith, failed_draws-append turns others)
+failed_draws-append turns others = total_of-append failed_in turns others
+
+-- no turn makes no mark
+pub both-unmarked : (old new : SeenBoth) (places : List Place) → HasSeenBoth old new places → AreMarked old new []
+both-unmarked old new places seen = record {
+  catalogue = omega (arith, seen.catalogue.kept);
+  objects = omega (arith, seen.objects.kept);
+}
+
+pub both-marked : (a b c : SeenBoth) (turns others : List Turn) → AreMarked a b turns → AreMarked b c others → AreMarked a c (turns ++ others)
+both-marked a b c turns others first second = record {
+  catalogue = omega (arith, first.catalogue, second.catalogue, total_of-append catalogue_marks_in turns others);
+  objects = omega (arith, first.objects, second.objects, total_of-append object_marks_in turns others);
+}
 
 -- the last of all closes where the last of the later ones does
 pub last-append : (turns others : List Turn) → NoneCloses turns → LastCloses others → LastCloses (turns ++ others)

@@ -1,6 +1,8 @@
 pub mod Actions
+pub mod Both
+pub mod Calls
 pub mod Ends
-pub mod Laws
+pub mod Handling
 pub mod Link
 pub mod Serving
 pub mod Stores

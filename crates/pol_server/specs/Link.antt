@@ -10,12 +10,11 @@ use Rattle.pol_answers.specs.Texts.{head_refused_answer}
 use Rattle.pol_wire.specs.Faults.{Rises}
 use Rattle.pol_wire.specs.Streams.{IsShifted}
 use Rattle.pol_server.specs.Ends.{Ends}
-use Rattle.pol_server.specs.Stores.{HasSeenBoth}
-use Rattle.pol_server.specs.Turn.{Turn, AreOrdered, IsAnswered, LastCloses, NoneCloses, failed_draws, framed, output_of, place_of}
+use Rattle.pol_server.specs.Both.{HasSeenBoth, SeenBoth}
+use Rattle.pol_server.specs.Turn.{Turn, AreMarked, AreOrdered, IsAnswered, LastCloses, NoneCloses, failed_draws, framed, output_of, place_of}
 use Rattle.pol_server.specs.declared.served.Ending.{Ending}
 use Rattle.pol_server.specs.declared.served.Ending.TheVariants.{Ended, Cut, Closed, ReadFault, WriteFault, Spent, NoMemory}
 use Rattle.pol_server.specs.declared.served.Served.{Served}
-use Rattle.pol_server.specs.declared.stores.Stores.{Stores}
 
 -- the most bytes that are taken from a link
 abbrev pub taken_bound : ℕ
@@ -79,7 +78,7 @@ EndsLastText turns text missing =
 
 -- a link that was served: its ends and what is seen of the catalogue and the objects, before and after, and what was
 -- answered
-pub record ServesLink (before after : Ends) (old new : Stores) (served : Served) : Type 0 where
+pub record ServesLink (before after : Ends) (old new : SeenBoth) (served : Served) : Type 0 where
   -- one turn for each message that was handled; the bytes that were taken, and those behind the messages; the text
   -- of the ending; the bytes that were given, and those that a failed write left out
   pub turns : List Turn
@@ -99,6 +98,7 @@ pub record ServesLink (before after : Ends) (old new : Stores) (served : Served)
   pub stores : HasSeenBoth old new served.places
   pub answered : AllByRecursion (IsAnswered new) turns
   pub ordered : AreOrdered old new turns
+  pub marked : AreMarked old new turns
   pub gives : Appends before.given after.given given
   pub output : given ++ missing ≡ flat_map output_of turns ++ text
   pub complete : served.ending ≢ WriteFault → missing ≡ []

@@ -1,37 +1,25 @@
--- What is seen of the catalogue and of the objects, and where requests stand in both.
-use Rattle.std.specs.Prelude.{ℕ, List, [], ◌∷◌}
-use Rattle.std.specs.List.{flat_map}
-use Rattle.pol_shared.specs.Seen.{GoesOnAlone, HasSeen}
-use Rattle.pol_shared_objects.specs.SeenObjects.{HasSeenObjects, ObjectsGoOnAlone}
-use Rattle.pol_server.specs.declared.served.Place.{Place}
-use Rattle.pol_server.specs.declared.served.Place.TheVariants.{Catalogue, Object, NoEntry}
+-- The stores that requests are answered from, and what passes have seen of both.
+use Rattle.std.specs.Prelude.{◌≡◌, ◌≤◌, ℕ, List, Option}
 use Rattle.pol_server.specs.declared.stores.Stores.{Stores}
+use Rattle.pol_server.specs.Both.{SeenBoth}
+use Rattle.pol_shared.specs.Held.{Held, HoldsImages}
+use Rattle.pol_shared_objects.specs.HeldObjects.{HeldObjects, HoldsObjectImages}
 
--- the places of the catalogue's history among these
-abbrev pub catalogue_place : Place → List ℕ
-catalogue_place (Catalogue place) = place ∷ []
-catalogue_place (Object access entry) = access ∷ []
-catalogue_place NoEntry = []
+-- what the passes have seen
+abbrev pub seen_of : {D O : Type 0} → Stores D O → SeenBoth
+seen_of stores = record { catalogue = stores.catalogue.seen; objects = stores.objects.seen }
 
-abbrev pub catalogue_places : List Place → List ℕ
-catalogue_places places = flat_map catalogue_place places
+-- what a crash since the opening may have left of the catalogue's journal is known as before, and the disk's count of
+-- faults has not fallen
+pub record KeepsCatalogue {D : Type 0} (seen : D → Option (List ℕ)) (may_leave : D → List ℕ → Type 0) (clock : D → ℕ) (left_since : D → ℕ → List ℕ → Type 0) (fault_count : D → ℕ) (old new : Held D) : Type 0 where
+  pub images : (opening : List (List ℕ)) → HoldsImages seen may_leave clock left_since fault_count opening old
+      → HoldsImages seen may_leave clock left_since fault_count opening new
+  pub opening : new.journal.opening ≡ old.journal.opening
+  pub faults : fault_count old.journal.disk ≤ fault_count new.journal.disk
 
--- and those of the objects' history
-abbrev pub object_place : Place → List ℕ
-object_place (Catalogue place) = []
-object_place (Object access entry) = entry ∷ []
-object_place NoEntry = []
-
-abbrev pub object_places : List Place → List ℕ
-object_places places = flat_map object_place places
-
--- more was seen of both: what was seen goes on, and the passes' own entries behind that stand at the places of these
--- requests
-pub record HasSeenBoth (old new : Stores) (places : List Place) : Type 0 where
-  pub catalogue : HasSeen old.catalogue new.catalogue (catalogue_places places)
-  pub objects : HasSeenObjects old.objects new.objects (object_places places)
-
--- nobody else entered anything in either
-pub record BothGoOnAlone (old new : Stores) : Type 0 where
-  pub catalogue : GoesOnAlone old.catalogue.number old.catalogue.front new.catalogue.front
-  pub objects : ObjectsGoOnAlone old.objects.number old.objects.front new.objects.front
+-- and of the objects'
+pub record KeepsObjects {D : Type 0} (seen : D → Option (List ℕ)) (may_leave : D → List ℕ → Type 0) (clock : D → ℕ) (left_since : D → ℕ → List ℕ → Type 0) (fault_count : D → ℕ) (old new : HeldObjects D) : Type 0 where
+  pub images : (opening : List (List ℕ)) → HoldsObjectImages seen may_leave clock left_since fault_count opening old
+      → HoldsObjectImages seen may_leave clock left_since fault_count opening new
+  pub opening : new.journal.opening ≡ old.journal.opening
+  pub faults : fault_count old.journal.disk ≤ fault_count new.journal.disk

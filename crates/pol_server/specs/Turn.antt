@@ -1,5 +1,5 @@
 -- Turns of a served link: one for each message that was handled, with what was read for it and how it was answered.
-use Rattle.std.specs.Prelude.{◌≡◌, ◌≢◌, ◌<◌, ◌≤◌, ◌+◌, ◌^◌, ◌⊎◌, ⊤, ℕ, Bool, true, false, List, [], ◌∷◌, ◌++◌, length, take, slice_get, slice_index, Some, Ok, Err, codes, if◌then◌else◌}
+use Rattle.std.specs.Prelude.{◌≡◌, ◌≢◌, ◌<◌, ◌≤◌, ◌+◌, ◌^◌, ◌-◌, ◌⊎◌, ⊤, ℕ, min, Bool, true, false, List, [], ◌∷◌, ◌++◌, length, take, slice_get, slice_index, Some, Ok, Err, codes, if◌then◌else◌}
 use Rattle.std.specs.List.{AllByRecursion}
 use Rattle.std.specs.Str.{bytes_eq}
 use Rattle.pol_http.specs.Answer.{answer_text}
@@ -7,7 +7,7 @@ use Rattle.pol_http.specs.Head.{asks, closes}
 use Rattle.pol_http.specs.Message.{Message}
 use Rattle.pol_http.specs.declared.answer.Answer.{Answer}
 use Rattle.pol_http.specs.declared.answer.TheConstants.{CONTINUE, INSUFFICIENT_STORAGE}
-use Rattle.pol_machine.specs.Machine.{reply_of}
+use Rattle.pol_shared.specs.Machine.{reply_of}
 use Rattle.pol_commands.specs.declared.command.Action.TheVariants.{Access}
 use Rattle.pol_commands.specs.declared.command.Command.{Command}
 use Rattle.pol_commands.specs.declared.command.Words4.{Words4}
@@ -21,17 +21,23 @@ use Rattle.pol_objects.specs.declared.action.ObjectAction.{ObjectAction}
 use Rattle.pol_objects.specs.declared.reply.ObjectReply.{ObjectReply}
 use Rattle.pol_object_answers.specs.ObjectAnswers.{object_answer_of}
 use Rattle.pol_object_store.specs.ObjectHistory.{object_state_at}
+use Rattle.pol_object_store.specs.ObjectRecords.{object_changes, object_end_after, object_end_with}
+use Rattle.pol_json_answers.specs.JsonAnswers.{error_answer}
+use Rattle.pol_records.specs.declared.unwritten.Unwritten.{Unwritten}
+use Rattle.pol_records.specs.declared.unwritten.Unwritten.TheVariants.{JournalFull, Unknown, DiskFault}
 use Rattle.pol_routes.specs.Plan.{plan_of, command_of}
 use Rattle.pol_routes.specs.Verbs.{verb_act}
 use Rattle.pol_routes.specs.declared.plans.Planned.{Planned}
 use Rattle.pol_routes.specs.declared.verb.Verb.{Verb}
 use Rattle.pol_shared.specs.Accessed.{access_allowed}
-use Rattle.pol_shared.specs.History.{state_at}
-use Rattle.pol_shared.specs.declared.entry.Entry.{Entry}
+use Rattle.pol_shared.specs.Stepped.{HasSpace}
+use Rattle.pol_shared_objects.specs.Acted.{HasObjectSpace}
+use Rattle.pol_shared.specs.History.{changes_of, end_after, end_with, state_at}
+use Rattle.pol_shared.specs.Entry.{Entry}
 use Rattle.pol_server.specs.Actions.{action_by, tells_change}
 use Rattle.pol_server.specs.declared.served.Place.{Place}
 use Rattle.pol_server.specs.declared.served.Place.TheVariants.{Catalogue, Object, NoEntry}
-use Rattle.pol_server.specs.declared.stores.Stores.{Stores}
+use Rattle.pol_server.specs.Both.{SeenBoth}
 
 -- how a message was answered
 pub data Case : Type 0 where
@@ -43,6 +49,8 @@ pub data Case : Type 0 where
   stepped : ℕ → Case
   -- the run was full after so many entries of it
   full : ℕ → Case
+  -- after so many entries of it the command has changes, which for this reason weren't written
+  unwritten : Unwritten → ℕ → Case
   -- an access at the first place, of the catalogue's history, was allowed: by the reply to the action at the second place,
   -- of the objects' history
   acted : ℕ → ℕ → Case
@@ -50,6 +58,9 @@ pub data Case : Type 0 where
   untold : ℕ → ℕ → Case
   -- the access at this place was allowed, and memory was wanting for the action, which wasn't entered
   unacted : ℕ → Case
+  -- the access at the first place was allowed, and after so many entries of the objects' history the action makes a
+  -- change, which for this reason wasn't written
+  unstored : Unwritten → ℕ → ℕ → Case
   -- memory was wanting, and nothing was entered
   without_memory : Case
 
@@ -106,8 +117,21 @@ pub record IsWithoutMemory (turn : Turn) : Type 0 where
       ⊎ ((plan : Planned) × (moment : ℕ) × IsRead turn plan moment)
   pub answer : turn.answer ≡ INSUFFICIENT_STORAGE.now
 
+-- the answer to a request whose change wasn't written. Where the disk failed while it was written, whether it is there is
+-- unknown (Iceberg REST OpenAPI, CommitStateUnknownException)
+unfoldable pub unwritten_answer : Unwritten → Answer
+unwritten_answer (JournalFull end wanted) = error_answer 503 (codes "JournalFull") (codes "ServiceUnavailableException")
+unwritten_answer Unknown = error_answer 500 (codes "Unknown") (codes "CommitStateUnknownException")
+unwritten_answer DiskFault = error_answer 503 (codes "DiskFault") (codes "ServiceUnavailableException")
+
+-- a journal is full where it ends here and with the change would reach beyond its bound; a disk may fail at any change
+abbrev pub IsFullAs : Unwritten → ℕ → ℕ → Type 0
+IsFullAs (JournalFull end wanted) now reached = (end ≡ now) × (wanted ≡ min reached (2 ^ 64 - 1)) × (2 ^ 40 < reached)
+IsFullAs Unknown now reached = ⊤
+IsFullAs DiskFault now reached = ⊤
+
 -- the pass of the catalogue and that of the objects, with what they have seen
-module _ (seen : Stores) where
+module _ (seen : SeenBoth) where
   -- the reply to a command at a place of the catalogue's history
   abbrev pub reply_at : ℕ → Command → Reply
   reply_at place command = reply_of (state_at seen.catalogue.base (take place seen.catalogue.front)) command
@@ -121,6 +145,7 @@ module _ (seen : Stores) where
     pub entry_is : entry ≡ record { number = seen.catalogue.number; command = command_of plan moment (four_words turn.words) }
     pub there : slice_get seen.catalogue.front place ≡ Some entry
     pub has_room : (state_at seen.catalogue.base (take place seen.catalogue.front)).charged + plan.charge ≤ 2 ^ 30
+    pub has_space : HasSpace seen.catalogue (take place seen.catalogue.front) entry.command
 
   -- the answer is the reply to the command at its place, which allows no access where the request is for objects
   pub record IsStepped (turn : Turn) (place : ℕ) : Type 0 where
@@ -139,6 +164,19 @@ module _ (seen : Stores) where
     pub full : 2 ^ 30 < charged + plan.charge
     pub answer : turn.answer ≡ text_of turn.message (answer_of (Refused (refusal.RunFull charged plan.charge)))
 
+  -- after so many entries the command has changes, which weren't written
+  pub record IsUnwritten (turn : Turn) (why : Unwritten) (count : ℕ) : Type 0 where
+    pub plan : Planned
+    pub moment : ℕ
+    pub command : Command
+    pub read : IsRead turn plan moment
+    pub command_is : command ≡ command_of plan moment (four_words turn.words)
+    pub within : count ≤ length seen.catalogue.front
+    pub some : changes_of (state_at seen.catalogue.base (take count seen.catalogue.front)) command ≢ []
+    pub full : IsFullAs why (end_after seen.catalogue.opened seen.catalogue.base (take count seen.catalogue.front))
+        (end_with seen.catalogue.opened seen.catalogue.base (take count seen.catalogue.front) command)
+    pub answer : turn.answer ≡ text_of turn.message (unwritten_answer why)
+
   -- the request is for objects, and its access at this place was allowed
   pub record IsAllowedAt (turn : Turn) (access : ℕ) : Type 0 where
     pub entered : IsEnteredAt turn access
@@ -154,6 +192,7 @@ module _ (seen : Stores) where
     pub action : ObjectAction
     pub action_is : action ≡ action_by allowed.verb allowed.path turn.message.body
     pub there : slice_get seen.objects.front entry ≡ Some (record { number = seen.objects.number; access = access; action = action })
+    pub has_space : HasObjectSpace seen.objects (take entry seen.objects.front) action
 
   -- the reply to an action at a place of the objects' history
   abbrev pub object_reply_at : ℕ → ObjectAction → ObjectReply
@@ -175,15 +214,28 @@ module _ (seen : Stores) where
     pub allowed : IsAllowedAt turn access
     pub answer : turn.answer ≡ INSUFFICIENT_STORAGE.now
 
+  -- after so many entries of the objects' history the action makes a change, which wasn't written
+  pub record IsUnstored (turn : Turn) (why : Unwritten) (access count : ℕ) : Type 0 where
+    pub allowed : IsAllowedAt turn access
+    pub action : ObjectAction
+    pub action_is : action ≡ action_by allowed.verb allowed.path turn.message.body
+    pub within : count ≤ length seen.objects.front
+    pub some : object_changes (object_state_at seen.objects.base (take count seen.objects.front)) action ≢ []
+    pub full : IsFullAs why (object_end_after seen.objects.opened seen.objects.base (take count seen.objects.front))
+        (object_end_with seen.objects.opened seen.objects.base (take count seen.objects.front) action)
+    pub answer : turn.answer ≡ text_of turn.message (unwritten_answer why)
+
   -- the turn is as its case says
   abbrev pub AnsweredAs : Case → Turn → Type 0
   AnsweredAs unplanned turn = IsUnplanned turn
   AnsweredAs undrawn turn = IsUndrawn turn
   AnsweredAs (stepped place) turn = IsStepped turn place
   AnsweredAs (full count) turn = IsFullAt turn count
+  AnsweredAs (unwritten why count) turn = IsUnwritten turn why count
   AnsweredAs (acted access entry) turn = IsActed turn access entry
   AnsweredAs (untold access entry) turn = IsUntold turn access entry
   AnsweredAs (unacted access) turn = IsUnacted turn access
+  AnsweredAs (unstored why access count) turn = IsUnstored turn why access count
   AnsweredAs without_memory turn = IsWithoutMemory turn
 
   abbrev pub IsAnswered : Turn → Type 0
@@ -195,9 +247,11 @@ place_by unplanned = NoEntry
 place_by undrawn = NoEntry
 place_by (stepped place) = Catalogue place
 place_by (full count) = NoEntry
+place_by (unwritten why count) = NoEntry
 place_by (acted access entry) = Object access entry
 place_by (untold access entry) = Object access entry
 place_by (unacted access) = Catalogue access
+place_by (unstored why access count) = Catalogue access
 place_by without_memory = NoEntry
 
 abbrev pub place_of : Turn → Place
@@ -215,9 +269,11 @@ catalogue_spot unplanned = nowhere
 catalogue_spot undrawn = nowhere
 catalogue_spot (stepped place) = entry_at place
 catalogue_spot (full count) = behind count
+catalogue_spot (unwritten why count) = behind count
 catalogue_spot (acted access entry) = entry_at access
 catalogue_spot (untold access entry) = entry_at access
 catalogue_spot (unacted access) = entry_at access
+catalogue_spot (unstored why access count) = entry_at access
 catalogue_spot without_memory = nowhere
 
 -- in the objects' history
@@ -226,9 +282,11 @@ object_spot unplanned = nowhere
 object_spot undrawn = nowhere
 object_spot (stepped place) = nowhere
 object_spot (full count) = nowhere
+object_spot (unwritten why count) = nowhere
 object_spot (acted access entry) = entry_at entry
 object_spot (untold access entry) = entry_at entry
 object_spot (unacted access) = nowhere
+object_spot (unstored why access count) = behind count
 object_spot without_memory = nowhere
 
 -- the number of a spot is not below the earlier ones
@@ -249,7 +307,7 @@ IsOrdered spot low [] high = low ≤ high
 IsOrdered spot low (turn ∷ turns) high = IsFrom low (spot turn.case) × IsOrdered spot (low_after low (spot turn.case)) turns high
 
 -- so it is in both, behind what was seen before: accesses rise, and so do the actions that they allow
-pub record AreOrdered (old new : Stores) (turns : List Turn) : Type 0 where
+pub record AreOrdered (old new : SeenBoth) (turns : List Turn) : Type 0 where
   pub catalogue : IsOrdered catalogue_spot (length old.catalogue.front) turns (length new.catalogue.front)
   pub objects : IsOrdered object_spot (length old.objects.front) turns (length new.objects.front)
 
@@ -276,11 +334,52 @@ failed_in unplanned = 0
 failed_in undrawn = 1
 failed_in (stepped place) = 0
 failed_in (full count) = 0
+failed_in (unwritten why count) = 0
 failed_in (acted access entry) = 0
 failed_in (untold access entry) = 0
 failed_in (unacted access) = 0
+failed_in (unstored why access count) = 0
 failed_in without_memory = 0
 
+-- and of the calls of the catalogue, and of the objects, that a disk failed
+abbrev pub marks_by : Unwritten → ℕ
+marks_by (JournalFull end wanted) = 0
+marks_by Unknown = 1
+marks_by DiskFault = 1
+
+abbrev pub catalogue_marks_in : Case → ℕ
+catalogue_marks_in unplanned = 0
+catalogue_marks_in undrawn = 0
+catalogue_marks_in (stepped place) = 0
+catalogue_marks_in (full count) = 0
+catalogue_marks_in (unwritten why count) = marks_by why
+catalogue_marks_in (acted access entry) = 0
+catalogue_marks_in (untold access entry) = 0
+catalogue_marks_in (unacted access) = 0
+catalogue_marks_in (unstored why access count) = 0
+catalogue_marks_in without_memory = 0
+
+abbrev pub object_marks_in : Case → ℕ
+object_marks_in unplanned = 0
+object_marks_in undrawn = 0
+object_marks_in (stepped place) = 0
+object_marks_in (full count) = 0
+object_marks_in (unwritten why count) = 0
+object_marks_in (acted access entry) = 0
+object_marks_in (untold access entry) = 0
+object_marks_in (unacted access) = 0
+object_marks_in (unstored why access count) = marks_by why
+object_marks_in without_memory = 0
+
+-- how often something failed in turns
+abbrev pub total_of : (Case → ℕ) → List Turn → ℕ
+total_of count [] = 0
+total_of count (turn ∷ turns) = count turn.case + total_of count turns
+
 abbrev pub failed_draws : List Turn → ℕ
-failed_draws [] = 0
-failed_draws (turn ∷ turns) = failed_in turn.case + failed_draws turns
+failed_draws turns = total_of failed_in turns
+
+-- each call of these turns that a disk failed is a mark of its pass
+pub record AreMarked (old new : SeenBoth) (turns : List Turn) : Type 0 where
+  pub catalogue : old.catalogue.failed + total_of catalogue_marks_in turns ≤ new.catalogue.failed
+  pub objects : old.objects.failed + total_of object_marks_in turns ≤ new.objects.failed

@@ -2,17 +2,22 @@
 ghost use Rattle.std.specs.Prelude.{◌≡◌, ◌≢◌, ◌<◌, ◌≤◌, ◌+◌, ◌^◌, ◌++◌, ◌⊎◌, ◌||◌, [], false, true, length, take, Ok, None, Some, IfSome, IsTrue, OnErr, OnOk, IsSomeAnd, vec_len, vec_capacity, if◌then◌else◌};
 ghost use Rattle.std.specs.Option.{option_map};
 ghost use Rattle.pol_http.specs.Head.{asks};
-ghost use Rattle.pol_http.specs.Message.{HasAskingHead, HasNoMessage, IsRefusedAs, Message};
+ghost use Rattle.pol_http.specs.Message.{IsRefusedAs, Message};
 ghost use Rattle.pol_http.specs.Next.{Awaits, IsMessageAt, IsUnfinished, LiesWithin};
-ghost use Rattle.pol_server.specs.declared.stores.Stores.{Stores};
-ghost use Rattle.pol_server.specs.Link.{IsToldBefore, IsUnfinishedRest};
-ghost use Rattle.pol_server.specs.Serving.{Finishes, GivesAll, IsEndingOf, IsOwnEnding, IsStopped, IsToldAsked, IsUnread, KeepsStop, Moves, ReadsOn, Says, standing, text_by, told_text, work_of};
+ghost use Rattle.pol_server.specs.Both.{SeenBoth};
+ghost use Rattle.pol_server.specs.Stores.{KeepsCatalogue, KeepsObjects, seen_of};
+ghost use Rattle.pol_server.specs.Link.{IsUnfinishedRest};
+ghost use Rattle.pol_server.specs.Calls.{GivesAll};
+ghost use Rattle.pol_server.specs.Handling.{text_by};
+ghost use Rattle.pol_server.specs.Serving.{Finishes, IsEndingOf, IsOwnEnding, IsStopped, IsToldAsked, IsUnread, KeepsStop, Moves, ReadsOn, Says, standing, told_text, work_of};
 
 use crate::ends::{Linked, give_all};
-use crate::handle::{handle, head_refused_text};
+use crate::message::handle;
+use crate::text::head_refused_text;
 use crate::{Ending, Place, Stores};
 use bytes::BytesMut;
 use httparse::spans::Span;
+use pol_disk::Disk;
 use pol_http::{
     CONTINUE, Head, HeadRefused, INSUFFICIENT_STORAGE, Next, missing_bytes, next_message,
 };
@@ -154,7 +159,7 @@ impl Connection {
     fn refuse<L: Linked>(&self, alloc: Global, link: &mut L, why: HeadRefused) -> Option<Ending>
         requires refused { IsRefusedAs self.now.buffer.items why }
         requires told { IsToldAsked self.now.told self.now.buffer.items }
-        ensures moves { (seen : Stores) → Moves result (standing (L.ends link.old) seen self.now)
+        ensures moves { (seen : SeenBoth) → Moves result (standing (L.ends link.old) seen self.now)
             (standing (L.ends link.new) seen self.now) }
         ensures unread { IsUnread (L.ends link.old) (L.ends link.new) self.now self.now }
         ensures ended { IsSomeAnd result IsOwnEnding }
@@ -172,7 +177,7 @@ impl Connection {
         requires told { IsToldAsked self.old.told self.old.buffer.items }
         requires at_end { ((at_end ≡ Ending.Ended) × (self.old.buffer.items ≡ []) × (self.old.told ≡ false))
             ⊎ ((at_end ≡ Ending.Cut) × (self.old.buffer.items ≢ [])) }
-        ensures moves { (seen : Stores) → Moves result (standing (L.ends link.old) seen self.old)
+        ensures moves { (seen : SeenBoth) → Moves result (standing (L.ends link.old) seen self.old)
             (standing (L.ends link.new) seen self.new) }
         ensures told { IsToldAsked self.new.told self.new.buffer.items }
         ensures stops { KeepsStop (L.ends link.old) (L.ends link.new) self.old self.new }
@@ -193,11 +198,11 @@ impl Connection {
     }
 
     /// Handles the message at the front, tells its place, and gives its answer.
-    fn take_turn<L: Linked>(
+    fn take_turn<D: Disk, O: Disk, L: Linked>(
         &mut self,
         alloc: Global,
         routes: &Routes,
-        stores: &mut Stores,
+        stores: &mut Stores<D, O>,
         link: &mut L,
         head: &Head,
         body: Span,
@@ -206,8 +211,12 @@ impl Connection {
         requires parts { (message : Message) × IsMessageAt self.old.buffer.items head.now body body.end message
             × (self.old.told ≡ asks message.head) }
         requires room { vec_len self.old.places < vec_capacity self.old.places }
-        ensures moves { Moves result (standing (L.ends link.old) stores.old self.old)
-            (standing (L.ends link.new) stores.new self.new) }
+        ensures moves { Moves result (standing (L.ends link.old) (seen_of stores.old) self.old)
+            (standing (L.ends link.new) (seen_of stores.new) self.new) }
+        ensures catalogue { KeepsCatalogue D.seen D.may_leave D.clock D.left_since D.fault_count
+            stores.old.catalogue stores.new.catalogue }
+        ensures objects { KeepsObjects O.seen O.may_leave O.clock O.left_since O.fault_count
+            stores.old.objects stores.new.objects }
         ensures told { self.new.told ≡ false }
         ensures unread { IsUnread (L.ends link.old) (L.ends link.new) self.old self.new }
         ensures ending { IfSome result IsOwnEnding }
@@ -231,11 +240,11 @@ impl Connection {
     }
 
     /// Answers the message at the front, which was told to go on where it asks.
-    fn answer_told<L: Linked>(
+    fn answer_told<D: Disk, O: Disk, L: Linked>(
         &mut self,
         alloc: Global,
         routes: &Routes,
-        stores: &mut Stores,
+        stores: &mut Stores<D, O>,
         link: &mut L,
         head: &Head,
         body: Span,
@@ -243,8 +252,12 @@ impl Connection {
         requires ranges { LiesWithin self.old.buffer.items head.now body body.end }
         requires parts { (message : Message) × IsMessageAt self.old.buffer.items head.now body body.end message
             × (self.old.told ≡ asks message.head) }
-        ensures moves { Moves result (standing (L.ends link.old) stores.old self.old)
-            (standing (L.ends link.new) stores.new self.new) }
+        ensures moves { Moves result (standing (L.ends link.old) (seen_of stores.old) self.old)
+            (standing (L.ends link.new) (seen_of stores.new) self.new) }
+        ensures catalogue { KeepsCatalogue D.seen D.may_leave D.clock D.left_since D.fault_count
+            stores.old.catalogue stores.new.catalogue }
+        ensures objects { KeepsObjects O.seen O.may_leave O.clock O.left_since O.fault_count
+            stores.old.objects stores.new.objects }
         ensures told { result ≡ None → self.new.told ≡ false }
         ensures unread { IsUnread (L.ends link.old) (L.ends link.new) self.old self.new }
         ensures ending { IfSome result IsOwnEnding }
@@ -257,11 +270,11 @@ impl Connection {
     }
 
     /// Answers the message at the front.
-    fn answer<L: Linked>(
+    fn answer<D: Disk, O: Disk, L: Linked>(
         &mut self,
         alloc: Global,
         routes: &Routes,
-        stores: &mut Stores,
+        stores: &mut Stores<D, O>,
         link: &mut L,
         head: &Head,
         body: Span,
@@ -269,8 +282,12 @@ impl Connection {
         requires ranges { LiesWithin self.old.buffer.items head.now body body.end }
         requires parts { (message : Message) × IsMessageAt self.old.buffer.items head.now body body.end message }
         requires told { IsToldAsked self.old.told self.old.buffer.items }
-        ensures moves { Moves result (standing (L.ends link.old) stores.old self.old)
-            (standing (L.ends link.new) stores.new self.new) }
+        ensures moves { Moves result (standing (L.ends link.old) (seen_of stores.old) self.old)
+            (standing (L.ends link.new) (seen_of stores.new) self.new) }
+        ensures catalogue { KeepsCatalogue D.seen D.may_leave D.clock D.left_since D.fault_count
+            stores.old.catalogue stores.new.catalogue }
+        ensures objects { KeepsObjects O.seen O.may_leave O.clock O.left_since O.fault_count
+            stores.old.objects stores.new.objects }
         ensures told { result ≡ None → self.new.told ≡ false }
         ensures unread { IsUnread (L.ends link.old) (L.ends link.new) self.old self.new }
         ensures ending { IfSome result IsOwnEnding }
@@ -285,7 +302,7 @@ impl Connection {
     /// Tells the message at the front to go on, and waits for its body.
     fn go_on<L: Linked>(&mut self, link: &mut L) -> Option<Ending>
         requires awaits { Awaits self.old.buffer.items }
-        ensures moves { (seen : Stores) → Moves result (standing (L.ends link.old) seen self.old)
+        ensures moves { (seen : SeenBoth) → Moves result (standing (L.ends link.old) seen self.old)
             (standing (L.ends link.new) seen self.new) }
         ensures told { result ≡ None → IsToldAsked self.new.told self.new.buffer.items }
         ensures stops { KeepsStop (L.ends link.old) (L.ends link.new) self.old self.new }
@@ -302,7 +319,7 @@ impl Connection {
     fn await_more<L: Linked>(&mut self, link: &mut L) -> Option<Ending>
         requires unfinished { IsUnfinished self.old.buffer.items }
         requires told { IsToldAsked self.old.told self.old.buffer.items }
-        ensures moves { (seen : Stores) → Moves result (standing (L.ends link.old) seen self.old)
+        ensures moves { (seen : SeenBoth) → Moves result (standing (L.ends link.old) seen self.old)
             (standing (L.ends link.new) seen self.new) }
         ensures told { result ≡ None → IsToldAsked self.new.told self.new.buffer.items }
         ensures stops { KeepsStop (L.ends link.old) (L.ends link.new) self.old self.new }
@@ -328,16 +345,20 @@ impl Connection {
     }
 
     /// Goes on by one message or one call of the source, or ends the link.
-    fn advance<L: Linked>(
+    fn advance<D: Disk, O: Disk, L: Linked>(
         &mut self,
         alloc: Global,
         routes: &Routes,
-        stores: &mut Stores,
+        stores: &mut Stores<D, O>,
         link: &mut L,
     ) -> Option<Ending>
         requires told { IsToldAsked self.old.told self.old.buffer.items }
-        ensures moves { Moves result (standing (L.ends link.old) stores.old self.old)
-            (standing (L.ends link.new) stores.new self.new) }
+        ensures moves { Moves result (standing (L.ends link.old) (seen_of stores.old) self.old)
+            (standing (L.ends link.new) (seen_of stores.new) self.new) }
+        ensures catalogue { KeepsCatalogue D.seen D.may_leave D.clock D.left_since D.fault_count
+            stores.old.catalogue stores.new.catalogue }
+        ensures objects { KeepsObjects O.seen O.may_leave O.clock O.left_since O.fault_count
+            stores.old.objects stores.new.objects }
         ensures told { result ≡ None → IsToldAsked self.new.told self.new.buffer.items }
         ensures stops { KeepsStop (L.ends link.old) (L.ends link.new) self.old self.new }
         ensures ending { IfSome result (IsEndingOf self.new.stop) }
@@ -358,12 +379,21 @@ impl Connection {
     }
 
     /// Serves the link until it ends. Where there is no memory for the routes, it ends at once.
-    pub fn serve<L: Linked>(&mut self, alloc: Global, stores: &mut Stores, link: &mut L) -> Ending
+    pub fn serve<D: Disk, O: Disk, L: Linked>(
+        &mut self,
+        alloc: Global,
+        stores: &mut Stores<D, O>,
+        link: &mut L,
+    ) -> Ending
         requires empty { self.old.buffer.items ≡ [] }
         requires stop { self.old.stop ≡ None }
         requires told { self.old.told ≡ false }
-        ensures finishes { Finishes result (standing (L.ends link.old) stores.old self.old)
-            (standing (L.ends link.new) stores.new self.new) }
+        ensures finishes { Finishes result (standing (L.ends link.old) (seen_of stores.old) self.old)
+            (standing (L.ends link.new) (seen_of stores.new) self.new) }
+        ensures catalogue { KeepsCatalogue D.seen D.may_leave D.clock D.left_since D.fault_count
+            stores.old.catalogue stores.new.catalogue }
+        ensures objects { KeepsObjects O.seen O.may_leave O.clock O.left_since O.fault_count
+            stores.old.objects stores.new.objects }
         ensures ending { IsEndingOf self.new.stop result }
         ensures stopped { IsStopped self.new.stop (L.ends link.old) (L.ends link.new) self.new.budget }
     {
@@ -374,17 +404,21 @@ impl Connection {
     }
 
     /// Serves the link by these routes until it ends.
-    fn serve_by<L: Linked>(
+    fn serve_by<D: Disk, O: Disk, L: Linked>(
         &mut self,
         alloc: Global,
         routes: &Routes,
-        stores: &mut Stores,
+        stores: &mut Stores<D, O>,
         link: &mut L,
     ) -> Ending
         requires stop { self.old.stop ≡ None }
         requires told { self.old.told ≡ false }
-        ensures finishes { Finishes result (standing (L.ends link.old) stores.old self.old)
-            (standing (L.ends link.new) stores.new self.new) }
+        ensures finishes { Finishes result (standing (L.ends link.old) (seen_of stores.old) self.old)
+            (standing (L.ends link.new) (seen_of stores.new) self.new) }
+        ensures catalogue { KeepsCatalogue D.seen D.may_leave D.clock D.left_since D.fault_count
+            stores.old.catalogue stores.new.catalogue }
+        ensures objects { KeepsObjects O.seen O.may_leave O.clock O.left_since O.fault_count
+            stores.old.objects stores.new.objects }
         ensures ending { IsEndingOf self.new.stop result }
         ensures stopped { IsStopped self.new.stop (L.ends link.old) (L.ends link.new) self.new.budget }
     {
@@ -399,7 +433,7 @@ impl Connection {
     fn end_without_memory<L: Linked>(&self, link: &mut L) -> Ending
         requires empty { self.now.buffer.items ≡ [] }
         requires told { self.now.told ≡ false }
-        ensures finishes { (seen : Stores) → Finishes result (standing (L.ends link.old) seen self.now)
+        ensures finishes { (seen : SeenBoth) → Finishes result (standing (L.ends link.old) seen self.now)
             (standing (L.ends link.new) seen self.now) }
         ensures ending { IsOwnEnding result }
     {

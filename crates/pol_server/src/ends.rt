@@ -2,13 +2,13 @@
 ghost use Rattle.std.specs.Prelude.{◌≡◌, ◌≢◌, ◌<◌, ◌≤◌, ◌^◌, ℕ, IfOk, length, slice_index};
 ghost use Rattle.std.specs.Io.{ReadsAtMost, WritesAtMost};
 ghost use Rattle.pol_server.specs.Ends.{Draws, Ends, GivesPiece, Reads, Takes, ends_of};
-ghost use Rattle.pol_server.specs.Serving.{DrawsWords, GivesAll};
+ghost use Rattle.pol_server.specs.Calls.{DrawsWords, GivesAll};
 
-use pol_machine::Words4;
+use pol_commands::Words4;
 use pol_wire::{Clock, Draw, Failed, Link, Sink, Source};
 
 /// What a served link needs of its ends, each call with what it leaves of all four.
-pub(crate) trait Linked {
+pub trait Linked {
     // What the ends tell.
     ghost ends: { Self → Ends };
 

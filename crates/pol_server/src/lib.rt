@@ -1,15 +1,17 @@
-//! Connections: the requests of a link, answered from the catalogue and the objects.
+//! Links (connections): what one tells, each message of it, and the whole of it, answered from the catalogue and the
+//! objects.
 #![tactic(auto)]
 
 mod connection;
 mod ends;
-mod handle;
-pub mod laws;
+mod message;
 mod objects;
 mod serve;
 mod served;
 mod stores;
+mod text;
 
+pub use ends::Linked;
 pub use serve::serve_connection;
 pub use served::{Ending, Place, Served};
 pub use stores::Stores;

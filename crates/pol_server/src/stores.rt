@@ -1,9 +1,10 @@
+use pol_disk::Disk;
 use pol_shared::Shared;
 use pol_shared_objects::Objects;
 
 /// The catalogue and the objects that requests are answered from, each as one pass of it sees it.
 #[derive(Drop)]
-pub struct Stores {
-    pub catalogue: Shared,
-    pub objects: Objects,
+pub struct Stores<D: Disk, O: Disk> {
+    pub catalogue: Shared<D>,
+    pub objects: Objects<O>,
 }

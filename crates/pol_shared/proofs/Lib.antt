@@ -1,4 +1,3 @@
-pub mod EntryLemmas
-pub mod FullLemmas
+pub mod AccessLemmas
+pub mod OpenedLemmas
 pub mod SeenLemmas
-pub mod SteppedLemmas

@@ -76,6 +76,7 @@ module _ {Entry : Type 0} (number_of : Entry → ℕ) where
       same = refl;
       front = ([], sym (append-nil seen.front));
       own = sym (append-nil (places_from number_of seen.number 0 seen.front));
+      kept = omega arith;
     }
 
     -- one entry of its own more was seen
@@ -84,15 +85,17 @@ module _ {Entry : Type 0} (number_of : Entry → ℕ) where
       same = refl;
       front = (entry ∷ [], refl);
       own = places-push seen.number seen.front entry own;
+      kept = omega arith;
     }
 
     -- more was seen, and then more again
     pub seen-trans : (a b c : SeenOf Base Entry) (places more : List ℕ) → HasSeenOf number_of a b places → HasSeenOf number_of b c more → HasSeenOf number_of a c (places ++ more)
     seen-trans a b c places more first second = record {
-      same = second.same ∙ ap (λ (seen : SeenOf Base Entry). record seen { front = c.front }) first.same;
+      same = second.same ∙ ap (λ (seen : SeenOf Base Entry). record seen { front = c.front; failed = c.failed }) first.same;
       front = (first.front.0 ++ second.front.0, second.front.1 ∙ ap (λ front. front ++ second.front.0) first.front.1 ∙ append_assoc a.front first.front.0 second.front.0);
       own =
           let number : b.number ≡ a.number = ap (λ (seen : SeenOf Base Entry). seen.number) first.same in
           ap (λ number. places_from number_of number 0 c.front) (sym number) ∙ second.own ∙ ap (λ number. places_from number_of number 0 b.front ++ more) number
           ∙ ap (λ own. own ++ more) first.own ∙ append_assoc (places_from number_of a.number 0 a.front) places more;
+      kept = omega (arith, first.kept, second.kept);
     }

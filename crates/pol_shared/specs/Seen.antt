@@ -1,8 +1,8 @@
 -- What a pass has seen of the catalogue, and where the entries of a number stand.
 use Rattle.std.specs.Prelude.{ℕ, List}
 use Rattle.pol_state.specs.Rows.{Rows}
-use Rattle.pol_shared.specs.Passes.{AreMade, GoesOnBy, HasSeenOf, SeenOf, places_from}
-use Rattle.pol_shared.specs.declared.entry.Entry.{Entry}
+use Rattle.pol_kept.specs.declared.entry.Entry.{Entry}
+use Rattle.pol_shared.specs.Passes.{AreMade, GoesOnBy, HasSeenOf, SeenOf, StaysOf, places_from}
 
 -- the number of the pass that a command came by
 abbrev pub entry_number : Entry → ℕ
@@ -17,6 +17,9 @@ places_of number history = places_from entry_number number 0 history
 
 abbrev pub HasSeen : Seen → Seen → List ℕ → Type 0
 HasSeen old new places = HasSeenOf entry_number old new places
+
+abbrev pub Stays : Seen → Seen → Type 0
+Stays old new = StaysOf entry_number old new
 
 abbrev pub AreOfPasses : ℕ → List Entry → Type 0
 AreOfPasses made history = AreMade entry_number made history

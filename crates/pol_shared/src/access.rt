@@ -1,11 +1,14 @@
 //! Asking for leave to use objects.
-ghost use Rattle.std.specs.Prelude.{◌≡◌, ◌↔◌, ◌≤◌, ◌^◌, IfOk, IsTrue};
+ghost use Rattle.std.specs.Prelude.{◌≡◌, ◌↔◌, ◌≤◌, ◌^◌, ℕ, List, IfOk, IsTrue};
 ghost use Rattle.pol_commands.specs.declared.command.Action.TheVariants.{Access};
 ghost use Rattle.pol_shared.specs.Accessed.{AccessesIn, IsAccess, RendersUnlessAllowed, access_allowed};
+ghost use Rattle.pol_shared.specs.Held.{HoldsImages};
 
 use crate::{Accessed, Permit, Render, Shared, Stepped};
+use pol_commands::{Action, Answer, Command, Reply};
+use pol_disk::Disk;
 use pol_locations::Location;
-use pol_machine::{Act, Action, Answer, Command, Reply};
+use pol_tokens::Act;
 use pol_types::OutOfMemory;
 use std::alloc::Global;
 
@@ -35,10 +38,10 @@ fn is_allowed(reply: &Reply) -> bool
     matches!(reply, Reply::Answered(Answer::AccessAllowed))
 }
 
-impl Shared {
+impl<D: Disk> Shared<D> {
     /// Asks what a storage token opens. Where it opens the path for the act, leave is given by a permit that names the
     /// place of this access, and the reply isn't rendered. Any other answer is as that of `step`. Nothing has changed
-    /// where memory is wanting.
+    /// where memory is wanting. An access changes no row, so nothing is written for it.
     pub fn access<R: Render>(
         &mut self,
         alloc: Global,
@@ -47,7 +50,13 @@ impl Shared {
     ) -> Accessed<R::Out>
         requires moment { command.moment ≤ 2 ^ 62 }
         requires access { IsAccess command.action }
-        ensures { AccessesIn (R.renders render.now) self.old self.new command result }
+        ensures accesses { AccessesIn (R.renders render.now) self.old.seen self.new.seen command result }
+        ensures untouched { self.new.journal ≡ self.old.journal }
+        ensures images { (opening : List (List ℕ))
+            → HoldsImages D.seen D.may_leave D.clock D.left_since D.fault_count opening self.old
+            → HoldsImages D.seen D.may_leave D.clock D.left_since D.fault_count opening self.new }
+        ensures opening { self.new.journal.opening ≡ self.old.journal.opening }
+        ensures kept { D.fault_count self.old.journal.disk ≤ D.fault_count self.new.journal.disk }
     {
         let Ok((path, act)) = asked(&command) else {
             drop(command);
@@ -71,6 +80,9 @@ impl Shared {
                 out,
             }),
             Stepped::RunFull { out: None, .. } => unreachable!(),
+            Stepped::JournalFull { .. } => unreachable!(),
+            Stepped::Unknown => unreachable!(),
+            Stepped::DiskFault => unreachable!(),
             Stepped::OutOfMemory => Accessed::Stepped(Stepped::OutOfMemory),
         }
     }

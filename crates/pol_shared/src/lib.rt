@@ -1,22 +1,12 @@
-//! The catalogue that requests are answered from: a state with the history of the commands that led to it.
+//! The catalogue that requests are answered from, as a pass of it sees it.
 #![tactic(auto)]
 
 mod access;
 mod accessed;
-mod closed;
-mod entry;
-mod kept;
 mod permit;
-mod render;
 mod shared;
-mod stages;
-mod stepped;
 
 pub use accessed::Accessed;
-pub use closed::Closed;
-pub use entry::Entry;
-pub use kept::Kept;
 pub use permit::Permit;
-pub use render::Render;
+pub use pol_kept::{Closed, Entry, Render, Stepped};
 pub use shared::Shared;
-pub use stepped::Stepped;

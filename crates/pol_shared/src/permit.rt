@@ -1,7 +1,7 @@
 ghost use Rattle.std.specs.Prelude.{◌≡◌};
 
 use pol_locations::Location;
-use pol_machine::Act;
+use pol_tokens::Act;
 use std::marker::Model;
 
 /// Leave to do this with the object at a path, or with those below it, which the access at this place of the

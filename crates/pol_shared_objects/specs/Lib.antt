@@ -1,2 +1,4 @@
 pub mod Acted
+pub mod HeldObjects
+pub mod OpenedObjects
 pub mod SeenObjects

@@ -2,7 +2,7 @@
 use Rattle.std.specs.Prelude.{ℕ, List}
 use Rattle.pol_objects.specs.declared.object_state.ObjectState.{ObjectState}
 use Rattle.pol_object_store.specs.declared.entry.ObjectEntry.{ObjectEntry}
-use Rattle.pol_shared.specs.Passes.{AreMade, GoesOnBy, HasSeenOf, SeenOf}
+use Rattle.pol_shared.specs.Passes.{AreMade, GoesOnBy, HasSeenOf, SeenOf, StaysOf}
 
 -- the number of the pass that an action came by
 abbrev pub object_entry_number : ObjectEntry → ℕ
@@ -13,6 +13,9 @@ SeenObjects = SeenOf ObjectState ObjectEntry
 
 abbrev pub HasSeenObjects : SeenObjects → SeenObjects → List ℕ → Type 0
 HasSeenObjects old new places = HasSeenOf object_entry_number old new places
+
+abbrev pub ObjectsStay : SeenObjects → SeenObjects → Type 0
+ObjectsStay old new = StaysOf object_entry_number old new
 
 abbrev pub AreOfObjectPasses : ℕ → List ObjectEntry → Type 0
 AreOfObjectPasses made history = AreMade object_entry_number made history

@@ -2,8 +2,7 @@
 //! it.
 #![tactic(auto)]
 
-mod acted;
 mod objects;
 
-pub use acted::Acted;
 pub use objects::Objects;
+pub use pol_object_store::{Acted, ClosedObjects};

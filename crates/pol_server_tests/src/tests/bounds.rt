@@ -2,10 +2,11 @@
 ghost use Rattle.std.specs.Prelude.{◌≡◌, ◌≤◌, ◌^◌, IfOk, ⊤};
 ghost use Rattle.pol_state.specs.Sound.{IsSound};
 
+use pol_disk::{Disk, HollowDisk};
+use pol_kept::{Kept, Render, Stepped};
 use pol_machine::{
     Action, Answer, Caller, Change, Command, Quantity, Refusal, Reply, State, Words4, decide,
 };
-use pol_shared::{Kept, Render, Stepped};
 use pol_types::{Listed, OutOfMemory, Text};
 use std::alloc::{AllocError, Global};
 use std::test::Fail;
@@ -67,7 +68,7 @@ impl Render for Serial {
 type Told = Result<(u64, Option<u64>), (u64, u64)>;
 
 /// Opens a session for root with this charge, for the pass of this number.
-fn step(alloc: Global, kept: &mut Kept, number: u64, charge: u64) -> Option<Told> {
+fn step<D: Disk>(alloc: Global, kept: &mut Kept<D>, number: u64, charge: u64) -> Option<Told> {
     let command = opening(alloc, "s3cr3t", None, charge).ok()?;
     match kept.step(alloc, number, command, &Serial) {
         Stepped::Done { place, out } => Some(Ok((place, out))),
@@ -76,12 +77,15 @@ fn step(alloc: Global, kept: &mut Kept, number: u64, charge: u64) -> Option<Told
             charge,
             ..
         } => Some(Err((charged, charge))),
-        Stepped::OutOfMemory => None,
+        Stepped::JournalFull { .. }
+        | Stepped::Unknown
+        | Stepped::DiskFault
+        | Stepped::OutOfMemory => None,
     }
 }
 
 /// The number and the charge of each entry of a catalogue that closes.
-fn entries_of(alloc: Global, kept: Kept) -> Option<Vec<(u64, u64)>> {
+fn entries_of<D: Disk + Drop>(alloc: Global, kept: Kept<D>) -> Option<Vec<(u64, u64)>> {
     let closed = kept.close();
     let entries = closed
         .history
@@ -95,7 +99,9 @@ fn entries_of(alloc: Global, kept: Kept) -> Option<Vec<(u64, u64)>> {
 #[test]
 fn full_run_makes_no_entry(rt: HostRuntime) -> Result<(), Fail> {
     let alloc = rt.alloc();
-    let mut kept = Kept::fresh(alloc, "s3cr3t")?;
+    let Ok(mut kept) = Kept::fresh(alloc, HollowDisk::new(0), "s3cr3t") else {
+        return Err(Fail::new("there is no catalogue"));
+    };
     let told = [
         step(alloc, &mut kept, 0, RUN_BOUND),
         step(alloc, &mut kept, 1, 512),

@@ -1,3 +1,4 @@
+use pol_disk::{Disk, HollowDisk};
 use pol_server::{Ending, Place, Stores, serve_connection};
 use pol_shared::Shared;
 use pol_shared_objects::Objects;
@@ -71,7 +72,11 @@ fn linked(alloc: Global, case: &Case<'_>) -> Result<MemoryLink, AllocError> {
 }
 
 /// Whether a link ends so, with these places.
-fn is_served(alloc: Global, stores: &mut Stores, case: &Case<'_>) -> Option<bool> {
+fn is_served<D: Disk, O: Disk>(
+    alloc: Global,
+    stores: &mut Stores<D, O>,
+    case: &Case<'_>,
+) -> Option<bool> {
     let mut link = linked(alloc, case).ok()?;
     let served = serve_connection(alloc, stores, &mut link);
     let is_right = served.ending == case.2 && served.places.as_slice() == case.3;
@@ -81,7 +86,11 @@ fn is_served(alloc: Global, stores: &mut Stores, case: &Case<'_>) -> Option<bool
 }
 
 /// Whether these links are served so, one after the other.
-fn are_served(alloc: Global, stores: &mut Stores, cases: &[Case<'_>]) -> bool {
+fn are_served<D: Disk, O: Disk>(
+    alloc: Global,
+    stores: &mut Stores<D, O>,
+    cases: &[Case<'_>],
+) -> bool {
     for case in cases {
         if is_served(alloc, stores, case) != Some(true) {
             return false;
@@ -90,12 +99,20 @@ fn are_served(alloc: Global, stores: &mut Stores, cases: &[Case<'_>]) -> bool {
     true
 }
 
+/// Both stores over disks that keep nothing but their lengths, if there is memory for them.
+fn hollow_stores(alloc: Global) -> Option<Stores<HollowDisk, HollowDisk>> {
+    let catalogue = Shared::fresh(alloc, HollowDisk::new(0), "s3cret").ok()?;
+    let Ok(objects) = Objects::fresh(alloc, HollowDisk::new(0)) else {
+        drop(catalogue);
+        return None;
+    };
+    Some(Stores { catalogue, objects })
+}
+
 #[test]
 fn links_share_one_history(rt: HostRuntime) -> Result<(), Fail> {
-    let catalogue = Shared::fresh(rt.alloc(), "s3cret")?;
-    let mut stores = Stores {
-        catalogue,
-        objects: Objects::empty(rt.alloc()),
+    let Some(mut stores) = hollow_stores(rt.alloc()) else {
+        return Err(Fail::new("there are no stores"));
     };
     let served = are_served(rt.alloc(), &mut stores, &LINKS);
     drop(stores);

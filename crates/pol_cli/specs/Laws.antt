@@ -1,8 +1,0 @@
--- Laws of the words.
-use Rattle.std.specs.Prelude.{◌≡◌, ℕ, List}
-use Rattle.pol_cli.specs.Words.{Means}
-use Rattle.pol_cli.specs.declared.words.Plan.{Plan}
-
--- no line means two things
-abbrev pub MeansOneThing : Type 0
-MeansOneThing = (words : List (List ℕ)) (one two : Plan) → Means words one → Means words two → one ≡ two

@@ -1,0 +1,9 @@
+pub mod CarriedLemmas
+pub mod EntryLemmas
+pub mod FullLemmas
+pub mod GoesOnLemmas
+pub mod OpenedLemmas
+pub mod RecordLemmas
+pub mod SteppedLemmas
+pub mod WriteLemmas
+pub use Rattle.pol_machine.proofs.DecisionLemmas

@@ -1,0 +1,179 @@
+ghost use Rattle.std.specs.Prelude.{◌≡◌, ◌≤◌, ◌+◌, ◌^◌, ℕ, List, [], length, IfErr, IfOk};
+ghost use Rattle.pol_journal.specs.Format.{StandsFor};
+ghost use Rattle.pol_journal.specs.Journal.{IsAtRest, SinceOpening};
+ghost use Rattle.pol_kept.specs.History.{changes_of, opened_of, state_of};
+ghost use Rattle.pol_kept.specs.Images.{KeepsImages};
+ghost use Rattle.pol_kept.specs.Stages.{GoesOn, IsEntered, IsUndone};
+ghost use Rattle.pol_kept.specs.Stepped.{Steps};
+ghost use Rattle.pol_records.specs.Holding.{IsPastReading, RisesBy};
+ghost use Rattle.pol_state.specs.Sound.{IsSound};
+
+use crate::stages::{answer, enter, full_run, make_ready, mark, write};
+use crate::undone::Undone;
+use crate::{Closed, Entry, Render, Stepped};
+use pol_disk::Disk;
+use pol_journal::Journal;
+use pol_machine::{Change, Command, Decision, State};
+use pol_records::Records;
+use std::alloc::Global;
+use std::marker::Model;
+
+/// A catalogue with its history, in a journal: the state at the opening, the commands that were done since, the number
+/// of the pass of each call that the disk failed, and the state that the commands led to. Contracts see all but the
+/// last, which the first two determine.
+#[derive(Drop)]
+pub struct Kept<D: Disk> {
+    base: State,
+    history: Vec<Entry>,
+    marks: Vec<u64>,
+    state: State,
+    records: Records<D>,
+}
+
+impl<D: Disk> Model for Kept<D> {
+    ghost use Rattle.std.specs.Prelude.{◌≡◌, ◌≤◌, ◌+◌, length};
+    ghost use Rattle.pol_kept.specs.History.{Log, records as records_of, size_of, state_at};
+    ghost use Rattle.pol_records.specs.Holding.{RisesBy};
+    ghost use Rattle.pol_state.specs.Sound.{IsSound};
+
+    ghost Value = { Log D };
+
+    ghost view = { λ kept. record {
+      base = kept.base.rows;
+      history = kept.history.items;
+      marks = kept.marks.items;
+      journal = kept.records;
+    } };
+
+    ghost invariant = { λ kept. (kept.state.rows ≡ state_at kept.base.rows kept.history.items)
+        × IsSound kept.state.rows
+        × RisesBy (length kept.marks.items) kept.records.opening.faults (D.fault_count kept.records.disk)
+        × (size_of (records_of kept.base.rows kept.history.items) ≤ kept.records.gate + 1) };
+}
+
+impl<D: Disk> Kept<D> {
+    /// A store over a journal whose records were all read: this is the state that they led to, and there is no history.
+    pub(crate) fn of(alloc: Global, base: State, state: State, journal: Journal<D>) -> Self
+        requires past_reading { IsPastReading journal }
+        requires same { state.rows ≡ base.rows }
+        requires sound { IsSound base.rows }
+        requires counted { journal.opening.faults ≤ D.fault_count journal.disk }
+        ensures log { result ≡ record { base = base.rows; history = []; marks = []; journal = journal } }
+        ensures images { (opening : List (List ℕ)) → IsAtRest D.seen D.may_leave opening journal
+            → SinceOpening D.clock D.left_since D.fault_count (StandsFor journal.kind opening) journal
+            → KeepsImages D.seen D.may_leave D.clock D.left_since D.fault_count opening base.rows [] journal }
+    {
+        Kept {
+            base,
+            history: Vec::new(alloc),
+            marks: Vec::new(alloc),
+            state,
+            records: Records::of(journal),
+        }
+    }
+
+    /// Does a command for the pass of this number. Its reply is rendered, and room is made, before anything is written,
+    /// so that nothing has changed where memory is wanting. Where it has changes their record is written to the journal,
+    /// once an append that failed before is taken back; then they are made.
+    pub fn step<R: Render>(
+        &mut self,
+        alloc: Global,
+        number: u64,
+        command: Command,
+        render: &R,
+    ) -> Stepped<R::Out>
+        requires { command.moment ≤ 2 ^ 62 }
+        ensures steps { Steps D.fault_count (R.renders render.now) self.old self.new number command result }
+        // A command without changes writes nothing.
+        ensures idle { changes_of (state_of self.old) command ≡ [] → self.new.journal ≡ self.old.journal }
+        // What a crash since the opening may have left.
+        ensures images { (opening : List (List ℕ))
+            → KeepsImages D.seen D.may_leave D.clock D.left_since D.fault_count opening
+            self.old.base self.old.history self.old.journal
+            → KeepsImages D.seen D.may_leave D.clock D.left_since D.fault_count opening
+            self.new.base self.new.history self.new.journal }
+        ensures opened { opened_of self.new ≡ opened_of self.old }
+        ensures opening { self.new.journal.opening ≡ self.old.journal.opening }
+        ensures kept { D.fault_count self.old.journal.disk ≤ D.fault_count self.new.journal.disk }
+    {
+        let Ok((decision, out)) = answer(alloc, &self.state, &command, render) else {
+            drop(command);
+            return Stepped::OutOfMemory;
+        };
+        let Decision { reply, changes } = decision;
+        let full = full_run(&reply);
+        drop(reply);
+        let changes = Vec::from(changes);
+        if let Some((charged, charge)) = full {
+            drop(changes);
+            drop(command);
+            return Stepped::RunFull {
+                charged,
+                charge,
+                out,
+            };
+        }
+        match self.carry_out(alloc, number, command, changes) {
+            Ok(place) => Stepped::Done { place, out },
+            Err(why) => {
+                drop(out);
+                why.stepped()
+            }
+        }
+    }
+
+    // Carries out a command whose changes these are: makes room, writes their record, where there are any, and makes
+    // and enters them.
+    fn carry_out(
+        &mut self,
+        alloc: Global,
+        number: u64,
+        command: Command,
+        changes: Vec<Change>,
+    ) -> Result<u64, Undone>
+        requires moment { command.moment ≤ 2 ^ 62 }
+        requires open { (state_of self.old).charged + command.charge ≤ 2 ^ 30 }
+        requires changes { changes.items ≡ changes_of (state_of self.old) command }
+        ensures entered { IfOk result (IsEntered self.old self.new number command) }
+        ensures undone { IfErr result (IsUndone D.fault_count self.old self.new number command) }
+        ensures goes_on { GoesOn D.seen D.may_leave D.clock D.left_since D.fault_count self.old self.new }
+        ensures idle { changes.items ≡ [] → self.new.journal ≡ self.old.journal }
+    {
+        let Ok(body) = make_ready(
+            alloc,
+            &mut self.state,
+            &mut self.history,
+            &mut self.marks,
+            changes.as_slice(),
+        ) else {
+            drop(changes);
+            drop(command);
+            return Err(Undone::OutOfMemory);
+        };
+        if let Err(why) = write(&mut self.records, body) {
+            drop(changes);
+            drop(command);
+            return Err(mark(&mut self.marks, number, why));
+        }
+        let entry = Entry { number, command };
+        Ok(enter(&mut self.state, &mut self.history, entry, changes))
+    }
+
+    /// Closes the catalogue.
+    pub fn close(self) -> Closed<D>
+        ensures disk { result.disk ≡ self.journal.disk }
+        ensures base { result.base.rows ≡ self.base }
+        ensures history { result.history.items ≡ self.history }
+        ensures state { result.state.rows ≡ state_of self }
+        ensures sound { IsSound result.state.rows }
+        // No more calls were marked than the disk's count of faults rose since the opening.
+        ensures marked { RisesBy (length self.marks) self.journal.opening.faults (D.fault_count self.journal.disk) }
+    {
+        Closed {
+            disk: self.records.close(),
+            base: self.base,
+            history: self.history,
+            state: self.state,
+        }
+    }
+}

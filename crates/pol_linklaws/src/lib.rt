@@ -1,0 +1,4 @@
+//! Laws of served links.
+#![tactic(auto)]
+
+pub mod laws;

@@ -1,0 +1,106 @@
+//! The objects of a journal are read: the changes of its records are made, one after another.
+ghost use Rattle.std.specs.Prelude.{◌≡◌, ◌↔◌, [], ℕ, IfErr, IfOk, IsTrue, List, OnOk};
+ghost use Rattle.pol_forms.specs.declared.refused.CodecRefused.TheVariants.{NoForm};
+ghost use Rattle.pol_journal.specs.Journal.{IsReading, IsReady};
+ghost use Rattle.pol_object_store.specs.Reading.{IsReadOn, IsReadSoFar, IsReadWhole};
+ghost use Rattle.pol_object_store.specs.Reopened.{IsFitting, IsRefusedAt, IsUnfit, LeadsBy, RefusedBy, changed};
+ghost use Rattle.pol_objects.specs.Objects.{total_length};
+
+use pol_codec::{ObjectChange, read_object_change};
+use pol_disk::Disk;
+use pol_forms::CodecRefused;
+use pol_journal::{Journal, JournalRefused};
+use pol_objects::{Object, ObjectMap, ObjectState};
+use pol_shared_bytes::SharedBytes;
+use pol_types::OutOfMemory;
+use std::alloc::Global;
+
+/// The state of the objects of a journal that is read to its end, and a copy of it.
+pub(crate) fn read_state<D: Disk>(
+    alloc: Global,
+    journal: &mut Journal<D>,
+) -> Result<(ObjectState, ObjectState), JournalRefused>
+    requires reading { IsReading journal.old }
+    ensures read { IfOk result (λ states. (file : List ℕ)
+        → IsReadSoFar D.seen D.may_leave D.clock D.left_since D.fault_count file [] journal.old []
+        → IsReadWhole D.seen D.may_leave D.clock D.left_since D.fault_count file journal.new states.0.objects) }
+    ensures counted { IfOk result (λ states. states.0.counted ≡ total_length states.0.objects) }
+    ensures copy { IfOk result (λ states. states.1 ≡ states.0) }
+    ensures ready { OnOk result (IsReady journal.new) }
+    ensures refused { IfErr result (RefusedBy ⊥
+        (λ at. (file : List ℕ)
+        → IsReadSoFar D.seen D.may_leave D.clock D.left_since D.fault_count file [] journal.old []
+        → IsRefusedAt at file)
+        (D.fault_count journal.old.disk) (D.fault_count journal.new.disk)) }
+    ensures on { IsReadOn D.seen D.may_leave D.clock D.left_since D.fault_count D.size journal.old journal.new }
+{
+    let mut objects = ObjectMap::new(alloc);
+    'records: while let Some(body) = journal.next_record(alloc)? {
+        let at = journal.last_gate();
+        match redo(alloc, body.as_slice(), &mut objects) {
+            Ok(()) => {}
+            Err(CodecRefused::NoForm) => return Err(JournalRefused::BadRecord { at }),
+            Err(CodecRefused::OutOfMemory) => return Err(JournalRefused::OutOfMemory),
+        }
+    }
+    match states_of(objects) {
+        Ok(states) => Ok(states),
+        Err(OutOfMemory) => Err(JournalRefused::OutOfMemory),
+    }
+}
+
+/// The state of these objects, of which their bytes are counted, and a copy of it.
+fn states_of(objects: ObjectMap) -> Result<(ObjectState, ObjectState), OutOfMemory>
+    ensures objects { IfOk result (λ states. states.0.objects ≡ objects) }
+    ensures counted { IfOk result (λ states. states.0.counted ≡ total_length objects) }
+    ensures copy { IfOk result (λ states. states.1 ≡ states.0) }
+{
+    let counted = objects.total_length()?;
+    let state = ObjectState { objects, counted };
+    let copy = state.clone()?;
+    Ok((state, copy))
+}
+
+/// Makes the change whose form the body is, where it fits. It is `NoForm` where there is none.
+fn redo(alloc: Global, body: &[u8], objects: &mut ObjectMap) -> Result<(), CodecRefused>
+    ensures made { OnOk result (LeadsBy body.now objects.old objects.new) }
+    ensures refused { IfErr result (λ why. why ≡ NoForm → IsUnfit body.now objects.old) }
+{
+    let change = read_object_change(alloc, body)?;
+    if !is_fitting(alloc, objects, &change)? {
+        drop(change);
+        return Err(CodecRefused::NoForm);
+    }
+    Ok(apply(alloc, change, objects)?)
+}
+
+/// Whether a change fits: it puts an object where none is, or deletes one that is there.
+fn is_fitting(
+    alloc: Global,
+    objects: &ObjectMap,
+    change: &ObjectChange,
+) -> Result<bool, OutOfMemory>
+    ensures { IfOk result (λ fits. IsTrue fits ↔ IsFitting objects.now change.now) }
+{
+    match change {
+        ObjectChange::Put { path, .. } => Ok(objects.find(alloc, path)?.is_none()),
+        ObjectChange::Delete { path } => Ok(objects.find(alloc, path)?.is_some()),
+    }
+}
+
+/// Makes a change that fits.
+fn apply(alloc: Global, change: ObjectChange, objects: &mut ObjectMap) -> Result<(), OutOfMemory>
+    requires { IsFitting objects.old change }
+    ensures { OnOk result (objects.new ≡ changed objects.old change) }
+{
+    match change {
+        ObjectChange::Put { path, bytes } => {
+            let bytes = SharedBytes::new(alloc, bytes)?;
+            objects.insert(alloc, Object { path, bytes })
+        }
+        ObjectChange::Delete { path } => {
+            objects.remove(alloc, &path)?;
+            Ok(())
+        }
+    }
+}

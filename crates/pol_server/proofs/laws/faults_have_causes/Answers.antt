@@ -1,5 +1,0 @@
-use Rattle.pol_server.proofs.CauseLemmas.{faults_have_causes}
-use Rattle.pol_server.proofs.laws.faults_have_causes.Goals as goal
-
-pub returns : goal.returns
-returns c = faults_have_causes
