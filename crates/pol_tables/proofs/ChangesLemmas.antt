@@ -8,10 +8,10 @@ use Rattle.pol_tables.specs.Same.{same}
 use Rattle.pol_tables.specs.Table.{has_id, knows, row_of, rows_with, rows_without, IdsDiffer}
 use Rattle.pol_tables.specs.Facts.{holds}
 use Rattle.pol_tables.specs.Changes.{new_rows, gone_ids, table_changes}
-use Rattle.pol_tables.proofs.ListLemmas.{or_false, or_true, each-filter, each-all, each-weaken, each-join, filter-every, filter-none, filter-alike}
+use Rattle.pol_tables.proofs.ListLemmas.{or_false, or_true, each-filter, each-weaken, each-join, filter-every, filter-none, filter-alike}
 use Rattle.pol_tables.proofs.SameLemmas.{same-refl, same-differ}
 use Rattle.pol_tables.proofs.RisingLemmas.{key-replaced}
-use Rattle.pol_tables.proofs.TableLemmas.{Lacks, replaced, is_some-row_of, knows-map, key-row_of, filter-only, lacks-unknown, rows_with-same, knows-lacks, filter-lacks, differ_head, differ_past, lacks_past, rows_with-known, rows_with-new}
+use Rattle.pol_tables.proofs.TableLemmas.{Lacks, replaced, is_some-row_of, knows-map, key-row_of, filter-only, rows_with-same, knows-lacks, differ_head, differ_past, lacks_past, rows_with-known, rows_with-new}
 
 module _ {R : Type 0} (code : Coded R) where
   -- a row that stands first, and one that stands later
