@@ -21,16 +21,25 @@ fn main(rt: HostRuntime) -> ExitCode {
 /// Plays the files that the words name, and gives the exit status: 0 where all examples agree, 1 where some differ,
 /// and 2 where a line can't be read.
 fn play_files(rt: &HostRuntime) -> io::Result<u8> {
-    let mut reader = Reader::new(rt.alloc());
+    let words: Vec<String> = env::args(rt)?.collect(rt.alloc())?;
     let mut played = Played::new(rt.alloc());
-    for name in env::args(rt)?.skip(1) {
-        if !play_file(rt, name.as_str(), &mut reader, &mut played)? {
-            return Ok(2);
-        }
+    if !play_each(rt, words.as_slice(), &mut played)? {
+        return Ok(2);
     }
     let line = played.last_line(rt.alloc())?;
     rt.println(line.as_str())?;
     Ok(played.status())
+}
+
+/// Plays the files that the words behind the first one name; gives whether each line could be read.
+fn play_each(rt: &HostRuntime, words: &[String], played: &mut Played) -> io::Result<bool> {
+    let mut reader = Reader::new(rt.alloc());
+    for name in words.iter().skip(1) {
+        if !play_file(rt, name.as_str(), &mut reader, played)? {
+            return Ok(false);
+        }
+    }
+    Ok(true)
 }
 
 /// Plays a file and tells what differs; gives whether each line could be read.
