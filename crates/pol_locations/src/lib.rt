@@ -8,6 +8,6 @@ mod refused;
 mod steps;
 
 pub use location::{Location, covers, overlaps};
-pub use location_set::{LocationSet, Member};
+pub use location_set::{LocationSet, Member, least_clash};
 pub use refused::LocationRefused;
 pub use steps::Steps;

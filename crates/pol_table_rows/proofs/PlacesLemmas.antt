@@ -12,7 +12,7 @@ use Rattle.pol_table_rows.specs.Places.{IsPut, IsTaken, is_owner, is_placed, lea
 use Rattle.pol_tables.specs.Same.{same}
 use Rattle.pol_tables.proofs.FactChangesLemmas.{holds-filter}
 use Rattle.pol_tables.proofs.ListLemmas.{each-weaken, or_swapped}
-use Rattle.pol_tables.proofs.SameLemmas.{same-differ}
+use Rattle.pol_tables.proofs.SameLemmas.{same-differ, same-refl}
 
 -- what is placed in one of two lists
 pub placed-append : (other : Member) (left right : List Member) → is_placed other (left ++ right) ≡ (is_placed other left || is_placed other right)
@@ -114,19 +114,57 @@ none-there owner (member ∷ members) none = (
   none-there owner members (λ any. none (suc any.0, any.1, omega (arith, any.2), any.3, any.4)),
 )
 
+-- where no member of an owner is placed, none is the owner's
+pub none-left : (owner : ℕ) (members : List Member) → ((other : Member) → is_owner owner other ≡ true → is_placed other members ≡ false) → list_any (is_owner owner) members ≡ false
+none-left owner [] none = refl
+none-left owner (first ∷ members) none = by (is_owner owner first) refl (none-left owner members (λ other is. past (same the_row.coded other first) (is_placed other members) (none other is)))
+  where
+    past : (a b : Bool) → (a || b) ≡ false → b ≡ false
+    past true b neither = absurd (true≢false neither)
+    past false b neither = neither
+
+    by : (b : Bool) → is_owner owner first ≡ b → list_any (is_owner owner) members ≡ false → (b || list_any (is_owner owner) members) ≡ false
+    by true is rest = absurd (true≢false (sym (ap (λ b. b || is_placed first members) (same-refl the_row.coded first)) ∙ none first is))
+    by false apart rest = rest
+
+-- none is the owner's once its members are taken
+pub none-taken : (owner : ℕ) (old new : List Member) → IsTaken owner old new → list_any (is_owner owner) new ≡ false
+none-taken owner old new taken = none-left owner new (λ other is. taken other ∙ ap (λ b. not b && is_placed other old) is)
+
+-- so each of some of them is another one's
+pub others-owned : (owner : ℕ) (left right : List Member) → list_any (is_owner owner) (left ++ right) ≡ false → All (λ other. other.owner ≢ owner) left
+others-owned owner left right none = all-of (λ other. other.owner ≢ owner) left (each left none)
+  where
+    first : (member : Member) (rest : Bool) → (is_owner owner member || rest) ≡ false → member.owner ≢ owner
+    first member rest neither same = true≢false (sym (ap (λ b. b || rest) (eq-eqb member.owner owner same)) ∙ neither)
+
+    past : (a b : Bool) → (a || b) ≡ false → b ≡ false
+    past true b neither = absurd (true≢false neither)
+    past false b neither = neither
+
+    each : (left : List Member) → list_any (is_owner owner) (left ++ right) ≡ false → AllByRecursion (λ other. other.owner ≢ owner) left
+    each [] none = tt
+    each (member ∷ left) none = (first member (list_any (is_owner owner) (left ++ right)) none, each left (past (is_owner owner member) (list_any (is_owner owner) (left ++ right)) none))
+
+-- a put behind a take is a put
+pub put-taken : (member : Member) (old taken new : List Member) → IsTaken member.owner old taken → IsPut member taken new → IsPut member old new
+put-taken member old taken new is put other =
+    put other ∙ ap (λ b. same the_row.coded other member || (not (is_owner member.owner other) && b)) (is other) ∙ ap (λ b. same the_row.coded other member || b) (twice (not (is_owner member.owner other)) (is_placed other old))
+  where
+    twice : (a b : Bool) → (a && (a && b)) ≡ (a && b)
+    twice true b = refl
+    twice false b = refl
+
 -- what a set is left with once the member of an owner is removed, where there is one
 pub forgotten : (owner : ℕ) (old new : List Member) (there : Bool) → AreApart old → IsTrue there ↔ Any (λ member. member.owner ≡ owner) old
     → (there ≡ true → (member : Member) × (member.owner ≡ owner) × Gains new old member) → (there ≡ false → new ≡ old)
-    → IsTaken owner old new × AllByRecursion (λ other. other.owner ≢ owner) new
+    → IsTaken owner old new
 forgotten owner old new true apart so taken absent =
     let one = taken refl in
-    let others = gone-others owner one.0 old new one.1 apart one.2 in
-    (taken-gained owner one.0 old new (eq-eqb one.0.owner owner one.1) (none-owned owner new others) one.2, others)
+    taken-gained owner one.0 old new (eq-eqb one.0.owner owner one.1) (none-owned owner new (gone-others owner one.0 old new one.1 apart one.2)) one.2
 forgotten owner old new false apart so taken absent =
-    let others = none-there owner old (λ any. let contrary : IsTrue false = so.1 any in cc) in (
-      subst (IsTaken owner old) (sym (absent refl)) (taken-none owner old (none-owned owner old others)),
-      subst (AllByRecursion (λ other. other.owner ≢ owner)) (sym (absent refl)) others,
-    )
+    let others = none-there owner old (λ any. let contrary : IsTrue false = so.1 any in cc) in
+    subst (IsTaken owner old) (sym (absent refl)) (taken-none owner old (none-owned owner old others))
 
 -- one is put where it was taken from before: into the set, or beside it
 pub put-first : (member : Member) (old set beside new : List Member) → IsTaken member.owner old (set ++ beside) → Gains set new member → IsPut member old (new ++ beside)

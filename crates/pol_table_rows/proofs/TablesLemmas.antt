@@ -9,6 +9,7 @@ use Rattle.pol_locations.specs.declared.location_set.Member.{Member}
 use Rattle.pol_table_rows.specs.Places.{IsPut, IsTaken, is_owner, is_placed}
 use Rattle.pol_table_rows.specs.Tables.{ArePlaced, member_of, stays_at, table_id}
 use Rattle.pol_table_rows.specs.declared.row.TableRow.{TableRow}
+use Rattle.pol_table_rows.proofs.PlacesLemmas.{none-left}
 use Rattle.pol_tables.specs.Same.{same}
 use Rattle.pol_tables.specs.Table.{has_id, knows, row_of, rows_with, rows_without, IdsDiffer}
 use Rattle.pol_tables.proofs.ListLemmas.{and_false, or_false}
@@ -80,7 +81,7 @@ module _ (other : Member) where
         by false elsewhere rest = λ i. owns kept (owner-not row.id kept is elsewhere) i || rest i
 
     -- none of the rows of other ids has it
-    none-own : is_owner row.id other ≡ true → (rows : List TableRow) → knows table_id row.id rows ≡ false → list_any lies rows ≡ false
+    pub none-own : is_owner row.id other ≡ true → (rows : List TableRow) → knows table_id row.id rows ≡ false → list_any lies rows ≡ false
     none-own is [] unknown = refl
     none-own is (kept ∷ rows) unknown =
         by (has_id table_id row.id kept) refl unknown (λ rest. none-own is rows rest)
@@ -145,6 +146,10 @@ module _ (other : Member) where
 pub placed-put : (row : TableRow) (rows : List TableRow) (old new : List Member) → ArePlaced old rows → IsPut (member_of row) old new → ArePlaced new (rows_with table_id row rows)
 placed-put row rows old new placed put other =
     put other ∙ ap (λ b. same the_row.coded other (member_of row) || (not (is_owner row.id other) && b)) (placed other) ∙ sym (lies-with other row rows)
+
+-- of a table that is new no member is the owner's
+pub placed-new : (row : TableRow) (rows : List TableRow) (members : List Member) → ArePlaced members rows → knows table_id row.id rows ≡ false → list_any (is_owner row.id) members ≡ false
+placed-new row rows members placed unknown = none-left row.id members (λ other is. placed other ∙ none-own other row is rows unknown)
 
 -- and where the table stays at its location, they stay as they are
 pub placed-stays : (row : TableRow) (rows : List TableRow) (members : List Member) → IdsDiffer table_id rows → stays_at row.location (row_of table_id row.id rows) ≡ true

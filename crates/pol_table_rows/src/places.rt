@@ -1,8 +1,9 @@
-ghost use Rattle.std.specs.Prelude.{◌≡◌, ◌≢◌, ◌<◌, ◌≤◌, ◌+◌, ◌-◌, [], All, IsOk, OnOk, vec_capacity, vec_len};
-ghost use Rattle.pol_locations.specs.LocationSet.{clash_of, is_clash};
+ghost use Rattle.std.specs.Prelude.{◌≡◌, ◌<◌, ◌≤◌, ◌+◌, ◌-◌, [], false, IsOk, OnOk, vec_capacity, vec_len};
+ghost use Rattle.std.specs.List.{list_any};
+ghost use Rattle.pol_locations.specs.LocationSet.{clash_of};
 ghost use Rattle.pol_table_rows.specs.Places.{IsPut, IsTaken, is_owner, least};
 
-use pol_locations::{Location, LocationSet, Member, overlaps};
+use pol_locations::{Location, LocationSet, Member, least_clash};
 use pol_types::OutOfMemory;
 use std::alloc::{AllocError, Global};
 use std::marker::Model;
@@ -39,13 +40,14 @@ impl Places {
         }
     }
 
-    /// The least owner outside `except` whose location overlaps the wanted one.
+    /// The least owner outside `except` whose location overlaps the wanted one. It looks at those near it alone, and at
+    /// those beside the set.
     pub fn clash(&self, wanted: &Location, except: &[u64]) -> Option<u64>
         ensures { result ≡ clash_of self.now.members wanted.now except.now }
     {
         least(
             self.set.clash(wanted, except),
-            clash_beside(self.beside.as_slice(), wanted, except),
+            least_clash(self.beside.as_slice(), wanted, except),
         )
     }
 
@@ -61,13 +63,13 @@ impl Places {
         Ok(self.beside.reserve(more)?)
     }
 
-    /// Puts the location of an owner in the place of that which it had, and takes no memory.
-    pub fn put(&mut self, owner: u64, location: Location)
-        requires { 0 < self.old.room }
+    /// Puts the location of an owner that has none, and takes no memory.
+    pub fn add(&mut self, owner: u64, location: Location)
+        requires place { 0 < self.old.room }
+        requires new_owner { list_any (is_owner owner) self.old.members ≡ false }
         ensures put { IsPut (record { owner = owner; location = location }) self.old.members self.new.members }
         ensures room { self.old.room ≤ self.new.room + 1 }
     {
-        forget(&mut self.set, &mut self.beside, owner);
         if self.set.is_free(&location) {
             self.set.insert(owner, location);
         } else {
@@ -75,7 +77,17 @@ impl Places {
         }
     }
 
-    /// Takes the location of an owner away, where it has one.
+    /// Puts the location of an owner in the place of that which it had, and takes no memory. It goes over all owners.
+    pub fn put(&mut self, owner: u64, location: Location)
+        requires { 0 < self.old.room }
+        ensures put { IsPut (record { owner = owner; location = location }) self.old.members self.new.members }
+        ensures room { self.old.room ≤ self.new.room + 1 }
+    {
+        forget(&mut self.set, &mut self.beside, owner);
+        self.add(owner, location);
+    }
+
+    /// Takes the location of an owner away, where it has one. It goes over all owners.
     pub fn take(&mut self, owner: u64)
         ensures taken { IsTaken owner self.old.members self.new.members }
         ensures room { self.old.room ≤ self.new.room }
@@ -97,7 +109,6 @@ impl Clone for Places {
 /// Takes the location of an owner away, in the set or beside it.
 fn forget(set: &mut LocationSet, beside: &mut Vec<Member>, owner: u64)
     ensures set { IsTaken owner set.old.members set.new.members }
-    ensures gone { All (λ member. member.owner ≢ owner) set.new.members }
     ensures beside { IsTaken owner beside.old.items beside.new.items }
     ensures spare { set.old.spare ≤ set.new.spare }
     ensures room { vec_capacity beside.old - vec_len beside.old ≤ vec_capacity beside.new - vec_len beside.new }
@@ -116,23 +127,6 @@ fn least(one: Option<u64>, other: Option<u64>) -> Option<u64>
         (Some(one), None) => Some(one),
         (None, other) => other,
     }
-}
-
-/// The least owner outside `except` of those whose location overlaps the wanted one.
-fn clash_beside(members: &[Member], wanted: &Location, except: &[u64]) -> Option<u64>
-    ensures { result ≡ clash_of members.now wanted.now except.now }
-{
-    members
-        .iter()
-        .filter(|member| is_clash(member, wanted, except))
-        .map(|member| member.owner)
-        .min()
-}
-
-fn is_clash(member: &Member, wanted: &Location, except: &[u64]) -> bool
-    ensures { result ≡ is_clash wanted.now except.now member.now }
-{
-    overlaps(&member.location, wanted) && !except.contains(&member.owner)
 }
 
 /// Whether the member is the owner's.

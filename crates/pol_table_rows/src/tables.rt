@@ -81,7 +81,8 @@ impl Tables {
         self.rows.rows().any(|row| row.namespace == namespace)
     }
 
-    /// The table of the least id outside `except` whose location overlaps the wanted one. It goes over all locations.
+    /// The table of the least id outside `except` whose location overlaps the wanted one. It looks at the locations near
+    /// it alone.
     pub fn overlapping(&self, wanted: &Location, except: &[u64]) -> Option<&TableRow>
         ensures { KeysRise table_id self.now.rows
             → option_copied result ≡ overlapping wanted.now except.now self.now.rows }
@@ -102,8 +103,8 @@ impl Tables {
         self.places.reserve(more)
     }
 
-    /// Puts a table, and takes no memory: a new id goes last, and a known id's row is replaced in its place. Where the
-    /// table stays at its location, it looks at no other table's.
+    /// Puts a table, and takes no memory: a new id goes last, and a known id's row is replaced in its place. Only where a
+    /// known table moves, it goes over all locations.
     pub fn put(&mut self, table: TablePut)
         requires { 0 < self.old.room }
         ensures rows { self.new.rows ≡ rows_with table_id table self.old.rows }
@@ -111,7 +112,10 @@ impl Tables {
     {
         let (row, place) = table.into_parts();
         let _differ = self.rows.rows();
-        if !stays_at(self.rows.find(row.id), &place) {
+        let known = self.rows.find(row.id);
+        if known.is_none() {
+            self.places.add(row.id, place);
+        } else if !stays_at(known, &place) {
             self.places.put(row.id, place);
         }
         self.rows.put(row);

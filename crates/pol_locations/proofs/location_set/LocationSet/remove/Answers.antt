@@ -2,13 +2,13 @@ use Rattle.std.proofs.Common.{◌≡◌, ◌<◌, ◌-◌, ◌+◌, length, rule
 use Rattle.std.specs.Prelude.{remove, vec_len, vec_capacity}
 use Rattle.std.proofs.lemmas.Grind.{common_steps}
 use Rattle.pol_locations.specs.LocationSet.{Gains}
-use Rattle.pol_locations.proofs.Members.{AreApart-remove, Gains-remove}
+use Rattle.pol_locations.proofs.Members.{AreApart-remove, Ascend-remove, Gains-remove}
 use Rattle.pol_locations.proofs.location_set.LocationSet.remove.Goals as goal
 
 pub invariant_of-self : goal.invariant_of-self
 invariant_of-self c =
     let inside : c.in-Some.place < length c.self.inside.members.items = grind (arith, common_steps) in
-    rw c.remove.ensures.items (AreApart-remove c.self.inside.members.items c.in-Some.place c.remove.result inside c.self.invariant)
+    rw c.remove.ensures.items (AreApart-remove c.self.inside.members.items c.in-Some.place c.remove.result inside c.self.invariant.0, Ascend-remove c.self.inside.members.items c.in-Some.place c.remove.result inside c.self.invariant.1)
 
 pub returns-clause-taken : goal.returns-clause-taken
 returns-clause-taken c taken =

@@ -7,5 +7,5 @@ use Rattle.pol_table_rows.proofs.places.Places.clash.Goals as goal
 
 pub returns : goal.returns
 returns c =
-    let beside = c.clash_beside.ensures ∙ ap (λ (members : List Member). clash_of members c.args.wanted.now c.args.except.now) c.as_slice.ensures.value in
+    let beside = c.least_clash.ensures ∙ ap (λ (members : List Member). clash_of members c.args.wanted.now c.args.except.now) c.as_slice.ensures.value in
     rw (← c.self.view_is) (c.least.ensures ∙ (λ i. least (c.clash.ensures i) (beside i)) ∙ clash-append c.self.inside.set.members c.self.inside.beside.items c.args.wanted.now c.args.except.now)

@@ -1,19 +1,15 @@
+use Rattle.std.proofs.Common.{◌++◌}
 use Rattle.pol_locations.specs.declared.location_set.Member.{Member}
-use Rattle.pol_table_rows.proofs.PlacesLemmas.{put-beside, put-first, taken-append}
+use Rattle.pol_table_rows.proofs.PlacesLemmas.{none-taken, put-taken, taken-append}
 use Rattle.pol_table_rows.proofs.places.Places.put.Goals as goal
 
-pub returns-then-is_free-clause-put : goal.returns-then-is_free-clause-put
-returns-then-is_free-clause-put c =
-    let member : Member = record { owner = c.args.owner; location = c.args.location } in
-    let set = c.forget.new.set.members in
-    let beside = c.forget.new.beside.items in
-    let taken = taken-append c.args.owner c.self.inside.set.members c.self.inside.beside.items set beside c.forget.ensures.set c.forget.ensures.beside in
-    rw (← c.self.view_is) (put-first member _ set beside c.insert.new.self.members taken c.insert.ensures.member)
+pub add-requires-clause-new_owner : goal.add-requires-clause-new_owner
+add-requires-clause-new_owner c =
+    none-taken c.args.owner (c.self.inside.set.members ++ c.self.inside.beside.items) _
+    (taken-append c.args.owner c.self.inside.set.members c.self.inside.beside.items c.forget.new.set.members c.forget.new.beside.items c.forget.ensures.set c.forget.ensures.beside)
 
-pub returns-else-is_free-clause-put : goal.returns-else-is_free-clause-put
-returns-else-is_free-clause-put c =
+pub returns-clause-put : goal.returns-clause-put
+returns-clause-put c =
     let member : Member = record { owner = c.args.owner; location = c.args.location } in
-    let set = c.forget.new.set.members in
-    let beside = c.forget.new.beside.items in
-    let taken = taken-append c.args.owner c.self.inside.set.members c.self.inside.beside.items set beside c.forget.ensures.set c.forget.ensures.beside in
-    rw (← c.self.view_is, c.push_reserved.ensures.items) (put-beside member _ set beside taken)
+    let taken = taken-append c.args.owner c.self.inside.set.members c.self.inside.beside.items c.forget.new.set.members c.forget.new.beside.items c.forget.ensures.set c.forget.ensures.beside in
+    rw (← c.self.view_is) (put-taken member _ (c.forget.new.set.members ++ c.forget.new.beside.items) c.add.new.self.members taken c.add.ensures.put)
