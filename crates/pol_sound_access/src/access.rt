@@ -174,7 +174,8 @@ fn members_known(access: &Access) -> bool
     access.members().all(|row| is_member_there(access, row))
 }
 
-fn is_member_there(access: &Access, row: &MemberRow) -> bool
+/// Whether the principal and the principal role of a member are there.
+pub fn is_member_there(access: &Access, row: &MemberRow) -> bool
     ensures { result ≡ is_member_there access.now.rows row.now }
 {
     knows_principal(access, row.principal) && knows_principal_role(access, row.role)
@@ -186,7 +187,8 @@ fn joins_known(access: &Access) -> bool
     access.joins().all(|row| is_join_there(access, row))
 }
 
-fn is_join_there(access: &Access, row: &JoinRow) -> bool
+/// Whether both roles of a join are there.
+pub fn is_join_there(access: &Access, row: &JoinRow) -> bool
     ensures { result ≡ is_join_there access.now.rows row.now }
 {
     knows_principal_role(access, row.principal_role) && knows_catalog_role(access, row.catalog_role)
@@ -200,7 +202,8 @@ fn grants_known(access: &Access, next_id: u64) -> bool
         .all(|row| is_grant_there(access, next_id, row))
 }
 
-fn is_grant_there(access: &Access, next_id: u64, row: &GrantRow) -> bool
+/// Whether the role of a grant is there, and its privilege may be granted on its securable, whose id was given out.
+pub fn is_grant_there(access: &Access, next_id: u64, row: &GrantRow) -> bool
     ensures { result ≡ is_grant_there next_id access.now.rows row.now }
 {
     knows_catalog_role(access, row.catalog_role)

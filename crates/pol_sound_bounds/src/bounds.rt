@@ -80,7 +80,7 @@ fn parts_fit(content: &Content) -> bool
 }
 
 /// Whether ids and serials may still be given out.
-fn counters_fit(next_id: u64, next_serial: u64) -> bool
+pub fn counters_fit(next_id: u64, next_serial: u64) -> bool
     ensures { result ≡ counters_fit next_id next_serial }
 {
     fits(Quantity::NextId, next_id) && fits(Quantity::NextSerial, next_serial)
@@ -125,20 +125,23 @@ fn catalog_fits(row: &CatalogRow) -> bool
         && fits(Quantity::Properties, row.properties.len() as u64)
 }
 
-fn namespace_fits(row: &NamespaceRow) -> bool
+/// Whether no number of the namespace is above its bound.
+pub fn namespace_fits(row: &NamespaceRow) -> bool
     ensures { result ≡ namespace_fits row.now }
 {
     fits(Quantity::Properties, row.properties.len() as u64)
 }
 
+/// Whether no number of the table is above its bound.
 #[tactic(auto, using(crate::proofs::WeightLemmas::seen_passes))]
-fn table_fits(row: &TableRow) -> bool
+pub fn table_fits(row: &TableRow) -> bool
     ensures { result ≡ table_fits row.now }
 {
     table_within(row).is_ok()
 }
 
-fn view_fits(row: &ViewRow) -> bool
+/// Whether no number of the view is above its bound.
+pub fn view_fits(row: &ViewRow) -> bool
     ensures { result ≡ view_fits row.now }
 {
     let metadata = row.metadata.get();

@@ -3,4 +3,4 @@
 
 mod bounds;
 
-pub use bounds::is_within_bounds;
+pub use bounds::{counters_fit, is_within_bounds, namespace_fits, table_fits, view_fits};

@@ -136,7 +136,7 @@ fn is_table_there(content: &Content, row: &TableRow) -> bool
 
 /// Whether so many moves are at most one more than the version.
 #[tactic(auto, using(crate::proofs::MovedLemmas::moved_told))]
-fn has_moved(moves: u64, version: u64) -> bool
+pub fn has_moved(moves: u64, version: u64) -> bool
     ensures { result ≡ nat_le moves (version + 1) }
 {
     moves.saturating_sub(1) <= version

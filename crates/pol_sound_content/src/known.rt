@@ -14,8 +14,9 @@ pub fn knows_catalog(content: &Content, id: u64) -> bool
     content.catalog_of(id).is_some()
 }
 
+/// Whether there is a namespace of this id.
 #[tactic(auto, using(pol_sound_access::proofs::FoundLemmas::known_row))]
-pub(crate) fn knows_namespace(content: &Content, id: u64) -> bool
+pub fn knows_namespace(content: &Content, id: u64) -> bool
     ensures { result ≡ knows namespace_id id content.now.rows.namespaces }
 {
     content.namespace_of(id).is_some()

@@ -6,5 +6,6 @@ mod keys;
 mod known;
 mod placed;
 
-pub use content::is_sound_content;
-pub use known::knows_catalog;
+pub use content::{has_moved, is_sound_content};
+pub use known::{knows_catalog, knows_namespace};
+pub use placed::{has_parent, is_located, is_placed};

@@ -42,7 +42,8 @@ fn have_parents(alloc: Global, content: &Content) -> Result<bool, OutOfMemory>
     Ok(true)
 }
 
-fn has_parent(alloc: Global, content: &Content, row: &NamespaceRow) -> Result<bool, OutOfMemory>
+/// Whether the parent of a namespace is there, where it has one. It scans no rows.
+pub fn has_parent(alloc: Global, content: &Content, row: &NamespaceRow) -> Result<bool, OutOfMemory>
     ensures { IfOk result (λ there. there ≡ has_parent content.now.rows row.now) }
 {
     let parent = row.levels.parent(alloc)?;
@@ -78,7 +79,8 @@ fn tables_placed(alloc: Global, rows: &[TableRow]) -> Result<bool, OutOfMemory>
     Ok(true)
 }
 
-fn is_placed(alloc: Global, row: &TableRow) -> Result<bool, OutOfMemory>
+/// Whether the table's metadata has its location.
+pub fn is_placed(alloc: Global, row: &TableRow) -> Result<bool, OutOfMemory>
     ensures { IfOk result (λ placed. placed ≡ is_placed row.now) }
 {
     let text = row.location.text(alloc)?;
@@ -98,7 +100,7 @@ fn views_located(alloc: Global, rows: &[ViewRow]) -> Result<bool, OutOfMemory>
 }
 
 /// Whether the text is that of a location.
-fn is_located(alloc: Global, text: &str) -> Result<bool, OutOfMemory>
+pub fn is_located(alloc: Global, text: &str) -> Result<bool, OutOfMemory>
     ensures { IfOk result (λ located. located ≡ is_none (parse_refusal text.now)) }
 {
     match Location::parse(alloc, text) {

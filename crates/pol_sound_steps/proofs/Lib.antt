@@ -1,8 +1,6 @@
-pub mod BoundsLemmas
 pub mod CommitLemmas
-pub mod CountersLemmas
 pub mod ItemsLemmas
-pub mod NamespaceLemmas
+pub mod RenameLemmas
 pub mod ReplacedLemmas
 pub mod TableLemmas
 pub mod TokenLemmas

@@ -1,12 +1,14 @@
 -- A sound state with one more table, or with one in the place of another, is sound.
-use Rattle.std.proofs.Common.{◌≡◌, ℕ, ◌+◌, ◌<◌, ◌≤◌, true, false, cond, ◌&&◌, nat_le, nat_lt, List, [], ◌∷◌, ◌++◌, map, length, Option, None, Some, is_none, is_some, option_map, nat_eq, refl, sym, ap, subst, ◌∙◌, arith, true≢false}
+use Rattle.std.proofs.Common.{◌≡◌, ℕ, ◌+◌, ◌<◌, ◌≤◌, true, false, cond, ◌&&◌, nat_le, nat_lt, List, [], ◌∷◌, ◌++◌, map, length, None, Some, is_none, is_some, nat_eq, refl, sym, ap, subst, ◌∙◌, arith, true≢false}
 use Rattle.std.specs.Cmp.Lexicographic.{bytes_decides, pointwise_decides}
-use Rattle.std.specs.Option.{option_or}
 use Rattle.std.specs.Str.{bytes_eq}
 use Rattle.std.proofs.lemmas.Bool.{and_parts, eqb-true, leb-true, ltb-true, ne_eqb}
 use Rattle.std.proofs.lemmas.Slice.Eq.{bytes_eq-Decides}
 use Rattle.pol_access.proofs.KeptLemmas.{found-holds}
 use Rattle.pol_commands.specs.declared.reply.Quantity.TheVariants as quantity
+use Rattle.pol_content_steps.specs.Names.{is_name_free}
+use Rattle.pol_content_steps.proofs.NameLemmas.{free-told}
+use Rattle.pol_access_steps.proofs.CountersLemmas.{none-told}
 use Rattle.pol_content.specs.Content.{namespace_id, part_named}
 use Rattle.pol_content.specs.Sound.{IsSoundContent}
 use Rattle.pol_content.specs.Ties.{catalog_of_namespace, is_access_id}
@@ -19,10 +21,11 @@ use Rattle.pol_rules.proofs.SoundLemmas.{next_id-some}
 use Rattle.pol_sound_bounds.specs.Judged.{table_fits}
 use Rattle.pol_sound_content.specs.Judged.{is_placed}
 use Rattle.pol_sound_content.specs.Valid.{HasValidMetadata}
-use Rattle.pol_sound_steps.specs.Steps.{counted, has_left, is_commit, is_move, is_new_id, is_row, is_table_new, keeps_name, may_follow, may_place_table, stays}
-use Rattle.pol_sound_steps.specs.declared.counters.Counters.{Counters}
-use Rattle.pol_sound_steps.proofs.BoundsLemmas.{all-with, few-with, fits-of, same-length, tables-fit, within-of}
-use Rattle.pol_sound_steps.proofs.CountersLemmas.{counted-sound, new-id, no-access_id, unknown-later}
+use Rattle.pol_access_steps.specs.Counters.{counted, is_new_id, may_follow}
+use Rattle.pol_sound_steps.specs.Steps.{has_left, is_commit, is_move, is_row, is_table_new, keeps_name, may_place_table, stays}
+use Rattle.pol_access_steps.specs.declared.counters.Counters.{Counters}
+use Rattle.pol_access_steps.proofs.BoundsLemmas.{all-with, few-with, fits-of, same-length, tables-fit, within-of}
+use Rattle.pol_access_steps.proofs.CountersLemmas.{counted-sound, new-id, no-access_id, unknown-later}
 use Rattle.pol_sound_steps.proofs.ReplacedLemmas.{alter_one, clear-apart, replaced-sound, stays-apart, Replaces}
 use Rattle.pol_soundness.specs.Judged.{same_place}
 use Rattle.pol_state.specs.Applied.{changed}
@@ -30,7 +33,7 @@ use Rattle.pol_state.specs.Bounds.{bound_of}
 use Rattle.pol_state.specs.Rows.{Rows}
 use Rattle.pol_state.specs.Sound.{FitsFound, FitsTable, IsSound, IsTokenOf}
 use Rattle.pol_table_rows.specs.Sound.{IsSoundTable, LocationsApart}
-use Rattle.pol_table_rows.specs.Tables.{overlapping, table_id, table_named}
+use Rattle.pol_table_rows.specs.Tables.{overlapping, table_id}
 use Rattle.pol_table_rows.specs.declared.row.TableRow.{TableRow}
 use Rattle.pol_tables.specs.Table.{has_id, knows, row_of, rows_with}
 use Rattle.pol_tables.proofs.ListLemmas.{each-join}
@@ -38,12 +41,6 @@ use Rattle.pol_tables.proofs.ReplayLemmas.{row_of-rows_with}
 use Rattle.pol_tables.proofs.RisingLemmas.{IdsDiffer-rising}
 use Rattle.pol_tables.proofs.TableLemmas.{is_some-row_of, key-row_of, rows_with-new, some_is}
 use Rattle.pol_tokens.specs.declared.token.TokenRow.{TokenRow}
-use Rattle.pol_view_rows.specs.Views.{view_id, view_named}
-
--- nothing was found
-pub none-told : {A : Type 0} (found : Option A) → is_none found ≡ true → found ≡ None
-none-told None none = refl
-none-told (Some one) none = absurd (true≢false (sym none))
 
 same-text : (left right : List ℕ) → bytes_eq left right ≡ true → left ≡ right
 same-text left right same = (bytes_eq-Decides left right).0 same
@@ -125,22 +122,20 @@ module _ (s : Rows) (sound : IsSound s) (counters : Counters) (follows : may_fol
 
   new-told : is_table_new s counters row ≡ true → IsNew
   new-told new =
-      let table = table_named row.namespace row.name s.content.tables in
-      let view = view_named row.namespace row.name s.content.views in
+      let free = is_name_free row.namespace row.name s.content in
       let clear = overlapping row.location [] s.content.tables in
       let few = nat_lt (length s.content.tables) (bound_of quantity.Tables) in
       let there = knows namespace_id row.namespace s.content.namespaces in
-      let first = and_parts (is_new_id s counters row.id) (there && (is_none table && (is_none view && (few && (is_row row && is_none clear))))) new in
-      let second = and_parts there (is_none table && (is_none view && (few && (is_row row && is_none clear)))) first.1 in
-      let third = and_parts (is_none table) (is_none view && (few && (is_row row && is_none clear))) second.1 in
-      let fourth = and_parts (is_none view) (few && (is_row row && is_none clear)) third.1 in
-      let fifth = and_parts few (is_row row && is_none clear) fourth.1 in
-      let last = and_parts (is_row row) (is_none clear) fifth.1 in
+      let first = and_parts (is_new_id s counters row.id) (there && (free && (few && (is_row row && is_none clear)))) new in
+      let second = and_parts there (free && (few && (is_row row && is_none clear))) first.1 in
+      let third = and_parts free (few && (is_row row && is_none clear)) second.1 in
+      let fourth = and_parts few (is_row row && is_none clear) third.1 in
+      let last = and_parts (is_row row) (is_none clear) fourth.1 in
       record {
         id = first.0;
         namespace = second.0;
-        named = λ i. option_or (option_map table_id (none-told table third.0 i)) (option_map view_id (none-told view fourth.0 i));
-        few = fifth.0;
+        named = free-told row.namespace row.name s.content third.0;
+        few = fourth.0;
         passes = last.0;
         clear = none-told clear last.1;
       }

@@ -10,9 +10,10 @@ use Rattle.pol_names.specs.declared.scope.Scope.{Scope}
 use Rattle.pol_names.specs.declared.scope.Scope.TheVariants as scope
 use Rattle.pol_sound_access.specs.Judged.{is_given}
 use Rattle.pol_sound_access.proofs.DecidedLemmas.{each, given}
-use Rattle.pol_sound_steps.specs.Steps.{counted, is_issued, is_new_serial, may_follow, may_issue, may_issue_of, may_open}
-use Rattle.pol_sound_steps.specs.declared.counters.Counters.{Counters}
-use Rattle.pol_sound_steps.proofs.CountersLemmas.{counted-sound, new-serial, sessions-below, tokens-below}
+use Rattle.pol_access_steps.specs.Counters.{counted, is_new_serial, may_follow}
+use Rattle.pol_sound_steps.specs.Steps.{is_issued, may_issue, may_issue_of, may_open}
+use Rattle.pol_access_steps.specs.declared.counters.Counters.{Counters}
+use Rattle.pol_access_steps.proofs.CountersLemmas.{counted-sound, new-serial, sessions-below, tokens-below}
 use Rattle.pol_soundness.specs.Judged.{are_given, fits_found, fits_table, is_fit, is_session, is_token, same_place}
 use Rattle.pol_state.specs.Applied.{changed}
 use Rattle.pol_state.specs.Bounds.{over_limit}

@@ -1,39 +1,22 @@
--- The tests that rows pass which changes may put into a sound state. Each looks at the rows that it names alone.
-use Rattle.std.specs.Prelude.{◌^◌, ◌+◌, ℕ, Bool, ◌&&◌, nat_eq, nat_le, nat_lt, [], ◌∷◌, length, is_none}
+-- The tests that sessions, storage tokens and tables pass which changes may put into a sound state. Each looks at the rows
+-- that it names alone.
+use Rattle.std.specs.Prelude.{◌+◌, Bool, ◌&&◌, nat_eq, nat_le, nat_lt, [], ◌∷◌, length, is_none}
 use Rattle.std.specs.Str.{bytes_eq}
+use Rattle.pol_access_steps.specs.Counters.{is_new_id, is_new_serial}
 use Rattle.pol_commands.specs.declared.reply.Quantity.TheVariants as quantity
-use Rattle.pol_content.specs.Content.{catalog_id, namespace_id, namespace_named}
-use Rattle.pol_content.specs.declared.rows.NamespaceRow.{NamespaceRow}
-use Rattle.pol_sound_bounds.specs.Judged.{counters_fit, namespace_fits, table_fits}
-use Rattle.pol_sound_content.specs.Judged.{has_parent, is_placed}
-use Rattle.pol_sound_steps.specs.declared.counters.Counters.{Counters}
+use Rattle.pol_content.specs.Content.{namespace_id}
+use Rattle.pol_content_steps.specs.Names.{is_name_free, may_take_name}
+use Rattle.pol_sound_bounds.specs.Judged.{table_fits}
+use Rattle.pol_sound_content.specs.Judged.{is_placed}
+use Rattle.pol_access_steps.specs.declared.counters.Counters.{Counters}
 use Rattle.pol_soundness.specs.Judged.{fits_table, is_fit, is_session, is_token, same_place}
 use Rattle.pol_state.specs.Bounds.{bound_of}
 use Rattle.pol_state.specs.Rows.{Rows}
-use Rattle.pol_table_rows.specs.Tables.{overlapping, table_named}
+use Rattle.pol_table_rows.specs.Tables.{overlapping}
 use Rattle.pol_table_rows.specs.declared.row.TableRow.{TableRow}
 use Rattle.pol_tables.specs.Table.{knows}
 use Rattle.pol_tokens.specs.declared.session.SessionRow.{SessionRow}
 use Rattle.pol_tokens.specs.declared.token.TokenRow.{TokenRow}
-use Rattle.pol_view_rows.specs.Views.{view_named}
-
--- a state with other counters
-abbrev pub counted : Rows → Counters → Rows
-counted s counters = record s { time = counters.time; next_id = counters.next_id; next_serial = counters.next_serial }
-
--- counters that may follow those of a state: what was given out stays given out, and none is above its bound
-abbrev pub may_follow : Rows → Counters → Bool
-may_follow s counters =
-    nat_le counters.time (2 ^ 62)
-    && (nat_le s.next_id counters.next_id
-    && (nat_le s.next_serial counters.next_serial && counters_fit counters.next_id counters.next_serial))
-
--- an id and a serial that are given out with these counters, and weren't before
-abbrev pub is_new_id : Rows → Counters → ℕ → Bool
-is_new_id s counters id = nat_le s.next_id id && nat_lt id counters.next_id
-
-abbrev pub is_new_serial : Rows → Counters → ℕ → Bool
-is_new_serial s counters serial = nat_le s.next_serial serial && nat_lt serial counters.next_serial
 
 -- a session that may be opened
 abbrev pub may_open : Rows → Counters → SessionRow → Bool
@@ -49,17 +32,6 @@ may_issue s counters row = is_issued s counters row && fits_table s.content.tabl
 abbrev pub may_issue_of : Rows → Counters → TableRow → TokenRow → Bool
 may_issue_of s counters table row = is_issued s counters row && (nat_eq row.table table.id && is_fit row table)
 
--- a namespace that may be put beside the others
-abbrev pub is_namespace_new : Rows → Counters → NamespaceRow → Bool
-is_namespace_new s counters row =
-    is_new_id s counters row.id
-    && (knows catalog_id row.catalog s.content.catalogs
-    && (is_none (namespace_named row.catalog row.levels s.content)
-    && (nat_lt (length s.content.namespaces) (bound_of quantity.Namespaces) && namespace_fits row)))
-
-abbrev pub may_place_namespace : Rows → Counters → NamespaceRow → Bool
-may_place_namespace s counters row = is_namespace_new s counters row && has_parent s.content row
-
 -- a table by itself: it has moved by commits, or once besides, and no number of it is above its bound
 abbrev pub is_row : TableRow → Bool
 is_row row = nat_le row.moves (row.version + 1) && table_fits row
@@ -69,10 +41,9 @@ abbrev pub is_table_new : Rows → Counters → TableRow → Bool
 is_table_new s counters row =
     is_new_id s counters row.id
     && (knows namespace_id row.namespace s.content.namespaces
-    && (is_none (table_named row.namespace row.name s.content.tables)
-    && (is_none (view_named row.namespace row.name s.content.views)
+    && (is_name_free row.namespace row.name s.content
     && (nat_lt (length s.content.tables) (bound_of quantity.Tables)
-    && (is_row row && is_none (overlapping row.location [] s.content.tables))))))
+    && (is_row row && is_none (overlapping row.location [] s.content.tables)))))
 
 abbrev pub may_place_table : Rows → Counters → TableRow → Bool
 may_place_table s counters row = is_table_new s counters row && is_placed row
@@ -97,3 +68,7 @@ has_left s old row =
 
 abbrev pub is_move : Rows → TableRow → TableRow → Bool
 is_move s old row = keeps_name old row && (is_row row && (has_left s old row && is_placed row))
+
+-- a table that may be put in the place of one of another name, where it lies where that one lay
+abbrev pub is_rename : Rows → TableRow → TableRow → Bool
+is_rename s old row = may_take_name old.namespace row.namespace row.name s.content && (is_row row && stays old row)

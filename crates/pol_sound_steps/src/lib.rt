@@ -1,8 +1,6 @@
 //! Whether changes lead from a sound state to a sound one, at the cost of the changes where they are of a known shape.
 #![tactic(auto)]
 
-mod counters;
-mod namespaces;
 mod replaced;
 mod steps;
 mod tables;

@@ -2,13 +2,16 @@
 ghost use Rattle.std.specs.Prelude.{◌≡◌, true, IfOk, IfSome};
 ghost use Rattle.std.specs.List.{AllByRecursion};
 ghost use Rattle.pol_sound_steps.specs.Commits.{IsCommit};
-ghost use Rattle.pol_sound_steps.specs.Steps.{counted, has_left, is_commit, is_move, keeps_name, may_follow, stays};
+ghost use Rattle.pol_access_steps.specs.Counters.{counted, may_follow};
+ghost use Rattle.pol_sound_steps.specs.Steps.{has_left, is_commit, is_move, is_rename, keeps_name, stays};
 ghost use Rattle.pol_soundness.specs.Base.{rows_after, PutsValid};
 ghost use Rattle.pol_state.specs.Sound.{IsSound};
 
-use crate::counters::Counters;
-use crate::tables::{is_apart, is_placed, is_row};
+use crate::tables::{is_apart, is_row};
+use pol_access_steps::Counters;
 use pol_content::{Change, TableRow};
+use pol_content_steps::may_take_name;
+use pol_sound_content::is_placed;
 use pol_state::State;
 use pol_types::OutOfMemory;
 use std::alloc::Global;
@@ -98,4 +101,12 @@ fn has_left(state: &State, old: &TableRow, row: &TableRow) -> bool
     ensures { result ≡ has_left state.now.rows old.now row.now }
 {
     old.moves < row.moves && is_apart(state, row, &[row.id])
+}
+
+/// Whether the table may be put in the place of this one, of another name, and lies where this lay. It scans no rows.
+pub(crate) fn is_rename(state: &State, old: &TableRow, row: &TableRow) -> bool
+    requires { IsSound state.now.rows }
+    ensures { result ≡ is_rename state.now.rows old.now row.now }
+{
+    may_take_name(state, old.namespace, row.namespace, &row.name) && is_row(row) && stays(old, row)
 }

@@ -3,17 +3,17 @@ ghost use Rattle.std.specs.Prelude.{◌≡◌, true, Decides, IfOk};
 ghost use Rattle.std.specs.List.{AllByRecursion};
 ghost use Rattle.pol_content.specs.declared.change.Change.TheVariants.{PutTable};
 ghost use Rattle.pol_sound_content.specs.Valid.{HasValidMetadata};
-ghost use Rattle.pol_sound_steps.specs.Steps.{counted, may_follow};
+ghost use Rattle.pol_access_steps.specs.Counters.{counted, may_follow};
 ghost use Rattle.pol_soundness.specs.Base.{rows_after, PutsValid};
 ghost use Rattle.pol_state.specs.Applied.{changed};
 ghost use Rattle.pol_state.specs.Sound.{IsSound};
 
-use crate::counters::{Counters, counters_of, may_follow};
-use crate::namespaces::may_place_namespace;
-use crate::replaced::{are_commits, is_commit, is_move};
+use crate::replaced::{are_commits, is_commit, is_move, is_rename};
 use crate::tables::may_place_table;
 use crate::tokens::{may_issue, may_issue_of, may_open};
+use pol_access_steps::{Counters, counters_of, is_sound_fact, is_sound_holder, may_follow};
 use pol_content::{Change, TableRow};
+use pol_content_steps::{is_sound_drop, may_put_namespace, may_put_view};
 use pol_soundness::sound_after;
 use pol_state::State;
 use pol_types::OutOfMemory;
@@ -46,7 +46,7 @@ fn is_sound_step(alloc: Global, state: &State, changes: &[Change]) -> Result<boo
     are_sound_puts(alloc, state, counters, puts)
 }
 
-/// Whether changes that put rows do so in a known shape: one put, a new table with its storage token, or commits.
+/// Whether changes of rows are of a known shape: one change, a new table with its storage token, or commits.
 fn are_sound_puts(
     alloc: Global,
     state: &State,
@@ -71,7 +71,7 @@ fn are_sound_puts(
     }
 }
 
-/// Whether one row may be put.
+/// Whether one row may be put, or taken away.
 fn is_sound_put(
     alloc: Global,
     state: &State,
@@ -87,9 +87,14 @@ fn is_sound_put(
     match put {
         Change::PutSession(row) => Ok(may_open(state, counters, row.row())),
         Change::PutToken(row) => Ok(may_issue(state, counters, row.row())),
-        Change::PutNamespace(row) => may_place_namespace(alloc, state, counters, row.row()),
+        Change::PutNamespace(row) => may_put_namespace(alloc, state, counters, row.row()),
         Change::PutTable(table) => may_put_table(alloc, state, counters, table.row().row()),
-        _ => Ok(false),
+        Change::PutView(row) => may_put_view(alloc, state, counters, row.row()),
+        _ => Ok(
+            is_sound_holder(state, counters, put)
+                || is_sound_fact(state, counters, put)
+                || is_sound_drop(state, counters, put),
+        ),
     }
 }
 
@@ -110,6 +115,9 @@ fn may_put_table(
         return may_place_table(alloc, state, counters, row);
     };
     if is_commit(old, row) {
+        return Ok(true);
+    }
+    if is_rename(state, old, row) {
         return Ok(true);
     }
     is_move(alloc, state, old, row)

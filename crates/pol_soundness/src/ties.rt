@@ -42,7 +42,8 @@ fn grants_within(access: &Access, content: &Content) -> bool
     access.grants().all(|row| is_within(access, content, row))
 }
 
-fn is_within(access: &Access, content: &Content, row: &GrantRow) -> bool
+/// Whether what a grant is on is there, and lies in the catalogue of the grant's role.
+pub fn is_within(access: &Access, content: &Content, row: &GrantRow) -> bool
     ensures { result ≡ is_within access.now.rows content.now.rows row.now }
 {
     let Some(role) = access.catalog_role(row.catalog_role) else {

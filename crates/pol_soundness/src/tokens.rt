@@ -34,7 +34,8 @@ fn each_session(rows: &[SessionRow], next_id: u64) -> bool
     rows.iter().all(|row| is_session(next_id, row))
 }
 
-fn is_session(next_id: u64, row: &SessionRow) -> bool
+/// Whether the ids that a session names were given out.
+pub fn is_session(next_id: u64, row: &SessionRow) -> bool
     ensures { result ≡ is_session next_id row.now }
 {
     is_given(next_id, row.principal) && are_given(next_id, &row.scope)
@@ -68,7 +69,8 @@ fn each_token(rows: &[TokenRow], next_id: u64) -> bool
     rows.iter().all(|row| is_token(next_id, row))
 }
 
-fn is_token(next_id: u64, row: &TokenRow) -> bool
+/// Whether the ids that a storage token names were given out.
+pub fn is_token(next_id: u64, row: &TokenRow) -> bool
     ensures { result ≡ is_token next_id row.now }
 {
     is_given(next_id, row.principal) && is_given(next_id, row.table)
@@ -102,7 +104,8 @@ pub(crate) fn are_fit(content: &Content, tokens: &Tokens) -> bool
     tokens.tokens().all(|row| fits_table(content, row))
 }
 
-fn fits_table(content: &Content, row: &TokenRow) -> bool
+/// Whether the storage token fits its table, where that is there.
+pub fn fits_table(content: &Content, row: &TokenRow) -> bool
     ensures { result ≡ fits_table content.now.rows.tables row.now }
 {
     match content.table_of(row.table) {
@@ -112,7 +115,7 @@ fn fits_table(content: &Content, row: &TokenRow) -> bool
 }
 
 /// Whether the token has seen fewer moves than the table, or it has seen as many and has its location.
-fn is_fit(token: &TokenRow, table: &TableRow) -> bool
+pub fn is_fit(token: &TokenRow, table: &TableRow) -> bool
     ensures { result ≡ is_fit token.now table.now }
 {
     token.moves < table.moves || (token.moves == table.moves && token.location == table.location)

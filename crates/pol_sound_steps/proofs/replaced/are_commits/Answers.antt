@@ -1,8 +1,8 @@
 use Rattle.std.proofs.Common.{refl, subst, arith}
 use Rattle.pol_sound_steps.specs.Commits.{HaveLed}
-use Rattle.pol_sound_steps.specs.Steps.{counted}
+use Rattle.pol_access_steps.specs.Counters.{counted}
 use Rattle.pol_sound_steps.proofs.CommitLemmas.{all-led, id-bound, more-led, none-led}
-use Rattle.pol_sound_steps.proofs.CountersLemmas.{counted-sound}
+use Rattle.pol_access_steps.proofs.CountersLemmas.{counted-sound}
 use Rattle.pol_sound_steps.proofs.ItemsLemmas.{no-item}
 use Rattle.pol_sound_steps.proofs.replaced.are_commits.Goals as goal
 

@@ -1,6 +1,6 @@
 use Rattle.std.proofs.Common.{length}
 use Rattle.pol_sound_steps.specs.Commits.{HaveLed}
-use Rattle.pol_sound_steps.specs.Steps.{counted}
+use Rattle.pol_access_steps.specs.Counters.{counted}
 use Rattle.pol_sound_steps.proofs.replaced.are_commits.Given as goal
 
 -- the commits so far have led to a sound state

@@ -1,6 +1,6 @@
 use Rattle.std.proofs.Common.{◌≡◌, List, true, sym, subst, IfOk}
 use Rattle.pol_content.specs.declared.change.Change.{Change}
-use Rattle.pol_sound_steps.specs.Steps.{counted}
+use Rattle.pol_access_steps.specs.Counters.{counted}
 use Rattle.pol_sound_steps.proofs.ItemsLemmas.{one-item, two-items}
 use Rattle.pol_soundness.specs.Base.{rows_after}
 use Rattle.pol_state.specs.Sound.{IsSound}

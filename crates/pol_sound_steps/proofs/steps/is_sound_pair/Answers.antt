@@ -2,7 +2,8 @@ use Rattle.std.proofs.Common.{◌≡◌, true, sym, ap, subst, ◌∙◌}
 use Rattle.pol_content.specs.declared.change.Change.{Change}
 use Rattle.pol_content.specs.declared.change.Change.TheVariants.{PutTable, PutToken}
 use Rattle.pol_sound_access.proofs.FoundLemmas.{if_ok}
-use Rattle.pol_sound_steps.specs.Steps.{counted, may_place_table}
+use Rattle.pol_access_steps.specs.Counters.{counted}
+use Rattle.pol_sound_steps.specs.Steps.{may_place_table}
 use Rattle.pol_sound_steps.proofs.TableLemmas.{placed-sound}
 use Rattle.pol_sound_steps.proofs.TokenLemmas.{issued_of-sound}
 use Rattle.pol_state.specs.Applied.{changed}

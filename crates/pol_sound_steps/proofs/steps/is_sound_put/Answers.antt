@@ -1,8 +1,10 @@
 use Rattle.std.proofs.Common.{◌≡◌, true, sym, ap, subst, ◌∙◌}
 use Rattle.pol_content.specs.declared.change.Change.{Change}
 use Rattle.pol_sound_access.proofs.FoundLemmas.{if_ok}
-use Rattle.pol_sound_steps.specs.Steps.{counted, may_issue, may_open, may_place_namespace}
-use Rattle.pol_sound_steps.proofs.NamespaceLemmas.{namespace-sound}
+use Rattle.pol_access_steps.specs.Counters.{counted}
+use Rattle.pol_content_steps.specs.Properties.{may_put_namespace}
+use Rattle.pol_sound_steps.specs.Steps.{may_issue, may_open}
+use Rattle.pol_content_steps.proofs.PropertyLemmas.{put_namespace-sound}
 use Rattle.pol_sound_steps.proofs.TokenLemmas.{issued-sound, opened-sound}
 use Rattle.pol_state.specs.Applied.{changed}
 use Rattle.pol_state.specs.Sound.{IsSound}
@@ -23,6 +25,6 @@ returns-in-PutToken c =
 pub returns-in-PutNamespace : goal.returns-in-PutNamespace
 returns-in-PutNamespace c =
     let s = c.args.state.now.rows in
-    if_ok (λ may. may ≡ may_place_namespace s c.args.counters c.row-in-PutNamespace.result.now) (λ sound. sound ≡ true → IsSound (changed (counted s c.args.counters) c.args.put.now)) c.may_place_namespace.result
+    if_ok (λ may. may ≡ may_put_namespace s c.args.counters c.row-in-PutNamespace.result.now) (λ sound. sound ≡ true → IsSound (changed (counted s c.args.counters) c.args.put.now)) c.may_put_namespace.result
     (λ may is passes. subst (λ (put : Change). IsSound (changed (counted s c.args.counters) put)) (sym c.in-PutNamespace.is)
-    (namespace-sound s c.requires.sound c.args.counters c.requires.follows c.in-PutNamespace.row (sym (is ∙ ap (may_place_namespace s c.args.counters) c.row-in-PutNamespace.ensures) ∙ passes))) c.may_place_namespace.ensures
+    (put_namespace-sound s c.requires.sound c.args.counters c.requires.follows c.in-PutNamespace.row (sym (is ∙ ap (may_put_namespace s c.args.counters) c.row-in-PutNamespace.ensures) ∙ passes))) c.may_put_namespace.ensures

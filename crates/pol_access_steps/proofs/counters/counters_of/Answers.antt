@@ -2,8 +2,8 @@ use Rattle.pol_soundness.specs.Base.{PutsValid}
 use Rattle.std.proofs.Common.{List, subst}
 use Rattle.std.specs.List.{AllByRecursion}
 use Rattle.pol_content.specs.declared.change.Change.{Change}
-use Rattle.pol_sound_steps.proofs.CountersLemmas.{one-set}
-use Rattle.pol_sound_steps.proofs.counters.counters_of.Goals as goal
+use Rattle.pol_access_steps.proofs.CountersLemmas.{one-set}
+use Rattle.pol_access_steps.proofs.counters.counters_of.Goals as goal
 
 pub loop-first-preserved : goal.loop-first-preserved
 loop-first-preserved c =

@@ -12,11 +12,12 @@ use Rattle.pol_names.specs.Namespace.{parent_of}
 use Rattle.pol_rules.proofs.SoundLemmas.{next_id-some}
 use Rattle.pol_sound_bounds.specs.Judged.{namespace_fits}
 use Rattle.pol_sound_content.specs.Judged.{has_parent, is_parent_there}
-use Rattle.pol_sound_steps.specs.Steps.{counted, is_namespace_new, is_new_id, may_follow, may_place_namespace}
-use Rattle.pol_sound_steps.specs.declared.counters.Counters.{Counters}
-use Rattle.pol_sound_steps.proofs.BoundsLemmas.{all-with, few-with, fits-of, namespaces-fit, within-of}
-use Rattle.pol_sound_steps.proofs.CountersLemmas.{counted-sound, new-id, no-access_id, unknown-later}
-use Rattle.pol_sound_steps.proofs.TableLemmas.{none-told}
+use Rattle.pol_access_steps.specs.Counters.{counted, is_new_id, may_follow}
+use Rattle.pol_content_steps.specs.Namespaces.{is_namespace_new, may_place_namespace}
+use Rattle.pol_access_steps.specs.declared.counters.Counters.{Counters}
+use Rattle.pol_access_steps.proofs.BoundsLemmas.{all-with, few-with, fits-of, namespaces-fit, within-of}
+use Rattle.pol_access_steps.proofs.CountersLemmas.{counted-sound, new-id, no-access_id, unknown-later}
+use Rattle.pol_access_steps.proofs.CountersLemmas.{none-told}
 use Rattle.pol_state.specs.Applied.{changed}
 use Rattle.pol_state.specs.Bounds.{bound_of}
 use Rattle.pol_state.specs.Rows.{Rows}

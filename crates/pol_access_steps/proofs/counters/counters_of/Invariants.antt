@@ -1,8 +1,8 @@
 use Rattle.std.proofs.Common.{◌≡◌, length}
 use Rattle.std.specs.List.{AllByRecursion}
-use Rattle.pol_sound_steps.specs.Steps.{counted}
+use Rattle.pol_access_steps.specs.Counters.{counted}
 use Rattle.pol_soundness.specs.Base.{rows_after, PutsValid}
-use Rattle.pol_sound_steps.proofs.counters.counters_of.Given as goal
+use Rattle.pol_access_steps.proofs.counters.counters_of.Given as goal
 
 -- the changes so far have set these counters
 abbrev pub invariant-loop-first : goal.invariant-loop-first

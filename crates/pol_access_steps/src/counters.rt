@@ -1,15 +1,13 @@
 //! The counters that changes set before they put rows.
 ghost use Rattle.std.specs.Prelude.{◌≡◌, IfSome};
 ghost use Rattle.std.specs.List.{AllByRecursion};
-ghost use Rattle.pol_sound_bounds.specs.Judged.{counters_fit};
-ghost use Rattle.pol_sound_steps.specs.Steps.{counted, is_new_id, is_new_serial, may_follow};
+ghost use Rattle.pol_access_steps.specs.Counters.{counted, is_new_id, is_new_serial, may_follow};
 ghost use Rattle.pol_soundness.specs.Base.{rows_after, PutsValid};
 ghost use Rattle.pol_state.specs.Applied.{changed};
 ghost use Rattle.pol_state.specs.Rows.{Rows};
 
-use pol_commands::Quantity;
 use pol_content::Change;
-use pol_rules::rules::bound_of;
+use pol_sound_bounds::counters_fit;
 use pol_state::State;
 
 /// The greatest time.
@@ -17,14 +15,14 @@ const TIME_BOUND: u64 = 1 << 62;
 
 /// The time, the next id and the next serial of a state.
 #[derive(Clone, Copy)]
-pub(crate) struct Counters {
+pub struct Counters {
     pub time: u64,
     pub next_id: u64,
     pub next_serial: u64,
 }
 
 /// The counters that the changes set before they put a row, and the changes from that one on.
-pub(crate) fn counters_of<'a>(state: &State, changes: &'a [Change]) -> (Counters, &'a [Change])
+pub fn counters_of<'a>(state: &State, changes: &'a [Change]) -> (Counters, &'a [Change])
     ensures rows { rows_after changes.now state.now.rows
         ≡ rows_after result.1.now (counted state.now.rows result.0) }
     ensures valid { AllByRecursion PutsValid changes.now → AllByRecursion PutsValid result.1.now }
@@ -67,32 +65,24 @@ fn counters_after(counters: Counters, change: &Change) -> Option<Counters>
 }
 
 /// Whether the counters may follow those of the state.
-pub(crate) fn may_follow(state: &State, counters: Counters) -> bool
+pub fn may_follow(state: &State, counters: Counters) -> bool
     ensures { result ≡ may_follow state.now.rows counters }
 {
     counters.time <= TIME_BOUND
         && state.next_id() <= counters.next_id
         && state.next_serial() <= counters.next_serial
-        && counters_fit(counters)
-}
-
-/// Whether the next id and the next serial are within their bounds.
-fn counters_fit(counters: Counters) -> bool
-    ensures { result ≡ counters_fit counters.next_id counters.next_serial }
-{
-    counters.next_id <= bound_of(Quantity::NextId)
-        && counters.next_serial <= bound_of(Quantity::NextSerial)
+        && counters_fit(counters.next_id, counters.next_serial)
 }
 
 /// Whether the id is one of those that the changes give out.
-pub(crate) fn is_new_id(state: &State, counters: Counters, id: u64) -> bool
+pub fn is_new_id(state: &State, counters: Counters, id: u64) -> bool
     ensures { result ≡ is_new_id state.now.rows counters id }
 {
     state.next_id() <= id && id < counters.next_id
 }
 
 /// Whether the serial is one of those that the changes give out.
-pub(crate) fn is_new_serial(state: &State, counters: Counters, serial: u64) -> bool
+pub fn is_new_serial(state: &State, counters: Counters, serial: u64) -> bool
     ensures { result ≡ is_new_serial state.now.rows counters serial }
 {
     state.next_serial() <= serial && serial < counters.next_serial

@@ -1,5 +1,5 @@
 -- Counters that follow those of a state, and what is new by them.
-use Rattle.std.proofs.Common.{◌≡◌, ℕ, ◌<◌, ◌≤◌, ◌^◌, true, false, ◌&&◌, nat_le, nat_lt, List, ◌∷◌, ap, ◌∙◌, arith}
+use Rattle.std.proofs.Common.{Option, None, Some, is_none, refl, sym, true≢false, ◌≡◌, ℕ, ◌<◌, ◌≤◌, ◌^◌, true, false, ◌&&◌, nat_le, nat_lt, List, ◌∷◌, ap, ◌∙◌, arith}
 use Rattle.std.proofs.lemmas.Bool.{and_parts, leb-true, ltb-true}
 use Rattle.pol_access.proofs.SoundLemmas.{given-later, more_ids as access_more_ids}
 use Rattle.pol_access.specs.Access.{catalog_role_id, principal_id, principal_role_id}
@@ -10,9 +10,9 @@ use Rattle.pol_content.specs.declared.change.Change.{Change}
 use Rattle.pol_names.specs.declared.scope.Scope.{Scope}
 use Rattle.pol_names.specs.declared.scope.Scope.TheVariants as scope
 use Rattle.pol_sound_bounds.specs.Judged.{counters_fit}
-use Rattle.pol_sound_steps.specs.Steps.{counted, is_new_id, is_new_serial, may_follow}
-use Rattle.pol_sound_steps.specs.declared.counters.Counters.{Counters}
-use Rattle.pol_sound_steps.proofs.BoundsLemmas.{fits-of, within-of}
+use Rattle.pol_access_steps.specs.Counters.{counted, is_new_id, is_new_serial, may_follow}
+use Rattle.pol_access_steps.specs.declared.counters.Counters.{Counters}
+use Rattle.pol_access_steps.proofs.BoundsLemmas.{fits-of, within-of}
 use Rattle.pol_soundness.specs.Base.{rows_after}
 use Rattle.pol_state.specs.Applied.{changed}
 use Rattle.pol_state.specs.Rows.{Rows}
@@ -118,3 +118,8 @@ pub one-set : (s : Rows) (counters after : Counters) (changes left rest : List C
 unfolding rows_after
 one-set s counters after changes left rest first led is sets =
     led ∙ ap (λ some. rows_after some (counted s counters)) is ∙ ap (rows_after rest) (sets s)
+
+-- nothing was found
+pub none-told : {A : Type 0} (found : Option A) → is_none found ≡ true → found ≡ None
+none-told None none = refl
+none-told (Some one) none = absurd (true≢false (sym none))

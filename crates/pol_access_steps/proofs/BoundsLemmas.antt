@@ -14,6 +14,7 @@ use Rattle.pol_state.specs.Bounds.{over_limit}
 use Rattle.pol_state.specs.Rows.{Rows}
 use Rattle.pol_state.specs.Sound.{IsSound}
 use Rattle.pol_table_rows.specs.declared.row.TableRow.{TableRow}
+use Rattle.pol_view_rows.specs.declared.row.ViewRow.{ViewRow}
 use Rattle.pol_tables.specs.Table.{has_id, knows, rows_with}
 use Rattle.pol_tables.proofs.NamedLemmas.{each-rows_with}
 use Rattle.pol_tables.proofs.TableLemmas.{rows_with-known, rows_with-new}
@@ -70,7 +71,7 @@ module _ (s : Rows) where
   pub within-of : Fits s → over_limit s ≡ None
   within-of f = (bounds-decide s).0 (fit-decides.1 f)
 
-  -- with other tables, and with other namespaces
+  -- with other tables, other namespaces, and other views
   pub tables-fit : (rows : List TableRow) → Fits s → Is (fits quantity.Tables (length rows)) → Is (list_all table_fits rows) → Fits (record s { content = record s.content { tables = rows } })
   tables-fit rows f few all = record {
     parts = (f.parts.0, (f.parts.1.0, (few, f.parts.1.1.1)));
@@ -87,6 +88,15 @@ module _ (s : Rows) where
     facts = f.facts;
     counters = f.counters;
     numbers = (f.numbers.0, (all, f.numbers.1.1));
+  }
+
+  pub views-fit : (rows : List ViewRow) → Fits s → Is (fits quantity.Views (length rows)) → Is (list_all view_fits rows) → Fits (record s { content = record s.content { views = rows } })
+  views-fit rows f few all = record {
+    parts = (f.parts.0, (f.parts.1.0, (f.parts.1.1.0, few)));
+    holders = f.holders;
+    facts = f.facts;
+    counters = f.counters;
+    numbers = (f.numbers.0, (f.numbers.1.0, (f.numbers.1.1.0, all)));
   }
 
 module _ {R : Type 0} (key : R → ℕ) (row : R) (rows : List R) where

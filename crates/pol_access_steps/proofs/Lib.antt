@@ -1,0 +1,4 @@
+pub mod BoundsLemmas
+pub mod CountersLemmas
+pub mod FactLemmas
+pub mod HolderLemmas

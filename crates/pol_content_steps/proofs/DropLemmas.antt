@@ -1,0 +1,293 @@
+-- A sound state without a row that nothing else names is sound.
+use Rattle.std.proofs.Common.{◌≡◌, ◌≢◌, ℕ, ◌≤◌, Bool, true, false, not, cond, ◌&&◌, nat_le, codes, List, [], ◌∷◌, filter, length, Option, None, Some, option_map, refl, sym, ap, subst, ◌∙◌, arith, true≢false}
+use Rattle.std.specs.Prelude.{Decides}
+use Rattle.std.specs.List.{list_all, AllByRecursion}
+use Rattle.std.specs.Str.{bytes_eq}
+use Rattle.std.proofs.lemmas.Bool.{and_from, and_parts, le-leb, leb-true}
+use Rattle.pol_access.specs.Access.{AccessRows, catalog_role_dropped, catalog_role_id, catalog_role_name, grants_on_dropped, principal_dropped, principal_id, principal_name, principal_role_dropped, principal_role_id, principal_role_name, unnamed}
+use Rattle.pol_access.specs.Referent.{grant_names, join_names, member_names}
+use Rattle.pol_access.specs.declared.referent.Referent.TheVariants as referent
+use Rattle.pol_access.specs.declared.rows.CatalogRoleRow.{CatalogRoleRow}
+use Rattle.pol_access.specs.declared.rows.PrincipalRoleRow.{PrincipalRoleRow}
+use Rattle.pol_access.specs.declared.rows.PrincipalRow.{PrincipalRow}
+use Rattle.pol_access.specs.declared.securable.Securable.{Securable}
+use Rattle.pol_access.specs.declared.securable.Securable.TheVariants as securable
+use Rattle.pol_access.proofs.KeptLemmas.{not-true}
+use Rattle.pol_access.proofs.SoundLemmas as access
+use Rattle.pol_commands.specs.declared.reply.Quantity.TheVariants as quantity
+use Rattle.pol_content.specs.Content.{ContentRows, is_empty, namespace_id}
+use Rattle.pol_content.specs.declared.change.Change.TheVariants.{DropCatalogRole, DropNamespace, DropPrincipal, DropPrincipalRole, DropTable, DropView}
+use Rattle.pol_content.proofs.SoundLemmas as content
+use Rattle.pol_content.proofs.SoundLemmas.{no-parts}
+use Rattle.pol_content.proofs.SoundViewsLemmas as views
+use Rattle.pol_content.proofs.TiedContentLemmas as tied
+use Rattle.pol_content.proofs.TiedViewsLemmas as tied_views
+use Rattle.pol_content.proofs.TiesLemmas as ties
+use Rattle.pol_rules.proofs.FitLemmas.{fit-dropped}
+use Rattle.pol_rules.proofs.FoundLemmas.{text-same}
+use Rattle.pol_sound_access.proofs.DecidedLemmas.{each, passes}
+use Rattle.pol_sound_bounds.specs.Judged.{fits, namespace_fits, table_fits, view_fits}
+use Rattle.pol_content_steps.specs.Drops.{has_other_name, lacks_grants, lacks_joins, lacks_members, may_drop_catalog_role, may_drop_namespace, may_drop_principal, may_drop_principal_role, may_drop_table, may_drop_view, none_names}
+use Rattle.pol_access_steps.specs.Counters.{counted, may_follow}
+use Rattle.pol_access_steps.specs.declared.counters.Counters.{Counters}
+use Rattle.pol_access_steps.proofs.BoundsLemmas.{fits-of, namespaces-fit, tables-fit, views-fit, within-of, Fits}
+use Rattle.pol_access_steps.proofs.CountersLemmas.{counted-sound}
+use Rattle.pol_state.specs.Applied.{changed}
+use Rattle.pol_state.specs.Bounds.{bound_of}
+use Rattle.pol_state.specs.Rows.{Rows}
+use Rattle.pol_state.specs.Sound.{AreTied, IsSound, IsSoundAccess}
+use Rattle.pol_table_rows.specs.Tables.{table_id}
+use Rattle.pol_tables.specs.Table.{has_id, row_of, rows_without}
+use Rattle.pol_tables.proofs.ListLemmas.{each-filter}
+use Rattle.pol_tables.proofs.RisingLemmas.{IdsDiffer-rising}
+use Rattle.pol_tables.proofs.TableLemmas.{key-row_of}
+use Rattle.pol_view_rows.specs.Views.{view_id}
+
+-- facts of which none is named are all unnamed
+all-unnamed : {T : Type 0} (names : T → Bool) (facts : List T) → none_names names facts ≡ true → unnamed names facts ≡ facts
+all-unnamed names [] free = refl
+all-unnamed names (fact ∷ facts) free =
+    let parts = and_parts (not (names fact)) (none_names names facts) free in
+    λ i. cond (parts.0 i) (fact ∷ all-unnamed names facts parts.1 i) (unnamed names facts)
+
+-- rows of which some are left out: they are no more, and pass each test that all passed
+module _ {R : Type 0} (keep : R → Bool) where
+  fewer : (rows : List R) → length (filter keep rows) ≤ length rows
+  fewer [] = omega arith
+  fewer (row ∷ rows) =
+      let rest = fewer rows in
+      elim (keep row) as (λ b. length (cond b (row ∷ filter keep rows) (filter keep rows)) ≤ length (row ∷ rows)) [ true ↦ omega (arith, rest) | false ↦ omega (arith, rest) ]
+
+module _ {R : Type 0} (key : R → ℕ) (id : ℕ) (rows : List R) where
+  few-without : (bound : ℕ) → nat_le (length rows) bound ≡ true → nat_le (length (rows_without key id rows)) bound ≡ true
+  unfolding rows_without
+  few-without bound few =
+      le-leb (length (rows_without key id rows)) bound (omega (arith, fewer (λ row. not (has_id key id row)) rows, leb-true (length rows) bound few))
+
+  all-without : (test : R → Bool) → list_all test rows ≡ true → list_all test (rows_without key id rows) ≡ true
+  unfolding rows_without
+  all-without test all =
+      let tested : (some : List R) → Decides (list_all test some) (AllByRecursion (λ row. test row ≡ true) some) = each test (λ row. test row ≡ true) (λ row. passes (test row)) in
+      (tested (rows_without key id rows)).1 (each-filter (λ row. test row ≡ true) (λ row. not (has_id key id row)) rows ((tested rows).0 all))
+
+-- the bounds with other views, principals, principal roles and catalogue roles
+module _ (s : Rows) (f : Fits s) where
+  abbrev few_principals : Bool
+  few_principals = fits quantity.Principals (length s.access.principals)
+
+  abbrev few_roles : Bool
+  few_roles = fits quantity.PrincipalRoles (length s.access.principal_roles)
+
+  abbrev few_catalog_roles : Bool
+  few_catalog_roles = fits quantity.CatalogRoles (length s.access.catalog_roles)
+
+  record FewHolders : Type 0 where
+    pub principals : few_principals ≡ true
+    pub roles : few_roles ≡ true
+    pub catalog_roles : few_catalog_roles ≡ true
+
+  few-holders : FewHolders
+  few-holders =
+      let first = and_parts few_principals (few_roles && few_catalog_roles) f.holders in
+      let last = and_parts few_roles few_catalog_roles first.1 in
+      record { principals = first.0; roles = last.0; catalog_roles = last.1 }
+
+  principals-fit : (rows : List PrincipalRow) → fits quantity.Principals (length rows) ≡ true → Fits (record s { access = record s.access { principals = rows } })
+  principals-fit rows few = record {
+    parts = f.parts;
+    holders = and_from (fits quantity.Principals (length rows)) (few_roles && few_catalog_roles) few (and_parts few_principals (few_roles && few_catalog_roles) f.holders).1;
+    facts = f.facts;
+    counters = f.counters;
+    numbers = f.numbers;
+  }
+
+  principal_roles-fit : (rows : List PrincipalRoleRow) → fits quantity.PrincipalRoles (length rows) ≡ true → Fits (record s { access = record s.access { principal_roles = rows } })
+  principal_roles-fit rows few =
+      let few_after = fits quantity.PrincipalRoles (length rows) in
+      record {
+        parts = f.parts;
+        holders = and_from few_principals (few_after && few_catalog_roles) few-holders.principals (and_from few_after few_catalog_roles few few-holders.catalog_roles);
+        facts = f.facts;
+        counters = f.counters;
+        numbers = f.numbers;
+      }
+
+  catalog_roles-fit : (rows : List CatalogRoleRow) → fits quantity.CatalogRoles (length rows) ≡ true → Fits (record s { access = record s.access { catalog_roles = rows } })
+  catalog_roles-fit rows few =
+      let few_after = fits quantity.CatalogRoles (length rows) in
+      record {
+        parts = f.parts;
+        holders = and_from few_principals (few_roles && few_after) few-holders.principals (and_from few_roles few_after few-holders.roles few);
+        facts = f.facts;
+        counters = f.counters;
+        numbers = f.numbers;
+      }
+
+-- the row of an id that has another name than this one
+record IsOther {R : Type 0} (key : R → ℕ) (name : R → List ℕ) (reserved : List ℕ) (id : ℕ) (rows : List R) : Type 0 where
+  pub row : R
+  pub id_is : key row ≡ id
+  pub found : row_of key (key row) rows ≡ Some row
+  pub other : name row ≢ reserved
+
+other-named : (reserved name : List ℕ) → not (bytes_eq reserved name) ≡ true → name ≢ reserved
+other-named reserved name apart is =
+    true≢false (sym (text-same reserved name (sym is)) ∙ not-true (bytes_eq reserved name) apart)
+
+module _ {R : Type 0} (key : R → ℕ) (name : R → List ℕ) (reserved : List ℕ) (id : ℕ) (rows : List R) where
+  other-found : has_other_name reserved (option_map name (row_of key id rows)) ≡ true → IsOther key name reserved id rows
+  other-found passed = by (row_of key id rows) refl passed
+    where
+      by : (found : Option R) → row_of key id rows ≡ found → has_other_name reserved (option_map name found) ≡ true → IsOther key name reserved id rows
+      by None is none = absurd (true≢false (sym none))
+      by (Some row) is apart =
+          let own = key-row_of key id row rows is in
+          record {
+            row = row;
+            id_is = sym own;
+            found = ap (λ n. row_of key n rows) (sym own) ∙ is;
+            other = other-named reserved (name row) apart;
+          }
+
+module _ (s : Rows) (sound : IsSound s) where
+  f : Fits s
+  f = fits-of s sound
+
+  -- where no grant is on a securable, the grants on it may be dropped
+  none-on : (one : Securable) (content : ContentRows) → lacks_grants (referent.Securable one) s.access ≡ true → AreTied (grants_on_dropped one s.access) content → AreTied s.access content
+  none-on one content free are =
+      subst (λ grants. AreTied (record s.access { grants = grants }) content) (all-unnamed (grant_names s.access.catalog_roles (referent.Securable one)) s.access.grants free) are
+
+  table-dropped : (id : ℕ) → may_drop_table s id ≡ true → IsSound (changed s (DropTable id))
+  table-dropped id may =
+      let rows = s.content.tables in
+      let few = few-without table_id id rows (bound_of quantity.Tables) f.parts.1.1.0 in
+      record {
+        orderly = record {
+          access = sound.orderly.access;
+          content = content.dropped_table s.next_id id s.content sound.orderly.content;
+          ties = none-on (securable.Table id) (record s.content { tables = rows_without table_id id rows }) may (tied.dropped_table s.access s.content sound.orderly.ties id);
+          tokens = sound.orderly.tokens;
+          tokens_fit = fit-dropped s sound id;
+          time_bound = sound.orderly.time_bound;
+          charged_bound = sound.orderly.charged_bound;
+        };
+        within = within-of (changed s (DropTable id)) (tables-fit s (rows_without table_id id rows) f few (all-without table_id id rows table_fits f.numbers.1.1.0));
+      }
+
+  view-dropped : (id : ℕ) → may_drop_view s id ≡ true → IsSound (changed s (DropView id))
+  view-dropped id may =
+      let rows = s.content.views in
+      let few = few-without view_id id rows (bound_of quantity.Views) f.parts.1.1.1 in
+      record {
+        orderly = record {
+          access = sound.orderly.access;
+          content = views.dropped_view s.next_id s.content sound.orderly.content id;
+          ties = none-on (securable.View id) (record s.content { views = rows_without view_id id rows }) may (tied_views.dropped_view s.access s.content sound.orderly.ties id);
+          tokens = sound.orderly.tokens;
+          tokens_fit = sound.orderly.tokens_fit;
+          time_bound = sound.orderly.time_bound;
+          charged_bound = sound.orderly.charged_bound;
+        };
+        within = within-of (changed s (DropView id)) (views-fit s (rows_without view_id id rows) f few (all-without view_id id rows view_fits f.numbers.1.1.1));
+      }
+
+  namespace-dropped : (id : ℕ) → may_drop_namespace s id ≡ true → IsSound (changed s (DropNamespace id))
+  namespace-dropped id may =
+      let rows = s.content.namespaces in
+      let after = rows_without namespace_id id rows in
+      let few = few-without namespace_id id rows (bound_of quantity.Namespaces) f.parts.1.0 in
+      let both = and_parts (is_empty id s.content) (lacks_grants (referent.Securable (securable.Namespace id)) s.access) may in
+      let parts = no-parts id s.content both.0 in
+      record {
+        orderly = record {
+          access = sound.orderly.access;
+          content = content.dropped_namespace s.next_id id s.content sound.orderly.content both.0;
+          ties = none-on (securable.Namespace id) (record s.content { namespaces = after }) both.1 (tied.dropped_namespace s.access s.content sound.orderly.ties id parts.1 parts.2);
+          tokens = sound.orderly.tokens;
+          tokens_fit = sound.orderly.tokens_fit;
+          time_bound = sound.orderly.time_bound;
+          charged_bound = sound.orderly.charged_bound;
+        };
+        within = within-of (changed s (DropNamespace id)) (namespaces-fit s after f few (all-without namespace_id id rows namespace_fits f.numbers.1.0));
+      }
+
+  -- a sound state with other principals and roles
+  with-access : (after : AccessRows) → IsSoundAccess s.next_id after → AreTied after s.content → Fits (record s { access = after }) → IsSound (record s { access = after })
+  with-access after itself are fit = record {
+    orderly = record {
+      access = itself;
+      content = sound.orderly.content;
+      ties = are;
+      tokens = sound.orderly.tokens;
+      tokens_fit = sound.orderly.tokens_fit;
+      time_bound = sound.orderly.time_bound;
+      charged_bound = sound.orderly.charged_bound;
+    };
+    within = within-of (record s { access = after }) fit;
+  }
+
+  principal-dropped : (id : ℕ) → may_drop_principal s id ≡ true → IsSound (changed s (DropPrincipal id))
+  principal-dropped id may =
+      let rows = s.access.principals in
+      let parts = and_parts (has_other_name (codes "root") (option_map principal_name (row_of principal_id id rows))) (lacks_members (referent.Principal id) s.access) may in
+      let gone = other-found principal_id principal_name (codes "root") id rows parts.0 in
+      let after : AccessRows = record s.access { principals = rows_without principal_id id rows } in
+      let members = all-unnamed (member_names (referent.Principal id)) s.access.members parts.1 in
+      let is : principal_dropped id s.access ≡ after = λ i. record after { members = members i } in
+      let itself = subst (λ n. IsSoundAccess s.next_id (principal_dropped n s.access)) gone.id_is (access.dropped_principal s.next_id s.access gone.row sound.orderly.access gone.found gone.other) in
+      with-access after (subst (IsSoundAccess s.next_id) is itself) (subst (λ one. AreTied one s.content) is (ties.dropped_principal s.access s.content sound.orderly.ties id))
+      (principals-fit s f (rows_without principal_id id rows) (few-without principal_id id rows (bound_of quantity.Principals) (few-holders s f).principals))
+
+  principal_role-dropped : (id : ℕ) → may_drop_principal_role s id ≡ true → IsSound (changed s (DropPrincipalRole id))
+  principal_role-dropped id may =
+      let rows = s.access.principal_roles in
+      let free = lacks_members (referent.PrincipalRole id) s.access && lacks_joins (referent.PrincipalRole id) s.access in
+      let first = and_parts (has_other_name (codes "service_admin") (option_map principal_role_name (row_of principal_role_id id rows))) free may in
+      let last = and_parts (lacks_members (referent.PrincipalRole id) s.access) (lacks_joins (referent.PrincipalRole id) s.access) first.1 in
+      let gone = other-found principal_role_id principal_role_name (codes "service_admin") id rows first.0 in
+      let after : AccessRows = record s.access { principal_roles = rows_without principal_role_id id rows } in
+      let members = all-unnamed (member_names (referent.PrincipalRole id)) s.access.members last.0 in
+      let joins = all-unnamed (join_names s.access.catalog_roles (referent.PrincipalRole id)) s.access.joins last.1 in
+      let is : principal_role_dropped id s.access ≡ after = λ i. record after { members = members i; joins = joins i } in
+      let itself = access.dropped_principal_role s.next_id s.access gone.row sound.orderly.access gone.found gone.other in
+      let are = ties.dropped_principal_role s.access s.content sound.orderly.ties gone.row (IdsDiffer-rising principal_role_id rows sound.orderly.access.principal_roles.rise) gone.found gone.other in
+      with-access after (subst (IsSoundAccess s.next_id) is (subst (λ n. IsSoundAccess s.next_id (principal_role_dropped n s.access)) gone.id_is itself))
+      (subst (λ one. AreTied one s.content) is (subst (λ n. AreTied (principal_role_dropped n s.access) s.content) gone.id_is are))
+      (principal_roles-fit s f (rows_without principal_role_id id rows) (few-without principal_role_id id rows (bound_of quantity.PrincipalRoles) (few-holders s f).roles))
+
+  catalog_role-dropped : (id : ℕ) → may_drop_catalog_role s id ≡ true → IsSound (changed s (DropCatalogRole id))
+  catalog_role-dropped id may =
+      let rows = s.access.catalog_roles in
+      let free = lacks_joins (referent.CatalogRole id) s.access && lacks_grants (referent.CatalogRole id) s.access in
+      let first = and_parts (has_other_name (codes "catalog_admin") (option_map catalog_role_name (row_of catalog_role_id id rows))) free may in
+      let last = and_parts (lacks_joins (referent.CatalogRole id) s.access) (lacks_grants (referent.CatalogRole id) s.access) first.1 in
+      let gone = other-found catalog_role_id catalog_role_name (codes "catalog_admin") id rows first.0 in
+      let after : AccessRows = record s.access { catalog_roles = rows_without catalog_role_id id rows } in
+      let joins = all-unnamed (join_names rows (referent.CatalogRole id)) s.access.joins last.0 in
+      let grants = all-unnamed (grant_names rows (referent.CatalogRole id)) s.access.grants last.1 in
+      let is : catalog_role_dropped id s.access ≡ after = λ i. record after { joins = joins i; grants = grants i } in
+      let itself = (access.dropped_catalog_roles s.next_id id s.access sound.orderly.access).0 in
+      let are = tied.dropped_catalog_role s.access s.content sound.orderly.ties gone.row (IdsDiffer-rising catalog_role_id rows sound.orderly.access.catalog_roles.rise) gone.found gone.other in
+      with-access after (subst (IsSoundAccess s.next_id) is itself) (subst (λ one. AreTied one s.content) is (subst (λ n. AreTied (catalog_role_dropped n s.access) s.content) gone.id_is are))
+      (catalog_roles-fit s f (rows_without catalog_role_id id rows) (few-without catalog_role_id id rows (bound_of quantity.CatalogRoles) (few-holders s f).catalog_roles))
+
+-- and so it is with the counters that were set before
+module _ (s : Rows) (sound : IsSound s) (counters : Counters) (follows : may_follow s counters ≡ true) (id : ℕ) where
+  pub dropped_table-sound : may_drop_table s id ≡ true → IsSound (changed (counted s counters) (DropTable id))
+  dropped_table-sound = table-dropped (counted s counters) (counted-sound s sound counters follows) id
+
+  pub dropped_view-sound : may_drop_view s id ≡ true → IsSound (changed (counted s counters) (DropView id))
+  dropped_view-sound = view-dropped (counted s counters) (counted-sound s sound counters follows) id
+
+  pub dropped_namespace-sound : may_drop_namespace s id ≡ true → IsSound (changed (counted s counters) (DropNamespace id))
+  dropped_namespace-sound = namespace-dropped (counted s counters) (counted-sound s sound counters follows) id
+
+  pub dropped_principal-sound : may_drop_principal s id ≡ true → IsSound (changed (counted s counters) (DropPrincipal id))
+  dropped_principal-sound = principal-dropped (counted s counters) (counted-sound s sound counters follows) id
+
+  pub dropped_principal_role-sound : may_drop_principal_role s id ≡ true → IsSound (changed (counted s counters) (DropPrincipalRole id))
+  dropped_principal_role-sound = principal_role-dropped (counted s counters) (counted-sound s sound counters follows) id
+
+  pub dropped_catalog_role-sound : may_drop_catalog_role s id ≡ true → IsSound (changed (counted s counters) (DropCatalogRole id))
+  dropped_catalog_role-sound = catalog_role-dropped (counted s counters) (counted-sound s sound counters follows) id

@@ -1,0 +1,5 @@
+pub mod DropLemmas
+pub mod NameLemmas
+pub mod NamespaceLemmas
+pub mod PropertyLemmas
+pub mod ViewLemmas

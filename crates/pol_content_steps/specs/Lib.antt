@@ -1,0 +1,5 @@
+pub mod Drops
+pub mod Names
+pub mod Namespaces
+pub mod Properties
+pub mod Views

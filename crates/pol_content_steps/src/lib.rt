@@ -1,0 +1,13 @@
+//! Whether changes of namespaces and views, and drops, lead from a sound state to a sound one, at their own cost.
+#![tactic(auto)]
+
+mod drops;
+mod names;
+mod namespaces;
+mod properties;
+mod views;
+
+pub use drops::is_sound_drop;
+pub use names::{is_name_free, may_take_name};
+pub use properties::may_put_namespace;
+pub use views::may_put_view;
