@@ -70,8 +70,8 @@ fn has_place_as_join(access: &Access, row: &JoinRow) -> bool
         || (access.joins().len() as u64) < bound_of(Quantity::Joins)
 }
 
-/// Whether the grant's role is there, its privilege may be granted on its securable, which lies in the role's catalogue,
-/// and there may be one more, where it isn't there yet.
+/// Whether the grant's role is there, its privilege may be granted on its securable, which lies in the role's
+/// catalogue, and there may be one more, where it isn't there yet.
 fn may_put_grant(state: &State, counters: Counters, row: &GrantRow) -> bool
     ensures { result ≡ may_put_grant state.now.rows counters row.now }
 {

@@ -13,7 +13,7 @@ use Rattle.pol_server.specs.Turn.{Turn}
 use Rattle.pol_server.specs.declared.served.Ending.{Ending}
 use Rattle.pol_server.specs.declared.served.Ending.TheVariants as ending
 use Rattle.pol_object_store.specs.Reopened.{OpenObjectsRefused}
-use Rattle.pol_shared.specs.Opening.{OpeningRefused}
+use Rattle.pol_server.specs.Opening.{OpeningRefused}
 use Rattle.pol_cli.specs.Causes.{HasCause, IsDecided, IsUnfailing}
 use Rattle.pol_cli.specs.Disks.{Both}
 use Rattle.pol_cli.specs.Reasons.{reason_not_made, reason_not_opened, reason_of, report_of, status_of}

@@ -11,10 +11,10 @@ use Rattle.pol_cli.specs.Reasons.{reason_not_opened, report_of, status_of}
 use Rattle.pol_cli.specs.declared.reason.Reason.TheVariants.{Usage}
 use Rattle.pol_cli.specs.declared.report.Report.{Report}
 use Rattle.pol_cli.proofs.CauseLemmas.{cause-catalogue-refused, cause-objects-refused, status-told}
-use Rattle.pol_shared.specs.Held.{Held, HoldsImages}
-use Rattle.pol_shared.specs.Seen.{AreOfPasses}
-use Rattle.pol_shared_objects.specs.HeldObjects.{HeldObjects, HoldsObjectImages}
-use Rattle.pol_shared_objects.specs.SeenObjects.{AreOfObjectPasses}
+use Rattle.pol_server.specs.Held.{Held, HoldsImages}
+use Rattle.pol_server.specs.Seen.{AreOfPasses}
+use Rattle.pol_server.specs.HeldObjects.{HeldObjects, HoldsObjectImages}
+use Rattle.pol_server.specs.SeenObjects.{AreOfObjectPasses}
 use Rattle.pol_cli.specs.Files.{IsUnopened, KeepsJournal, KeepsObjectsJournal, OpeningFails, OpensCatalogue, OpensObjects, RunsFiles, ServesFiles, seen_in}
 use Rattle.pol_cli.specs.Serving.{Serves}
 use Rattle.pol_cli.proofs.ServingLemmas.{alone-serves, cause-serves, planned-serves, reason-told, status-serves}

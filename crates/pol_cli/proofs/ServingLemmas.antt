@@ -1,6 +1,6 @@
 -- What a link that was served, or not called, tells of the run.
 use Rattle.std.proofs.Common.{◌≡◌, ◌≢◌, ◌<◌, ◌≤◌, ◌+◌, ◌-◌, ◌^◌, ◌⊎◌, ℕ, List, [], ◌∷◌, refl, sym, ap, subst, ◌∙◌, inl, inr, arith}
-use Rattle.pol_shared.specs.Entry.{Entry}
+use Rattle.pol_server.specs.Entry.{Entry}
 use Rattle.pol_server.specs.Both.{BothGoOnAlone, SeenBoth}
 use Rattle.pol_server.specs.Ends.{Ends}
 use Rattle.pol_server.specs.declared.served.Ending.{Ending}
@@ -15,10 +15,10 @@ use Rattle.pol_cli.specs.declared.reason.Reason.TheVariants.{NoMemory, Usage}
 use Rattle.pol_cli.specs.declared.report.Report.{Report}
 use Rattle.pol_cli.specs.declared.report.ServedLink.{ServedLink}
 use Rattle.pol_cli.proofs.CauseLemmas.{cause-ended, status-told}
-use Rattle.pol_shared.proofs.SeenLemmas.{alone-founding}
-use Rattle.pol_shared.specs.Opened.{seen_new}
-use Rattle.pol_shared.specs.Seen.{AreOfPasses, GoesOnAlone, Seen, entry_number}
-use Rattle.pol_shared_objects.specs.SeenObjects.{AreOfObjectPasses, ObjectsGoOnAlone, SeenObjects, object_entry_number}
+use Rattle.pol_server.proofs.SeenLemmas.{alone-founding}
+use Rattle.pol_server.specs.Opened.{seen_new}
+use Rattle.pol_server.specs.Seen.{AreOfPasses, GoesOnAlone, Seen, entry_number}
+use Rattle.pol_server.specs.SeenObjects.{AreOfObjectPasses, ObjectsGoOnAlone, SeenObjects, object_entry_number}
 use Rattle.pol_cli.specs.Serving.{HasNoMarks, IsServed, RunsLink, Serves, seen_fresh}
 
 -- a report with a link that was served has one

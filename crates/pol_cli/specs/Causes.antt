@@ -6,7 +6,7 @@ use Rattle.pol_journal.specs.declared.kind.Kind.TheVariants as kind
 use Rattle.pol_server.specs.Ends.{Ends}
 use Rattle.pol_server.specs.Link.{taken_bound}
 use Rattle.pol_object_store.specs.Reopened as objects_journal
-use Rattle.pol_shared.specs.Opening as catalogue_journal
+use Rattle.pol_server.specs.Opening as catalogue_journal
 use Rattle.pol_wire.specs.Faults.{Rises}
 use Rattle.pol_cli.specs.Disks.{Both, DiskTold}
 use Rattle.pol_cli.specs.declared.reason.Reason.{Reason}

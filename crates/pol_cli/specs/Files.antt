@@ -5,15 +5,15 @@ use Rattle.pol_server.specs.Both.{BothGoOnAlone, SeenBoth}
 use Rattle.pol_server.specs.Ends.{Ends}
 use Rattle.pol_object_store.specs.Reopened.{OpenObjectsRefused}
 use Rattle.pol_objects.specs.Objects.{total_length}
-use Rattle.pol_shared.specs.Opening.{OpeningRefused}
+use Rattle.pol_server.specs.Opening.{OpeningRefused}
 use Rattle.pol_records.specs.Holding.{RisesBy}
 use Rattle.pol_cli.specs.Disks.{Stays, Tells}
 use Rattle.pol_cli.specs.Reasons.{reason_not_opened, report_of}
 use Rattle.pol_cli.specs.declared.report.Report.{Report}
-use Rattle.pol_shared.specs.Held.{Held, HoldsImages}
-use Rattle.pol_shared.specs.Opened.{ReopensAs, seen_new}
-use Rattle.pol_shared_objects.specs.HeldObjects.{HeldObjects, HoldsObjectImages}
-use Rattle.pol_shared_objects.specs.OpenedObjects.{ReopensObjects}
+use Rattle.pol_server.specs.Held.{Held, HoldsImages}
+use Rattle.pol_server.specs.Opened.{ReopensAs, seen_new}
+use Rattle.pol_server.specs.HeldObjects.{HeldObjects, HoldsObjectImages}
+use Rattle.pol_server.specs.OpenedObjects.{ReopensObjects}
 use Rattle.pol_state.specs.Sound.{IsSound}
 use Rattle.pol_cli.specs.Serving.{Serves}
 

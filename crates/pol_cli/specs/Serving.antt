@@ -1,7 +1,7 @@
 -- What a run of `exec` reports of the one link that it serves.
 use Rattle.std.specs.Prelude.{◌≡◌, ◌⊎◌, ℕ, List, [], ◌∷◌}
 use Rattle.pol_journal.specs.Format.{extent}
-use Rattle.pol_shared.specs.Opened.{fresh_bodies}
+use Rattle.pol_server.specs.Opened.{fresh_bodies, seen_new}
 use Rattle.pol_server.specs.Both.{BothGoOnAlone, SeenBoth}
 use Rattle.pol_server.specs.Ends.{Ends}
 use Rattle.pol_server.specs.Link.{ServesLink}
@@ -10,7 +10,6 @@ use Rattle.pol_object_store.specs.ObjectHistory.{no_objects}
 use Rattle.pol_cli.specs.Reasons.{reason_of, report_of}
 use Rattle.pol_cli.specs.declared.reason.Reason.TheVariants.{NoMemory}
 use Rattle.pol_cli.specs.declared.report.Report.{Report}
-use Rattle.pol_shared.specs.Opened.{seen_new}
 use Rattle.pol_state.specs.Rows.{fresh_state}
 
 -- the link was served by the founding passes, and is reported by how it ended

@@ -1,13 +1,12 @@
 //! Both stores, made, opened and closed.
 ghost use Rattle.std.specs.Prelude.{◌≡◌, [], false, IfErr, IfOk};
 ghost use Rattle.pol_journal.specs.Format.{extent};
-ghost use Rattle.pol_shared.specs.Opened.{fresh_bodies};
+ghost use Rattle.pol_server.specs.Opened.{fresh_bodies, seen_new};
 ghost use Rattle.pol_object_store.specs.ObjectHistory.{no_objects};
-ghost use Rattle.pol_shared.specs.Opening.{OpeningRefused};
+ghost use Rattle.pol_server.specs.Opening.{OpeningRefused};
 ghost use Rattle.pol_records.specs.Holding.{RisesBy};
-ghost use Rattle.pol_shared.specs.Opened.{seen_new};
-ghost use Rattle.pol_shared.specs.Seen.{AreOfPasses};
-ghost use Rattle.pol_shared_objects.specs.SeenObjects.{AreOfObjectPasses};
+ghost use Rattle.pol_server.specs.Seen.{AreOfPasses};
+ghost use Rattle.pol_server.specs.SeenObjects.{AreOfObjectPasses};
 ghost use Rattle.pol_server.specs.Stores.{seen_of};
 ghost use Rattle.pol_cli.specs.Disks.{Stays, tells_of};
 ghost use Rattle.pol_state.specs.Rows.{fresh_state};
@@ -16,9 +15,7 @@ ghost use Rattle.pol_cli.specs.Serving.{seen_fresh};
 
 use pol_disk::{Disk, HollowDisk};
 use pol_journal::JournalRefused;
-use pol_server::Stores;
-use pol_shared::{Closed, Shared};
-use pol_shared_objects::{ClosedObjects, Objects};
+use pol_server::{Closed, ClosedObjects, Objects, Shared, Stores};
 use pol_types::OutOfMemory;
 use std::alloc::Global;
 

@@ -62,7 +62,8 @@ fn failed_line(alloc: Global, reason: &Reason) -> Result<String, OutOfMemory>
 
 /// Gives all of a text, or its front where the sink fails.
 pub(crate) fn give_all<K: Sink>(sink: &mut K, text: &[u8]) -> Result<(), Failed>
-    ensures given { spec.GivesText (K.given sink.old) (K.given sink.new) (K.faults sink.old) (K.faults sink.new) text.now }
+    ensures given { spec.GivesText (K.given sink.old) (K.given sink.new) (K.faults sink.old) (K.faults sink.new)
+        text.now }
     ensures all { OnOk result (Appends (K.given sink.old) (K.given sink.new) text.now) }
     ensures same { OnOk result (K.faults sink.new ≡ K.faults sink.old) }
     ensures failed { OnErr result (Rises (K.faults sink.old) (K.faults sink.new)) }

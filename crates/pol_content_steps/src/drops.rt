@@ -96,8 +96,8 @@ fn is_on(row: &GrantRow, securable: Securable) -> bool
 
 /// Whether there is a principal of this id, which isn't `root`.
 fn is_other_than_root(access: &Access, id: u64) -> bool
-    ensures { result
-        ≡ has_other_name (codes "root") (option_map principal_name (row_of principal_id id access.now.rows.principals)) }
+    ensures { result ≡ has_other_name (codes "root")
+        (option_map principal_name (row_of principal_id id access.now.rows.principals)) }
 {
     match access.principal(id) {
         Some(row) => "root" != row.name.as_str(),

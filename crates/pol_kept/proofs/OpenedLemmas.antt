@@ -6,7 +6,7 @@ use Rattle.pol_content.specs.declared.change.Change.{Change}
 use Rattle.pol_journal.specs.Format.{StandsFor, area_of, extent, framed, records_of}
 use Rattle.pol_journal.specs.Journal.{IsAtRest, JournalState, SinceOpening}
 use Rattle.pol_journal.proofs.FormatLemmas.{length-records}
-use Rattle.pol_opening.specs.Opening.{LeadsTo, Opens}
+use Rattle.pol_opening.specs.Opening.{Opens}
 use Rattle.pol_records.specs.Holding.{Holds, RisesBy}
 use Rattle.pol_rules.specs.Live.{live_part}
 use Rattle.pol_state.specs.Changes.{changes_between}
@@ -74,17 +74,17 @@ module _ {D : Type 0} (seen : D → Option (List ℕ)) (may_leave : D → List �
   }
 
   -- a journal that was opened
-  pub reopens : (file : List ℕ) (log : Log D) (base s : Rows) (journal : JournalState D)
-      → log ≡ record { base = base; history = []; marks = []; journal = journal } → base ≡ s
+  pub reopens : (file : List ℕ) (log : Log D) (s : Rows) (journal : JournalState D)
+      → log ≡ record { base = s; history = []; marks = []; journal = journal }
       → Opens seen may_leave clock left_since fault_count file journal s
       → ((opening : List (List ℕ)) → IsAtRest seen may_leave opening journal → SinceOpening clock left_since fault_count (StandsFor journal.kind opening) journal
-      → KeepsImages seen may_leave clock left_since fault_count opening base [] journal)
+      → KeepsImages seen may_leave clock left_since fault_count opening s [] journal)
       → Reopens seen may_leave clock left_since fault_count file log
-  reopens file log base s journal log_is base_is opens images =
+  reopens file log s journal log_is opens images =
       subst (λ (log : Log D). Reopens seen may_leave clock left_since fault_count file log) (sym log_is) (record {
         bodies = opens.bodies;
         some = opens.some;
-        leads = subst (LeadsTo empty_state opens.bodies) (sym base_is) opens.leads;
+        leads = opens.leads;
         stands = subst (λ kind. StandsFor kind opens.bodies file) opens.kind opens.end.stands;
         images = images opens.bodies opens.end.at_rest opens.end.since;
       })

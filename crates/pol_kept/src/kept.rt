@@ -12,19 +12,21 @@ use crate::stages::{answer, enter, full_run, make_ready, mark, write};
 use crate::undone::Undone;
 use crate::{Closed, Entry, Render, Stepped};
 use pol_disk::Disk;
+use pol_histories::History;
 use pol_journal::Journal;
 use pol_machine::{Change, Command, Decision, State};
 use pol_records::Records;
 use std::alloc::Global;
 use std::marker::Model;
+use std::snapshot::Snapshot;
 
 /// A catalogue with its history, in a journal: the state at the opening, the commands that were done since, the number
 /// of the pass of each call that the disk failed, and the state that the commands led to. Contracts see all but the
-/// last, which the first two determine.
+/// last, which the first two determine; and the first two are for contracts alone.
 #[derive(Drop)]
 pub struct Kept<D: Disk> {
-    base: State,
-    history: Vec<Entry>,
+    base: Snapshot<State>,
+    history: History<Entry>,
     marks: Vec<u64>,
     state: State,
     records: Records<D>,
@@ -39,33 +41,33 @@ impl<D: Disk> Model for Kept<D> {
     ghost Value = { Log D };
 
     ghost view = { λ kept. record {
-      base = kept.base.rows;
-      history = kept.history.items;
+      base = kept.base.value.rows;
+      history = kept.history;
       marks = kept.marks.items;
       journal = kept.records;
     } };
 
-    ghost invariant = { λ kept. (kept.state.rows ≡ state_at kept.base.rows kept.history.items)
+    ghost invariant = { λ kept. (kept.state.rows ≡ state_at kept.base.value.rows kept.history)
         × IsSound kept.state.rows
         × RisesBy (length kept.marks.items) kept.records.opening.faults (D.fault_count kept.records.disk)
-        × (size_of (records_of kept.base.rows kept.history.items) ≤ kept.records.gate + 1) };
+        × (size_of (records_of kept.base.value.rows kept.history) ≤ kept.records.gate + 1) };
 }
 
 impl<D: Disk> Kept<D> {
     /// A store over a journal whose records were all read: this is the state that they led to, and there is no history.
-    pub(crate) fn of(alloc: Global, base: State, state: State, journal: Journal<D>) -> Self
+    pub(crate) fn of(alloc: Global, state: State, journal: Journal<D>) -> Self
         requires past_reading { IsPastReading journal }
-        requires same { state.rows ≡ base.rows }
-        requires sound { IsSound base.rows }
+        requires sound { IsSound state.rows }
         requires counted { journal.opening.faults ≤ D.fault_count journal.disk }
-        ensures log { result ≡ record { base = base.rows; history = []; marks = []; journal = journal } }
+        ensures log { result ≡ record { base = state.rows; history = []; marks = []; journal = journal } }
         ensures images { (opening : List (List ℕ)) → IsAtRest D.seen D.may_leave opening journal
             → SinceOpening D.clock D.left_since D.fault_count (StandsFor journal.kind opening) journal
-            → KeepsImages D.seen D.may_leave D.clock D.left_since D.fault_count opening base.rows [] journal }
+            → KeepsImages D.seen D.may_leave D.clock D.left_since D.fault_count opening state.rows [] journal }
     {
+        let base = Snapshot::of(&state);
         Kept {
             base,
-            history: Vec::new(alloc),
+            history: History::new(),
             marks: Vec::new(alloc),
             state,
             records: Records::of(journal),
@@ -73,8 +75,8 @@ impl<D: Disk> Kept<D> {
     }
 
     /// Does a command for the pass of this number. Its reply is rendered, and room is made, before anything is written,
-    /// so that nothing has changed where memory is wanting. Where it has changes their record is written to the journal,
-    /// once an append that failed before is taken back; then they are made.
+    /// so that nothing has changed where memory is wanting. Where it has changes their record is written to the
+    /// journal, once an append that failed before is taken back; then they are made.
     pub fn step<R: Render>(
         &mut self,
         alloc: Global,
@@ -142,7 +144,7 @@ impl<D: Disk> Kept<D> {
         let Ok(body) = make_ready(
             alloc,
             &mut self.state,
-            &mut self.history,
+            &self.history,
             &mut self.marks,
             changes.as_slice(),
         ) else {
@@ -162,11 +164,11 @@ impl<D: Disk> Kept<D> {
     /// Closes the catalogue.
     pub fn close(self) -> Closed<D>
         ensures disk { result.disk ≡ self.journal.disk }
-        ensures base { result.base.rows ≡ self.base }
-        ensures history { result.history.items ≡ self.history }
+        ensures base { result.base.value.rows ≡ self.base }
+        ensures history { result.history ≡ self.history }
         ensures state { result.state.rows ≡ state_of self }
         ensures sound { IsSound result.state.rows }
-        // No more calls were marked than the disk's count of faults rose since the opening.
+        // No more calls were marked than the disk's count of faults rose since the opening, until it is at its end.
         ensures marked { RisesBy (length self.marks) self.journal.opening.faults (D.fault_count self.journal.disk) }
     {
         Closed {

@@ -29,8 +29,8 @@ const OPEN: u8 = 1;
 const CLOSED: u8 = 0;
 
 impl<D: Disk> Kept<D> {
-    /// Makes a journal on an empty disk, whose one record has the rows of the fresh state of this root secret. A refusal
-    /// hands the disk back.
+    /// Makes a journal on an empty disk, whose one record has the rows of the fresh state of this root secret. A
+    /// refusal hands the disk back.
     pub fn fresh(alloc: Global, disk: D, root_secret: &str) -> Result<Kept<D>, (D, JournalRefused)>
         ensures new { IfOk result (IsNew (fresh_state root_secret.now)) }
         ensures images { IfOk result (λ log. IsBlank (D.seen disk) (D.may_leave disk)
@@ -46,29 +46,27 @@ impl<D: Disk> Kept<D> {
         ensures opening { IfOk result (λ log. D.fault_count disk ≤ log.journal.opening.faults) }
         ensures kept { D.fault_count disk ≤ D.fault_count (disk_of result) }
     {
-        let Ok((base, state)) = fresh_states(alloc, root_secret) else {
+        let Ok(state) = State::fresh(alloc, root_secret) else {
             return Err((disk, JournalRefused::OutOfMemory));
         };
-        let Ok(first) = first_record(alloc, &base) else {
-            drop(base);
+        let Ok(first) = first_record(alloc, &state) else {
             drop(state);
             return Err((disk, JournalRefused::OutOfMemory));
         };
         let made = Journal::fresh(disk, Kind::Catalogue, first.as_slice());
         drop(first);
         match made {
-            Ok(journal) => Ok(Kept::of(alloc, base, state, journal)),
+            Ok(journal) => Ok(Kept::of(alloc, state, journal)),
             Err(refused) => {
-                drop(base);
                 drop(state);
                 Err(refused)
             }
         }
     }
 
-    /// Opens the journal of a catalogue. Each of its records must be the form of changes that lead to a sound state, and
-    /// there must be one; the first gate behind which no such record stands is told by `BadRecord`. A refusal hands the
-    /// disk back, and its bytes stay.
+    /// Opens the journal of a catalogue. Each of its records must be the form of changes that lead to a sound state,
+    /// and there must be one; the first gate behind which no such record stands is told by `BadRecord`. A refusal hands
+    /// the disk back, and its bytes stay.
     pub fn open(alloc: Global, disk: D) -> Result<Kept<D>, (D, JournalRefused)>
         ensures new { IfOk result (λ log. IsNew log.base log) }
         ensures sound { IfOk result (λ log. IsSound log.base) }
@@ -82,36 +80,18 @@ impl<D: Disk> Kept<D> {
         ensures kept { D.fault_count disk ≤ D.fault_count (disk_of result) }
     {
         let Opened { journal, state } = open(alloc, disk)?;
-        let Ok(base) = state.clone() else {
-            drop(state);
-            return Err((journal.close(), JournalRefused::OutOfMemory));
-        };
-        Ok(Kept::of(alloc, base, state, journal))
+        Ok(Kept::of(alloc, state, journal))
     }
 }
 
-/// The fresh state of this root secret, and a copy of it.
-fn fresh_states(alloc: Global, root_secret: &str) -> Result<(State, State), OutOfMemory>
-    ensures first { IfOk result (λ states. states.0.rows ≡ fresh_state root_secret.now) }
-    ensures second { IfOk result (λ states. states.1.rows ≡ fresh_state root_secret.now) }
-    ensures sound { IfOk result (λ states. IsSound states.0.rows) }
-{
-    let base = State::fresh(alloc, root_secret)?;
-    let Ok(state) = base.clone() else {
-        drop(base);
-        return Err(OutOfMemory);
-    };
-    Ok((base, state))
-}
-
 /// What follows the header of a journal whose one record has all rows of the fresh state.
-fn first_record(alloc: Global, base: &State) -> Result<Vec<u8>, OutOfMemory>
-    requires sound { IsSound base.now.rows }
-    ensures record { (secret : List ℕ) → base.now.rows ≡ fresh_state secret
+fn first_record(alloc: Global, state: &State) -> Result<Vec<u8>, OutOfMemory>
+    requires sound { IsSound state.now.rows }
+    ensures record { (secret : List ℕ) → state.now.rows ≡ fresh_state secret
         → IfOk result (λ first. first.items ≡ area_of (fresh_bodies secret)) }
     ensures some { IfOk result (λ first. 0 < length first.items) }
 {
-    let changes = all_changes(alloc, base)?;
+    let changes = all_changes(alloc, state)?;
     let Ok(body) = write_changes(alloc, changes.as_slice()) else {
         drop(changes);
         return Err(OutOfMemory);

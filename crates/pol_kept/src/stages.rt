@@ -11,6 +11,7 @@ use crate::undone::Undone;
 use crate::{Entry, Render};
 use pol_changecodec::write_changes;
 use pol_disk::Disk;
+use pol_histories::History;
 use pol_machine::{Change, Command, Decision, Refusal, Reply, State, decide};
 use pol_records::{Records, Unwritten};
 use pol_types::OutOfMemory;
@@ -49,22 +50,21 @@ pub(crate) fn full_run(reply: &Reply) -> Option<(u64, u64)>
     }
 }
 
-/// Makes room for the changes, for an entry more and for a mark more.
+/// Makes room for the changes and for a mark more, and makes sure of the room for an entry.
 pub(crate) fn reserve(
     state: &mut State,
-    history: &mut Vec<Entry>,
+    history: &History<Entry>,
     marks: &mut Vec<u64>,
     changes: &[Change],
 ) -> Result<(), OutOfMemory>
     ensures rows { state.new.rows ≡ state.old.rows }
-    ensures items { history.new.items ≡ history.old.items }
     ensures marks { marks.new.items ≡ marks.old.items }
     ensures room { OnOk result (HasRoom changes.now state.new.room) }
-    ensures place { OnOk result (vec_len history.new < vec_capacity history.new) }
+    ensures place { OnOk result (length history.now + 1 < 2 ^ 64) }
     ensures mark { OnOk result (vec_len marks.new < vec_capacity marks.new) }
 {
     state.reserve(changes)?;
-    history.reserve(1)?;
+    history.reserve()?;
     Ok(marks.reserve(1)?)
 }
 
@@ -82,15 +82,14 @@ pub(crate) fn body_of(alloc: Global, changes: &[Change]) -> Result<Option<Vec<u8
 pub(crate) fn make_ready(
     alloc: Global,
     state: &mut State,
-    history: &mut Vec<Entry>,
+    history: &History<Entry>,
     marks: &mut Vec<u64>,
     changes: &[Change],
 ) -> Result<Option<Vec<u8>>, OutOfMemory>
     ensures rows { state.new.rows ≡ state.old.rows }
-    ensures items { history.new.items ≡ history.old.items }
     ensures marks { marks.new.items ≡ marks.old.items }
     ensures room { OnOk result (HasRoom changes.now state.new.room) }
-    ensures place { OnOk result (vec_len history.new < vec_capacity history.new) }
+    ensures place { OnOk result (length history.now + 1 < 2 ^ 64) }
     ensures mark { OnOk result (vec_len marks.new < vec_capacity marks.new) }
     ensures body { IfOk result (λ body. bodies_in (option_map (λ body. body.items) body) ≡ bodies_of changes.now) }
 {
@@ -139,7 +138,7 @@ pub(crate) fn mark(marks: &mut Vec<u64>, number: u64, why: Unwritten) -> Undone
 /// Makes the changes of a command, and enters it, and tells its place. Takes no memory.
 pub(crate) fn enter(
     state: &mut State,
-    history: &mut Vec<Entry>,
+    history: &mut History<Entry>,
     entry: Entry,
     changes: Vec<Change>,
 ) -> u64
@@ -148,15 +147,16 @@ pub(crate) fn enter(
     requires open { state.old.rows.charged + entry.command.charge ≤ 2 ^ 30 }
     requires changes { changes.items ≡ changes_between state.old.rows (next_state state.old.rows entry.command) }
     requires room { HasRoom changes.items state.old.room }
-    requires place { vec_len history.old < vec_capacity history.old }
+    requires place { length history.old + 1 < 2 ^ 64 }
     ensures rows { state.new.rows ≡ next_state state.old.rows entry.command }
     ensures sound { IsSound state.new.rows }
-    ensures items { history.new.items ≡ history.old.items ++ entry ∷ [] }
-    ensures place { result ≡ length history.old.items }
+    ensures items { history.new ≡ history.old ++ entry ∷ [] }
+    ensures place { result ≡ length history.old }
 {
-    let place = history.len() as u64;
+    let place = history.len();
     let time = state.time().max(entry.command.moment);
     state.apply(changes, time, entry.command.charge);
-    history.push_reserved(entry);
+    history.push(&entry);
+    drop(entry);
     place
 }

@@ -5,7 +5,7 @@ use Rattle.std.specs.List.{flat_map, AllByRecursion}
 use Rattle.std.proofs.lemmas.Grind.{same_number_lists}
 use Rattle.std.proofs.lemmas.List.{get_or_append_left, get_or-append_right}
 use Rattle.pol_http.specs.Message.{IsMessage, ReadsMessage, print_message}
-use Rattle.pol_shared.specs.Machine.{reply_of}
+use Rattle.pol_server.specs.Machine.{reply_of}
 use Rattle.pol_requests.specs.declared.refused.RouteRefused.{RouteRefused}
 use Rattle.pol_answers.specs.Texts.{answer_of, refusal_answer}
 use Rattle.pol_commands.specs.declared.command.Action.{Action}
@@ -25,13 +25,13 @@ use Rattle.pol_routes.specs.Plan.{command_of, plan_of}
 use Rattle.pol_routes.specs.Verbs.{verb_act}
 use Rattle.pol_routes.specs.declared.plans.Planned.{Planned}
 use Rattle.pol_routes.specs.declared.verb.Verb.{Verb}
-use Rattle.pol_shared.specs.Seen.{Seen}
-use Rattle.pol_shared.specs.Stepped.{HasSpace}
-use Rattle.pol_shared_objects.specs.Acted.{HasObjectSpace}
-use Rattle.pol_shared_objects.specs.SeenObjects.{SeenObjects}
+use Rattle.pol_server.specs.Seen.{Seen}
+use Rattle.pol_server.specs.Stepped.{HasSpace}
+use Rattle.pol_server.specs.Acted.{HasObjectSpace}
+use Rattle.pol_server.specs.SeenObjects.{SeenObjects}
 use Rattle.pol_tokens.specs.declared.token.Act.{Act}
-use Rattle.pol_shared.specs.History.{changes_of, end_after, end_with, state_at}
-use Rattle.pol_shared.specs.Entry.{Entry}
+use Rattle.pol_server.specs.History.{changes_of, end_after, end_with, state_at}
+use Rattle.pol_server.specs.Entry.{Entry}
 use Rattle.pol_wire.specs.Streams.{IsShifted}
 use Rattle.pol_server.specs.Actions.{action_by}
 use Rattle.pol_linklaws.specs.Laws.{IsUnfailed, IsUnhindered}

@@ -5,8 +5,8 @@ use Rattle.pol_commands.specs.declared.command.Command.{Command}
 use Rattle.pol_commands.specs.declared.command.Words4.{Words4}
 use Rattle.pol_commands.specs.declared.reply.Refusal.{Refusal}
 use Rattle.pol_commands.specs.declared.reply.Refusal.TheVariants.{RunFull}
-use Rattle.pol_shared.specs.History.{changes_of}
-use Rattle.pol_shared.specs.Machine.{next_by, next_state}
+use Rattle.pol_server.specs.History.{changes_of}
+use Rattle.pol_server.specs.Machine.{next_by, next_state}
 use Rattle.pol_routes.specs.Plan.{command_of}
 use Rattle.pol_routes.specs.declared.plans.Planned.{Planned}
 use Rattle.pol_rules.specs.Rules.{run_full}

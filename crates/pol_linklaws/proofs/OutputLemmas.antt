@@ -5,17 +5,16 @@ use Rattle.std.specs.Io.KnownBytes.{Consumes}
 use Rattle.pol_http.specs.Head.{closes}
 use Rattle.pol_http.specs.Message.{ReadsMessage, print_message}
 use Rattle.pol_http.proofs.MessageLemmas.{message_unique}
-use Rattle.pol_shared.specs.Seen.{entry_number}
-use Rattle.pol_shared_objects.specs.SeenObjects.{object_entry_number}
+use Rattle.pol_server.specs.Seen.{entry_number}
+use Rattle.pol_server.specs.SeenObjects.{object_entry_number}
 use Rattle.pol_server.specs.Ends.{Ends}
 use Rattle.pol_linklaws.specs.Laws.{IsByInput, IsKnown, IsUnhindered, OneOutput}
 use Rattle.pol_server.specs.Link.{ServesLink, taken_bound}
-use Rattle.pol_server.specs.Both.{BothGoOnAlone, HasSeenBoth, catalogue_place, object_place}
+use Rattle.pol_server.specs.Both.{BothGoOnAlone, HasSeenBoth, catalogue_place, object_place, SeenBoth}
 use Rattle.pol_server.specs.Turn.{Case, IsAnswered, Turn, acted, catalogue_spot, full, object_spot, output_of, place_by, place_of, stepped, unacted, undrawn, unplanned, unstored, untold, unwritten, without_memory}
 use Rattle.pol_server.specs.declared.served.Ending.{Ending}
 use Rattle.pol_server.specs.declared.served.Ending.TheVariants.{Ended, Cut, Closed, ReadFault, WriteFault, Spent, NoMemory}
 use Rattle.pol_server.specs.declared.served.Served.{Served}
-use Rattle.pol_server.specs.Both.{SeenBoth}
 use Rattle.pol_linklaws.proofs.AlikeLemmas.{Alike, Fronts, Trace, all-act, all-enter, before-actions, before-entries, behind-first, catalogue-entries, first-action, first-entry, first-moments, first-reads, first-words, front-of, fronts-after, fronts-of, later-bytes, object-entries, same-turn, stores-of, trace-later}
 use Rattle.pol_linklaws.proofs.SpotLemmas.{Follows, follows-alone, spot_places}
 use Rattle.pol_linklaws.proofs.StopsLemmas.{EndsAfter, ends-after, same-stop, stops-before}

@@ -4,8 +4,8 @@ use Rattle.std.specs.Prelude.{⊤, slice_get}
 use Rattle.std.specs.List.{flat_map, AllByRecursion}
 use Rattle.std.proofs.lemmas.List.{take_all, take_at, take_more}
 use Rattle.std.proofs.lemmas.Option.{slice_get_within, slice_get-get_or}
-use Rattle.pol_shared.specs.Passes.{GoesOnBy, HasSeenOf, SeenOf}
-use Rattle.pol_shared.proofs.SeenLemmas.{alone-counted}
+use Rattle.pol_server.specs.Passes.{GoesOnBy, HasSeenOf, SeenOf}
+use Rattle.pol_server.proofs.SeenLemmas.{alone-counted}
 use Rattle.pol_server.specs.Turn.{Case, IsFrom, IsOrdered, Spot, Turn, behind, entry_at, low_after, nowhere, place_by, place_of}
 use Rattle.pol_server.specs.declared.served.Place.{Place}
 

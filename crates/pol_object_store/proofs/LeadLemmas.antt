@@ -4,8 +4,8 @@ use Rattle.pol_codec.specs.Objects.{object_change}
 use Rattle.pol_codec.specs.declared.objects.ObjectChange.{ObjectChange}
 use Rattle.pol_forms.specs.Form.{IsFormOf}
 use Rattle.pol_forms.proofs.LawLemmas.{tell_values}
-use Rattle.pol_objects.specs.declared.object.Object.{Object}
 use Rattle.pol_object_store.specs.Reopened.{IsFitting, IsUnfit, LeadTo, LeadsBy}
+use Rattle.pol_objects.specs.Objects.{Object}
 
 pub lead_nowhere : (objects : List Object) → LeadTo objects [] objects
 unfolding LeadTo

@@ -11,10 +11,10 @@ use Rattle.pol_journal.specs.declared.refused.JournalRefused.TheVariants.{NotAJo
 use Rattle.pol_journal.specs.declared.stage.Stage.TheVariants.{Ready}
 use Rattle.pol_journal.proofs.FormatLemmas.{records-push}
 use Rattle.pol_journal.proofs.Moments.{same_after_both}
-use Rattle.pol_objects.specs.declared.object.Object.{Object}
 use Rattle.pol_object_store.specs.Reading.{IsReadOn, IsReadSoFar, IsReadWhole}
 use Rattle.pol_object_store.specs.Reopened.{IsRefusedAt, IsUnfit, IsUnfitAt, LeadTo, LeadsBy, RefusedBy}
 use Rattle.pol_object_store.proofs.LeadLemmas.{lead_push}
+use Rattle.pol_objects.specs.Objects.{Object}
 use Rattle.pol_wire.specs.Faults.{Rises}
 
 rises_later : (old mid new : ℕ) → old ≤ mid → Rises mid new → Rises old new

@@ -5,10 +5,9 @@ use Rattle.pol_codec.specs.Objects.{object_change}
 use Rattle.pol_codec.specs.declared.objects.ObjectChange.{ObjectChange}
 use Rattle.pol_codec.specs.declared.objects.ObjectChange.TheVariants as change
 use Rattle.pol_objects.specs.Machine.{put_refusal}
-use Rattle.pol_objects.specs.Objects.{object_at}
+use Rattle.pol_objects.specs.Objects.{Object, object_at}
 use Rattle.pol_objects.specs.declared.action.ObjectAction.{ObjectAction}
 use Rattle.pol_objects.specs.declared.action.ObjectAction.TheVariants as action
-use Rattle.pol_objects.specs.declared.object.Object.{Object}
 use Rattle.pol_objects.specs.declared.object_state.ObjectState.{ObjectState}
 use Rattle.pol_objects.specs.declared.rule.ObjectRule.{ObjectRule}
 use Rattle.pol_object_store.specs.ObjectHistory.{ObjectLog, object_state_after, object_state_at}

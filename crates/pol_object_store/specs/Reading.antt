@@ -3,8 +3,8 @@ use Rattle.std.specs.Prelude.{ℕ, ◌≡◌, ◌≤◌, List, [], Option}
 use Rattle.pol_journal.specs.Crash.{IsUntouched}
 use Rattle.pol_journal.specs.Journal.{HasRead, JournalState, MeetsEnd}
 use Rattle.pol_journal.specs.declared.kind.Kind.TheVariants.{Objects}
-use Rattle.pol_objects.specs.declared.object.Object.{Object}
 use Rattle.pol_object_store.specs.Reopened.{LeadTo}
+use Rattle.pol_objects.specs.Objects.{Object}
 
 -- these bodies were read, and lead to these objects
 pub record IsReadSoFar {D : Type 0} (seen : D → Option (List ℕ)) (may_leave : D → List ℕ → Type 0) (clock : D → ℕ) (left_since : D → ℕ → List ℕ → Type 0) (fault_count : D → ℕ) (file : List ℕ) (bodies : List (List ℕ)) (journal : JournalState D) (objects : List Object) : Type 0 where

@@ -8,8 +8,7 @@ use Rattle.pol_journal.specs.Format.{IsBadAt, IsNoJournal, IsReadTo, IsRecord, S
 use Rattle.pol_journal.specs.declared.kind.Kind.TheVariants.{Objects}
 use Rattle.pol_journal.specs.declared.refused.JournalRefused.{JournalRefused}
 use Rattle.pol_journal.specs.declared.refused.JournalRefused.TheVariants.{NotAJournal, JournalThere, BadRecord, JournalFull, Unknown, DiskFault, OutOfMemory}
-use Rattle.pol_objects.specs.Objects.{object_at, with_object, without_object}
-use Rattle.pol_objects.specs.declared.object.Object.{Object}
+use Rattle.pol_objects.specs.Objects.{Object, object_at, with_object, without_object}
 use Rattle.pol_object_store.specs.ObjectHistory.{ObjectLog}
 use Rattle.pol_object_store.specs.ObjectImages.{KeepsObjectImages}
 use Rattle.pol_object_store.specs.ObjectRecords.{object_opened}

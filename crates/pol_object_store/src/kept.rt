@@ -1,8 +1,8 @@
 ghost use Rattle.std.specs.Prelude.{◌≡◌, ◌≤◌, ◌≢◌, [], ℕ, IfErr, IfOk, IfSome, List, Some, length};
 ghost use Rattle.pol_disk.specs.Disk.{LeavesOnly};
 ghost use Rattle.pol_journal.specs.Crash.{IsUntouched};
-ghost use Rattle.pol_journal.specs.Format.{IsNoneOrStandsFor};
-ghost use Rattle.pol_journal.specs.Journal.{IsBlank};
+ghost use Rattle.pol_journal.specs.Format.{IsNoneOrStandsFor, StandsFor};
+ghost use Rattle.pol_journal.specs.Journal.{IsAtRest, IsBlank, SinceOpening};
 ghost use Rattle.pol_journal.specs.Refused.{CreateRefused};
 ghost use Rattle.pol_journal.specs.declared.kind.Kind.TheVariants.{Objects};
 ghost use Rattle.pol_objects.specs.Objects.{total_length};
@@ -11,25 +11,27 @@ ghost use Rattle.pol_object_store.specs.ObjectHistory.{no_objects, object_state_
 ghost use Rattle.pol_object_store.specs.ObjectImages.{KeepsObjectImages};
 ghost use Rattle.pol_object_store.specs.ObjectRecords.{AreFormed, object_changes, object_opened};
 ghost use Rattle.pol_object_store.specs.Reopened.{IsNewLog, OpenObjectsRefused, Reopens, disk_left};
-ghost use Rattle.pol_records.specs.Holding.{RisesBy};
+ghost use Rattle.pol_records.specs.Holding.{IsPastReading, RisesBy};
 
 use crate::opening::read_state;
 use crate::stages::{perform, reserve, undone};
 use crate::{Acted, ClosedObjects, ObjectEntry};
 use pol_disk::Disk;
+use pol_histories::History;
 use pol_journal::{Journal, JournalRefused, Kind};
 use pol_objects::{ObjectAction, ObjectState};
 use pol_records::Records;
 use std::alloc::Global;
 use std::marker::Model;
+use std::snapshot::Snapshot;
 
 /// Objects with their history, in a journal: the state at the opening, the actions that were done since, the numbers
 /// of the passes whose call the disk failed, and the state that the actions led to. Contracts see all but the last,
-/// which the first two determine.
+/// which the first two determine; and the first two are for contracts alone.
 #[derive(Drop)]
 pub struct KeptObjects<D: Disk> {
-    base: ObjectState,
-    history: Vec<ObjectEntry>,
+    base: Snapshot<ObjectState>,
+    history: History<ObjectEntry>,
     marks: Vec<u64>,
     state: ObjectState,
     records: Records<D>,
@@ -44,19 +46,38 @@ impl<D: Disk> Model for KeptObjects<D> {
     ghost Value = { ObjectLog D };
 
     ghost view = { λ kept. record {
-      base = kept.base;
-      history = kept.history.items;
+      base = kept.base.value;
+      history = kept.history;
       marks = kept.marks.items;
       journal = kept.records;
     } };
 
-    ghost invariant = { λ kept. (kept.state ≡ object_state_at kept.base kept.history.items)
+    ghost invariant = { λ kept. (kept.state ≡ object_state_at kept.base.value kept.history)
         × RisesBy (length kept.marks.items) kept.records.opening.faults (D.fault_count kept.records.disk)
-        × (object_size_of (object_records kept.base kept.history.items) ≤ kept.records.gate + 1)
-        × AreFormed kept.base kept.history.items };
+        × (object_size_of (object_records kept.base.value kept.history) ≤ kept.records.gate + 1)
+        × AreFormed kept.base.value kept.history };
 }
 
 impl<D: Disk> KeptObjects<D> {
+    /// A store over a journal whose records were all read: this is the state that they led to, and there is no history.
+    fn of(alloc: Global, state: ObjectState, journal: Journal<D>) -> Self
+        requires past_reading { IsPastReading journal }
+        requires counted { journal.opening.faults ≤ D.fault_count journal.disk }
+        ensures log { result ≡ record { base = state; history = []; marks = []; journal = journal } }
+        ensures images { (opening : List (List ℕ)) → IsAtRest D.seen D.may_leave opening journal
+            → SinceOpening D.clock D.left_since D.fault_count (StandsFor journal.kind opening) journal
+            → KeepsObjectImages D.seen D.may_leave D.clock D.left_since D.fault_count opening state [] journal }
+    {
+        let base = Snapshot::of(&state);
+        KeptObjects {
+            base,
+            history: History::new(),
+            marks: Vec::new(alloc),
+            state,
+            records: Records::of(journal),
+        }
+    }
+
     /// Makes a journal of objects without records on an empty disk. A refusal hands the disk back.
     pub fn fresh(alloc: Global, disk: D) -> Result<Self, (D, JournalRefused)>
         ensures base { IfOk result (λ log. log.base ≡ no_objects) }
@@ -77,13 +98,7 @@ impl<D: Disk> KeptObjects<D> {
         ensures kept { D.fault_count disk ≤ D.fault_count (disk_left result) }
     {
         match Journal::fresh(disk, Kind::Objects, &[0]) {
-            Ok(journal) => Ok(KeptObjects {
-                base: ObjectState::empty(alloc),
-                history: Vec::new(alloc),
-                marks: Vec::new(alloc),
-                state: ObjectState::empty(alloc),
-                records: Records::of(journal),
-            }),
+            Ok(journal) => Ok(KeptObjects::of(alloc, ObjectState::empty(alloc), journal)),
             Err(refused) => Err(refused),
         }
     }
@@ -107,13 +122,7 @@ impl<D: Disk> KeptObjects<D> {
             Err(refused) => return Err(refused),
         };
         match read_state(alloc, &mut journal) {
-            Ok((base, state)) => Ok(KeptObjects {
-                base,
-                history: Vec::new(alloc),
-                marks: Vec::new(alloc),
-                state,
-                records: Records::of(journal),
-            }),
+            Ok(state) => Ok(KeptObjects::of(alloc, state, journal)),
             Err(why) => Err((journal.close(), why)),
         }
     }
@@ -138,18 +147,20 @@ impl<D: Disk> KeptObjects<D> {
         ensures kind { self.new.journal.kind ≡ self.old.journal.kind }
         ensures kept { D.fault_count self.old.journal.disk ≤ D.fault_count self.new.journal.disk }
     {
-        let Ok(()) = reserve(&mut self.history, &mut self.marks) else {
+        let Ok(()) = reserve(&self.history, &mut self.marks) else {
             drop(action);
             return Acted::OutOfMemory;
         };
         match perform(alloc, &mut self.state, &mut self.records, &action) {
             Ok(reply) => {
-                let place = self.history.len() as u64;
-                self.history.push_reserved(ObjectEntry {
+                let place = self.history.len();
+                let entry = ObjectEntry {
                     number,
                     access,
                     action,
-                });
+                };
+                self.history.push(&entry);
+                drop(entry);
                 Acted::Done { place, reply }
             }
             Err(why) => {
@@ -162,8 +173,8 @@ impl<D: Disk> KeptObjects<D> {
     /// Closes the store.
     pub fn close(self) -> ClosedObjects<D>
         ensures disk { result.disk ≡ self.journal.disk }
-        ensures base { result.base ≡ self.base }
-        ensures history { result.history.items ≡ self.history }
+        ensures base { result.base.value ≡ self.base }
+        ensures history { result.history ≡ self.history }
         ensures state { result.state ≡ object_state_of self }
         ensures formed { AreFormed self.base self.history }
         // No more calls were marked than the disk's count of faults rose since the opening, until it is at its end.

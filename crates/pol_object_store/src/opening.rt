@@ -10,22 +10,21 @@ use pol_codec::{ObjectChange, read_object_change};
 use pol_disk::Disk;
 use pol_forms::CodecRefused;
 use pol_journal::{Journal, JournalRefused};
-use pol_objects::{Object, ObjectMap, ObjectState};
+use pol_objects::{ObjectMap, ObjectState};
 use pol_shared_bytes::SharedBytes;
 use pol_types::OutOfMemory;
 use std::alloc::Global;
 
-/// The state of the objects of a journal that is read to its end, and a copy of it.
+/// The state of the objects of a journal that is read to its end.
 pub(crate) fn read_state<D: Disk>(
     alloc: Global,
     journal: &mut Journal<D>,
-) -> Result<(ObjectState, ObjectState), JournalRefused>
+) -> Result<ObjectState, JournalRefused>
     requires reading { IsReading journal.old }
-    ensures read { IfOk result (λ states. (file : List ℕ)
+    ensures read { IfOk result (λ state. (file : List ℕ)
         → IsReadSoFar D.seen D.may_leave D.clock D.left_since D.fault_count file [] journal.old []
-        → IsReadWhole D.seen D.may_leave D.clock D.left_since D.fault_count file journal.new states.0.objects) }
-    ensures counted { IfOk result (λ states. states.0.counted ≡ total_length states.0.objects) }
-    ensures copy { IfOk result (λ states. states.1 ≡ states.0) }
+        → IsReadWhole D.seen D.may_leave D.clock D.left_since D.fault_count file journal.new state.objects) }
+    ensures counted { IfOk result (λ state. state.counted ≡ total_length state.objects) }
     ensures ready { OnOk result (IsReady journal.new) }
     ensures refused { IfErr result (RefusedBy ⊥
         (λ at. (file : List ℕ)
@@ -43,22 +42,19 @@ pub(crate) fn read_state<D: Disk>(
             Err(CodecRefused::OutOfMemory) => return Err(JournalRefused::OutOfMemory),
         }
     }
-    match states_of(objects) {
-        Ok(states) => Ok(states),
+    match state_of(objects) {
+        Ok(state) => Ok(state),
         Err(OutOfMemory) => Err(JournalRefused::OutOfMemory),
     }
 }
 
-/// The state of these objects, of which their bytes are counted, and a copy of it.
-fn states_of(objects: ObjectMap) -> Result<(ObjectState, ObjectState), OutOfMemory>
-    ensures objects { IfOk result (λ states. states.0.objects ≡ objects) }
-    ensures counted { IfOk result (λ states. states.0.counted ≡ total_length objects) }
-    ensures copy { IfOk result (λ states. states.1 ≡ states.0) }
+/// The state of these objects, of which their bytes are counted.
+fn state_of(objects: ObjectMap) -> Result<ObjectState, OutOfMemory>
+    ensures objects { IfOk result (λ state. state.objects ≡ objects) }
+    ensures counted { IfOk result (λ state. state.counted ≡ total_length objects) }
 {
     let counted = objects.total_length()?;
-    let state = ObjectState { objects, counted };
-    let copy = state.clone()?;
-    Ok((state, copy))
+    Ok(ObjectState { objects, counted })
 }
 
 /// Makes the change whose form the body is, where it fits. It is `NoForm` where there is none.
@@ -96,7 +92,7 @@ fn apply(alloc: Global, change: ObjectChange, objects: &mut ObjectMap) -> Result
     match change {
         ObjectChange::Put { path, bytes } => {
             let bytes = SharedBytes::new(alloc, bytes)?;
-            objects.insert(alloc, Object { path, bytes })
+            objects.insert(alloc, &path, bytes)
         }
         ObjectChange::Delete { path } => {
             objects.remove(alloc, &path)?;

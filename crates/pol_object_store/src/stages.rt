@@ -1,5 +1,5 @@
 //! What an action does to the objects and to the records of their journal.
-ghost use Rattle.std.specs.Prelude.{◌≡◌, ◌≤◌, ◌<◌, ◌++◌, ◌∷◌, [], IfErr, IfOk, IsSome, None, OnErr, OnOk, vec_capacity, vec_len};
+ghost use Rattle.std.specs.Prelude.{◌≡◌, ◌≤◌, ◌<◌, ◌+◌, ◌^◌, ◌++◌, ◌∷◌, [], length, IfErr, IfOk, IsSome, None, OnErr, OnOk, vec_capacity, vec_len};
 ghost use Rattle.pol_codec.specs.Objects.{object_change};
 ghost use Rattle.pol_codec.specs.declared.objects.ObjectChange.TheVariants as change;
 ghost use Rattle.pol_forms.specs.Form.{IsFormOf};
@@ -15,6 +15,7 @@ use crate::undone::Undone;
 use crate::{Acted, ObjectEntry};
 use pol_disk::Disk;
 use pol_forms::{Coder, Common, write_variant};
+use pol_histories::History;
 use pol_locations::Location;
 use pol_objects::{ObjectAction, ObjectMap, ObjectReply, ObjectRule, ObjectState};
 use pol_records::{Records, Unwritten};
@@ -22,17 +23,16 @@ use pol_shared_bytes::SharedBytes;
 use pol_types::OutOfMemory;
 use std::alloc::Global;
 
-/// Makes room for one entry and one mark more.
+/// Makes room for one mark more, and makes sure of the room for an entry.
 pub(crate) fn reserve(
-    history: &mut Vec<ObjectEntry>,
+    history: &History<ObjectEntry>,
     marks: &mut Vec<u64>,
 ) -> Result<(), OutOfMemory>
-    ensures entries { history.new.items ≡ history.old.items }
     ensures marks { marks.new.items ≡ marks.old.items }
-    ensures entry { OnOk result (vec_len history.new < vec_capacity history.new) }
+    ensures entry { OnOk result (length history.now + 1 < 2 ^ 64) }
     ensures mark { OnOk result (vec_len marks.new < vec_capacity marks.new) }
 {
-    history.reserve(1)?;
+    history.reserve()?;
     Ok(marks.reserve(1)?)
 }
 

@@ -1,12 +1,12 @@
 -- The objects that a path covers: the one at it, and those whose texts go on behind its text with a `/`.
-use Rattle.std.proofs.Common.{◌≡◌, ◌≢◌, ◌⊎◌, ◌<◌, ℕ, Bool, true, false, not, cond, ◌&&◌, ◌||◌, List, [], ◌∷◌, ◌++◌, map, filter, drop, Some, refl, ap, sym, subst, ◌∙◌, inl, inr, true≢false, arith, append_assoc, append-nil}
+use Rattle.std.proofs.Common.{◌≡◌, ◌≢◌, ◌⊎◌, ◌<◌, ℕ, Bool, true, false, not, cond, ◌&&◌, ◌||◌, List, [], ◌∷◌, ◌++◌, map, filter, drop, None, Some, refl, ap, sym, subst, ◌∙◌, inl, inr, true≢false, arith, append_assoc, append-nil}
 use Rattle.std.specs.Cmp.{both_ways, nat_cmp_total}
 use Rattle.std.specs.Cmp.Lexicographic.{nat_list_cmp_total}
 use Rattle.std.specs.List.{AllByRecursion, find, join_with_byte, slice_split}
 use Rattle.std.specs.List.Sorted.{IsStrictlySortedBy}
-use Rattle.std.specs.Map.{keys_of, lookup, values_of}
+use Rattle.std.specs.Map.{keys_of, lookup}
 use Rattle.std.specs.Ordering.{is_eq, is_gt, is_le, nat_cmp, ordering_then}
-use Rattle.std.specs.Prelude.{All, ◌==◌}
+use Rattle.std.specs.Prelude.{All, Option, ◌==◌, option_map}
 use Rattle.std.specs.declared.cmp.Ordering.{Ordering}
 use Rattle.std.specs.declared.cmp.Ordering.TheVariants.{Less, Equal, Greater}
 use Rattle.std.proofs.lemmas.Cmp.{ranked, tied_itself}
@@ -15,11 +15,11 @@ use Rattle.std.proofs.lemmas.List.Elements.{All-head, All-tail, All-weaker}
 use Rattle.std.proofs.lemmas.List.Splits.{slice_split_at}
 use Rattle.std.proofs.lemmas.Map.Keys.{sorted_head, sorted_tail}
 use Rattle.pol_locations.proofs.Prefixes.{Covers-from_test, test-from_Covers}
-use Rattle.pol_locations.specs.Location.{Covers, IsLocation, IsSegment, is_cover, is_segment_byte, location_text, scheme}
+use Rattle.pol_locations.specs.Location.{Covers, IsLocation, IsSegment, is_cover, is_segment_byte, location_text, scheme, segments_of}
+use Rattle.pol_locations.proofs.Texts.{segments_of-location_text}
 use Rattle.pol_types.proofs.Joins.{slice_split-join_with_byte}
-use Rattle.pol_objects.proofs.Kept.{found, same_text}
-use Rattle.pol_objects.specs.Objects.{IsKept, byte_order, has_text, is_at, is_between, keyed, path_of, paths_under}
-use Rattle.pol_objects.specs.declared.object.Object.{Object}
+use Rattle.pol_objects.proofs.Kept.{found, same_text, texts_tell}
+use Rattle.pol_objects.specs.Objects.{IsKept, Object, byte_order, has_text, is_at, is_between, kept_objects, keyed, object_with, path_of, paths_behind, paths_under}
 
 -- a byte that is at least `/` and below `0`
 slash : (byte : ℕ) (rest first second : Ordering) → is_le rest ≡ true → first ≡ nat_cmp 0x2F byte → second ≡ nat_cmp 0x30 byte →
@@ -104,12 +104,6 @@ covers_longer (segment ∷ path) other rest location located is =
       slice_split (λ byte. byte == 0x2F) rest,
       sym (cut other located) ∙ ap (slice_split (λ byte. byte == 0x2F)) joined ∙ cut_more segment path rest (all_free (segment ∷ path) location),
     )
-
--- different locations have different texts
-pub texts_tell : (path other : List (List ℕ)) → IsLocation path → IsLocation other → location_text path ≡ location_text other → path ≡ other
-texts_tell path other location located is =
-    let joined : join_with_byte 0x2F path ≡ join_with_byte 0x2F other = ap (drop 7) is in
-    sym (cut path location) ∙ ap (slice_split (λ byte. byte == 0x2F)) joined ∙ cut other located
 
 -- where one of two tests holds
 one_holds : (first second : Bool) → (first || second) ≡ true → (first ≡ true) ⊎ (second ≡ true)
@@ -210,9 +204,18 @@ none_above text [] above = refl
 none_above text (object ∷ objects) above =
     subst (λ order. cond (is_eq order) (object ∷ filter (has_text text) objects) (filter (has_text text) objects) ≡ []) (sym above.0) (none_above text objects above.1)
 
+-- the path of the object that was found
+abbrev found_path : Option Object → List (List (List ℕ))
+found_path None = []
+found_path (Some object) = object.path ∷ []
+
+path-found : (path : List (List ℕ)) (bytes : Option (List ℕ)) → path_of path bytes ≡ found_path (option_map (object_with path) bytes)
+path-found path None = refl
+path-found path (Some bytes) = refl
+
 one_at : (text : List ℕ) (object : Object) (objects : List Object) → AllByRecursion (λ key. byte_order (location_text object.path) key ≡ Less) (map (λ e. e.0) (map keyed objects)) →
-    (at : Bool) → has_text text object ≡ at → map (λ object. object.path) (filter (has_text text) objects) ≡ path_of (find (has_text text) objects) →
-    map (λ object. object.path) (cond at (object ∷ filter (has_text text) objects) (filter (has_text text) objects)) ≡ path_of (cond at (Some object) (find (has_text text) objects))
+    (at : Bool) → has_text text object ≡ at → map (λ object. object.path) (filter (has_text text) objects) ≡ found_path (find (has_text text) objects) →
+    map (λ object. object.path) (cond at (object ∷ filter (has_text text) objects) (filter (has_text text) objects)) ≡ found_path (cond at (Some object) (find (has_text text) objects))
 one_at text object objects above true at rest =
     let same : text ≡ location_text object.path = same_text text (location_text object.path) at in
     let others = subst (λ own. AllByRecursion (λ key. byte_order own key ≡ Less) (map (λ e. e.0) (map keyed objects))) (sym same) above in
@@ -220,7 +223,7 @@ one_at text object objects above true at rest =
 one_at text object objects above false at rest = rest
 
 filter-find : (text : List ℕ) (objects : List Object) → IsStrictlySortedBy byte_order (keys_of (map keyed objects)) →
-    map (λ object. object.path) (filter (has_text text) objects) ≡ path_of (find (has_text text) objects)
+    map (λ object. object.path) (filter (has_text text) objects) ≡ found_path (find (has_text text) objects)
 filter-find text [] rising = refl
 filter-find text (object ∷ objects) rising =
     one_at text object objects (sorted_head byte_order (location_text object.path) (keys_of (map keyed objects)) rising) (has_text text object) refl
@@ -230,24 +233,25 @@ map_both : (front rest : List Object) → map (λ object. object.path) (front ++
 map_both [] rest = refl
 map_both (object ∷ front) rest = ap (λ paths. object.path ∷ paths) (map_both front rest)
 
-entries-behind : (text : List ℕ) (objects : List Object) → map (λ entry. entry.1.path) (filter (λ entry. is_between text entry.0) (map keyed objects)) ≡ map (λ object. object.path) (filter (behind text) objects)
-entries-behind text [] = refl
-entries-behind text (object ∷ objects) =
-    elim (behind text object) as (λ kept. map (λ entry. entry.1.path) (cond kept (keyed object ∷ filter (λ entry. is_between text entry.0) (map keyed objects)) (filter (λ entry. is_between text entry.0) (map keyed objects)))
+entries-behind : (text : List ℕ) (objects : List Object) → AllByRecursion (λ object. IsLocation object.path) objects →
+    paths_behind text (map keyed objects) ≡ map (λ object. object.path) (filter (behind text) objects)
+entries-behind text [] located = refl
+entries-behind text (object ∷ objects) located =
+    elim (behind text object) as (λ kept. map (λ entry. segments_of entry.0) (cond kept (keyed object ∷ filter (λ entry. is_between text entry.0) (map keyed objects)) (filter (λ entry. is_between text entry.0) (map keyed objects)))
     ≡ map (λ object. object.path) (cond kept (object ∷ filter (behind text) objects) (filter (behind text) objects)))
-    [ true ↦ ap (λ paths. object.path ∷ paths) (entries-behind text objects) | false ↦ entries-behind text objects ]
+    [ true ↦ λ i. segments_of-location_text object.path located.0 i ∷ entries-behind text objects located.1 i | false ↦ entries-behind text objects located.1 ]
 
 -- the paths that a path covers are that of the object at it, and those of the objects behind it
-pub listed : (entries : List (List ℕ × Object)) (text : List ℕ) (path : List (List ℕ)) → IsKept entries → text ≡ location_text path → IsLocation path →
-    path_of (lookup (λ key. is_eq (byte_order text key)) entries) ++ map (λ entry. entry.1.path) (filter (λ entry. is_between text entry.0) entries)
-    ≡ paths_under (values_of entries) path
+pub listed : (entries : List (List ℕ × List ℕ)) (text : List ℕ) (path : List (List ℕ)) → IsKept entries → text ≡ location_text path → IsLocation path →
+    path_of path (lookup (λ key. is_eq (byte_order text key)) entries) ++ paths_behind text entries ≡ paths_under (kept_objects entries) path
 listed entries text path kept own location =
-    let objects = values_of entries in
-    let rising : IsStrictlySortedBy byte_order (keys_of (map keyed (values_of entries))) = subst (λ all. IsStrictlySortedBy byte_order (keys_of all)) kept.under kept.rising in
-    let first : path_of (lookup (λ key. is_eq (byte_order text key)) entries) ≡ map (λ object. object.path) (filter (has_text text) objects) =
-    ap path_of (found entries text path kept own ∙ ap (λ text. find (has_text text) objects) (sym own)) ∙ sym (filter-find text objects rising) in
-    let others : map (λ entry. entry.1.path) (filter (λ entry. is_between text entry.0) entries) ≡ map (λ object. object.path) (filter (behind text) objects) =
-    ap (λ all. map (λ entry. entry.1.path) (filter (λ entry. is_between text entry.0) all)) kept.under ∙ entries-behind text objects in
+    let objects = kept_objects entries in
+    let rising : IsStrictlySortedBy byte_order (keys_of (map keyed objects)) = subst (λ all. IsStrictlySortedBy byte_order (keys_of all)) kept.under kept.rising in
+    let first : path_of path (lookup (λ key. is_eq (byte_order text key)) entries) ≡ map (λ object. object.path) (filter (has_text text) objects) =
+    path-found path (lookup (λ key. is_eq (byte_order text key)) entries)
+    ∙ ap found_path (found entries text path kept location own ∙ ap (λ text. find (has_text text) objects) (sym own)) ∙ sym (filter-find text objects rising) in
+    let others : paths_behind text entries ≡ map (λ object. object.path) (filter (behind text) objects) =
+    ap (paths_behind text) kept.under ∙ entries-behind text objects kept.located in
     (λ i. first i ++ others i)
     ∙ sym (map_both (filter (has_text text) objects) (filter (behind text) objects))
     ∙ ap (map (λ object. object.path)) (sym (filter-parts text objects rising)

@@ -4,41 +4,68 @@ use Rattle.std.specs.BTreeMap.{insert_entry}
 use Rattle.std.specs.Cmp.Lexicographic.{bytes_decides, texts_ties}
 use Rattle.std.specs.List.{AllByRecursion, find}
 use Rattle.std.specs.List.Sorted.{IsStrictlySortedBy}
-use Rattle.std.specs.Map.{keys_of, lookup, remove_entry, values_of}
+use Rattle.std.specs.Map.{keys_of, lookup, remove_entry}
 use Rattle.std.specs.Ordering.{is_eq, is_lt, match_ordering}
-use Rattle.std.specs.Prelude.{if◌then◌else◌}
+use Rattle.std.specs.Prelude.{Option, if◌then◌else◌, option_map}
 use Rattle.std.specs.declared.cmp.Ordering.{Ordering}
 use Rattle.std.specs.declared.cmp.Ordering.TheVariants.{Less, Equal, Greater}
 use Rattle.std.proofs.lemmas.Map.Keys.{sorted_head, sorted_tail}
-use Rattle.pol_locations.specs.Location.{IsLocation, location_text}
-use Rattle.pol_objects.specs.Objects.{IsKept, byte_order, has_text, is_at, keyed, object_at, order_at, with_object, without_object}
-use Rattle.pol_objects.specs.declared.object.Object.{Object}
+use Rattle.pol_locations.specs.Location.{IsLocation, location_text, parse_refusal, segments_of}
+use Rattle.pol_locations.proofs.Texts.{parse_refusal-location_text, segments_of-location_text}
+use Rattle.pol_objects.specs.Objects.{IsKept, Object, byte_order, has_text, is_at, kept_objects, keyed, object_at, object_with, order_at, with_object, without_object}
 
 -- texts that compare as equal are equal
 pub same_text : (left right : List ℕ) → is_eq (byte_order left right) ≡ true → left ≡ right
 same_text left right is = (bytes_decides left right).0 (texts_ties left right ∙ is)
 
-pub values-keyed : (objects : List Object) → values_of (map keyed objects) ≡ objects
-values-keyed [] = refl
-values-keyed (object ∷ objects) = ap (λ kept. object ∷ kept) (values-keyed objects)
+-- different locations have different texts
+pub texts_tell : (path other : List (List ℕ)) → IsLocation path → IsLocation other → location_text path ≡ location_text other → path ≡ other
+texts_tell path other location located is =
+    sym (segments_of-location_text path location) ∙ ap segments_of is ∙ segments_of-location_text other located
 
--- what is kept under a text is the object whose path has it
-pub lookup-keyed : (text : List ℕ) (objects : List Object) → lookup (λ key. is_eq (byte_order text key)) (map keyed objects) ≡ find (has_text text) objects
+-- the objects are those that are kept
+pub objects-keyed : (objects : List Object) → AllByRecursion (λ object. IsLocation object.path) objects → kept_objects (map keyed objects) ≡ objects
+objects-keyed [] located = refl
+objects-keyed (object ∷ objects) located =
+    λ i. object_with (segments_of-location_text object.path located.0 i) object.bytes ∷ objects-keyed objects located.1 i
+
+-- what is kept under a text are the bytes of the object whose path has it
+lookup-here : (here : Bool) (object : Object) (rest : Option (List ℕ)) (found : Option Object) → rest ≡ option_map (λ object. object.bytes) found →
+    cond here (Some object.bytes) rest ≡ option_map (λ object. object.bytes) (cond here (Some object) found)
+lookup-here true object rest found same = refl
+lookup-here false object rest found same = same
+
+pub lookup-keyed : (text : List ℕ) (objects : List Object) → lookup (λ key. is_eq (byte_order text key)) (map keyed objects) ≡ option_map (λ object. object.bytes) (find (has_text text) objects)
 lookup-keyed text [] = refl
-lookup-keyed text (object ∷ objects) = ap (λ found. cond (has_text text object) (Some object) found) (lookup-keyed text objects)
+lookup-keyed text (object ∷ objects) =
+    lookup-here (has_text text object) object (lookup (λ key. is_eq (byte_order text key)) (map keyed objects)) (find (has_text text) objects) (lookup-keyed text objects)
+
+-- and that object is at the path with this text
+found-here : (path : List (List ℕ)) (object : Object) (found : Option Object) → IsLocation path → IsLocation object.path → (here : Bool) → is_at path object ≡ here →
+    option_map (object_with path) (option_map (λ object. object.bytes) found) ≡ found →
+    option_map (object_with path) (option_map (λ object. object.bytes) (cond here (Some object) found)) ≡ cond here (Some object) found
+found-here path object found location located true at rest =
+    ap (λ own. Some (object_with own object.bytes)) (texts_tell path object.path location located (same_text (location_text path) (location_text object.path) at))
+found-here path object found location located false at rest = rest
+
+pub found-at : (path : List (List ℕ)) (objects : List Object) → IsLocation path → AllByRecursion (λ object. IsLocation object.path) objects →
+    option_map (object_with path) (option_map (λ object. object.bytes) (object_at objects path)) ≡ object_at objects path
+found-at path [] location located = refl
+found-at path (object ∷ objects) location located =
+    found-here path object (object_at objects path) location located.0 (is_at path object) refl (found-at path objects location located.1)
 
 -- a new object goes to its place
 placed : (object first : Object) (objects : List Object) (order : Ordering) → cond (is_eq order) (Some first) (object_at objects object.path) ≡ None →
-    (object_at objects object.path ≡ None → insert_entry byte_order (map keyed objects) (location_text object.path) object ≡ map keyed (with_object object objects)) →
-    match_ordering order (keyed object ∷ keyed first ∷ map keyed objects) ((location_text first.path, object) ∷ map keyed objects)
-    (keyed first ∷ insert_entry byte_order (map keyed objects) (location_text object.path) object)
+    (object_at objects object.path ≡ None → insert_entry byte_order (map keyed objects) (location_text object.path) object.bytes ≡ map keyed (with_object object objects)) →
+    match_ordering order (keyed object ∷ keyed first ∷ map keyed objects) ((location_text first.path, object.bytes) ∷ map keyed objects)
+    (keyed first ∷ insert_entry byte_order (map keyed objects) (location_text object.path) object.bytes)
     ≡ map keyed (if is_lt order then object ∷ first ∷ objects else first ∷ with_object object objects)
 placed object first objects Less new rest = refl
 placed object first objects Equal new rest = cc
 placed object first objects Greater new rest = ap (λ entries. keyed first ∷ entries) (rest new)
 
 pub insert-keyed : (object : Object) (objects : List Object) → object_at objects object.path ≡ None →
-    insert_entry byte_order (map keyed objects) (location_text object.path) object ≡ map keyed (with_object object objects)
+    insert_entry byte_order (map keyed objects) (location_text object.path) object.bytes ≡ map keyed (with_object object objects)
 insert-keyed object [] new = refl
 insert-keyed object (first ∷ objects) new =
     placed object first objects (order_at (location_text object.path) first) new (insert-keyed object objects)
@@ -78,21 +105,26 @@ each-with_object P object (first ∷ objects) new each =
     elim (is_lt (order_at (location_text object.path) first)) as (λ below. AllByRecursion P (if below then object ∷ first ∷ objects else first ∷ with_object object objects))
     [ true ↦ (new, each) | false ↦ (each.0, rest) ]
 
-each-filter : (P : Object → Type 0) (keep : Object → Bool) (objects : List Object) → AllByRecursion P objects → AllByRecursion P (filter keep objects)
+pub each-filter : {A : Type 0} (P : A → Type 0) (keep : A → Bool) (items : List A) → AllByRecursion P items → AllByRecursion P (filter keep items)
 each-filter P keep [] each = tt
-each-filter P keep (first ∷ objects) each =
-    let rest = each-filter P keep objects each.1 in
-    elim (keep first) as (λ kept. AllByRecursion P (cond kept (first ∷ filter keep objects) (filter keep objects))) [ true ↦ (each.0, rest) | false ↦ rest ]
+each-filter P keep (first ∷ items) each =
+    let rest = each-filter P keep items each.1 in
+    elim (keep first) as (λ kept. AllByRecursion P (cond kept (first ∷ filter keep items) (filter keep items))) [ true ↦ (each.0, rest) | false ↦ rest ]
+
+-- each text is read back
+pub texts_pass : (objects : List Object) → AllByRecursion (λ object. IsLocation object.path) objects → AllByRecursion (λ entry. parse_refusal entry.0 ≡ None) (map keyed objects)
+texts_pass [] located = tt
+texts_pass (object ∷ objects) located = (parse_refusal-location_text object.path located.0, texts_pass objects located.1)
 
 -- entries that are kept, and the objects in them
-pub record Keeps (entries : List (List ℕ × Object)) (objects : List Object) : Type 0 where
+pub record Keeps (entries : List (List ℕ × List ℕ)) (objects : List Object) : Type 0 where
   pub kept : IsKept entries
-  pub holds : values_of entries ≡ objects
+  pub holds : kept_objects entries ≡ objects
 
-keeps : (entries : List (List ℕ × Object)) (objects : List Object) → entries ≡ map keyed objects → IsStrictlySortedBy byte_order (keys_of entries) →
+keeps : (entries : List (List ℕ × List ℕ)) (objects : List Object) → entries ≡ map keyed objects → IsStrictlySortedBy byte_order (keys_of entries) →
     AllByRecursion (λ object. IsLocation object.path) objects → Keeps entries objects
 keeps entries objects under rising located =
-    let holds : values_of entries ≡ objects = ap values_of under ∙ values-keyed objects in
+    let holds : kept_objects entries ≡ objects = ap kept_objects under ∙ objects-keyed objects located in
     record {
       kept = record {
         under = under ∙ ap (map keyed) (sym holds);
@@ -102,34 +134,37 @@ keeps entries objects under rising located =
       holds = holds;
     }
 
--- the object that a look-up by text finds
-pub found : (entries : List (List ℕ × Object)) (text : List ℕ) (path : List (List ℕ)) → IsKept entries → text ≡ location_text path →
-    lookup (λ key. is_eq (byte_order text key)) entries ≡ object_at (values_of entries) path
-found entries text path kept own =
-    ap (lookup (λ key. is_eq (byte_order text key))) kept.under ∙ lookup-keyed text (values_of entries) ∙ ap (λ text. find (has_text text) (values_of entries)) own
+-- the object whose bytes a look-up by text finds
+pub found : (entries : List (List ℕ × List ℕ)) (text : List ℕ) (path : List (List ℕ)) → IsKept entries → IsLocation path → text ≡ location_text path →
+    option_map (object_with path) (lookup (λ key. is_eq (byte_order text key)) entries) ≡ object_at (kept_objects entries) path
+found entries text path kept location own =
+    ap (λ bytes. option_map (object_with path) bytes)
+    (ap (lookup (λ key. is_eq (byte_order text key))) kept.under ∙ lookup-keyed text (kept_objects entries)
+    ∙ ap (λ text. option_map (λ object. object.bytes) (find (has_text text) (kept_objects entries))) own)
+    ∙ found-at path (kept_objects entries) location kept.located
 
 -- the entries after a new object was added
-pub added : (entries after : List (List ℕ × Object)) (text : List ℕ) (object : Object) → IsKept entries → text ≡ location_text object.path → IsLocation object.path →
-    object_at (values_of entries) object.path ≡ None → after ≡ insert_entry byte_order entries text object → IsStrictlySortedBy byte_order (keys_of after) →
-    Keeps after (with_object object (values_of entries))
+pub added : (entries after : List (List ℕ × List ℕ)) (text : List ℕ) (object : Object) → IsKept entries → text ≡ location_text object.path → IsLocation object.path →
+    object_at (kept_objects entries) object.path ≡ None → after ≡ insert_entry byte_order entries text object.bytes → IsStrictlySortedBy byte_order (keys_of after) →
+    Keeps after (with_object object (kept_objects entries))
 added entries after text object kept own located new is rising =
-    keeps after (with_object object (values_of entries))
-    (is ∙ ap (λ key. insert_entry byte_order entries key object) own
-    ∙ ap (λ old. insert_entry byte_order old (location_text object.path) object) kept.under ∙ insert-keyed object (values_of entries) new)
-    rising (each-with_object (λ object. IsLocation object.path) object (values_of entries) located kept.located)
+    keeps after (with_object object (kept_objects entries))
+    (is ∙ ap (λ key. insert_entry byte_order entries key object.bytes) own
+    ∙ ap (λ old. insert_entry byte_order old (location_text object.path) object.bytes) kept.under ∙ insert-keyed object (kept_objects entries) new)
+    rising (each-with_object (λ object. IsLocation object.path) object (kept_objects entries) located kept.located)
 
 -- the entries after what is at a path was taken away
-pub removed : (entries after : List (List ℕ × Object)) (text : List ℕ) (path : List (List ℕ)) → IsKept entries → text ≡ location_text path →
+pub removed : (entries after : List (List ℕ × List ℕ)) (text : List ℕ) (path : List (List ℕ)) → IsKept entries → text ≡ location_text path →
     after ≡ remove_entry (λ key. is_eq (byte_order text key)) entries → IsStrictlySortedBy byte_order (keys_of after) →
-    Keeps after (without_object path (values_of entries))
+    Keeps after (without_object path (kept_objects entries))
 removed entries after text path kept own is rising =
-    let keys : IsStrictlySortedBy byte_order (keys_of (map keyed (values_of entries))) = subst (λ all. IsStrictlySortedBy byte_order (keys_of all)) kept.under kept.rising in
-    keeps after (without_object path (values_of entries))
-    (is ∙ ap (remove_entry (λ key. is_eq (byte_order text key))) kept.under ∙ remove-keyed text (values_of entries) keys
-    ∙ ap (λ text. map keyed (filter (λ object. not (has_text text object)) (values_of entries))) own)
-    rising (each-filter (λ object. IsLocation object.path) (λ object. not (is_at path object)) (values_of entries) kept.located)
+    let keys : IsStrictlySortedBy byte_order (keys_of (map keyed (kept_objects entries))) = subst (λ all. IsStrictlySortedBy byte_order (keys_of all)) kept.under kept.rising in
+    keeps after (without_object path (kept_objects entries))
+    (is ∙ ap (remove_entry (λ key. is_eq (byte_order text key))) kept.under ∙ remove-keyed text (kept_objects entries) keys
+    ∙ ap (λ text. map keyed (filter (λ object. not (has_text text object)) (kept_objects entries))) own)
+    rising (each-filter (λ object. IsLocation object.path) (λ object. not (is_at path object)) (kept_objects entries) kept.located)
 
 -- the same entries hold the same objects
-pub unchanged : (entries after : List (List ℕ × Object)) → IsKept entries → after ≡ entries → Keeps after (values_of entries)
+pub unchanged : (entries after : List (List ℕ × List ℕ)) → IsKept entries → after ≡ entries → Keeps after (kept_objects entries)
 unchanged entries after kept same =
-    record { kept = subst IsKept (sym same) kept; holds = ap values_of same }
+    record { kept = subst IsKept (sym same) kept; holds = ap kept_objects same }

@@ -10,15 +10,13 @@ use Rattle.std.proofs.lemmas.Cmp.{tied_itself}
 use Rattle.std.proofs.lemmas.Grind.{common_steps}
 use Rattle.std.proofs.lemmas.List.Elements.{All-head, All-tail}
 use Rattle.pol_locations.specs.Location.{location_text}
-use Rattle.pol_objects.proofs.Covered.{texts_tell}
-use Rattle.pol_objects.proofs.Kept.{same_text}
+use Rattle.pol_objects.proofs.Kept.{same_text, texts_tell}
 use Rattle.pol_objects.specs.Laws.{CountIsBounded, PutIsThere, PutsAreCounted, TakenBack, TextsTell, WrittenOnce, counted_by, counted_unless, deletes}
 use Rattle.pol_objects.specs.Machine.{after_put, object_next, put_refusal, stored}
-use Rattle.pol_objects.specs.Objects.{byte_order, has_text, is_at, object_at, order_at, with_object, without_object}
+use Rattle.pol_objects.specs.Objects.{Object, byte_order, has_text, is_at, object_at, order_at, with_object, without_object}
 use Rattle.pol_objects.specs.Rules.{size_refusal}
 use Rattle.pol_objects.specs.declared.action.ObjectAction.{ObjectAction}
 use Rattle.pol_objects.specs.declared.action.ObjectAction.TheVariants as action
-use Rattle.pol_objects.specs.declared.object.Object.{Object}
 use Rattle.pol_objects.specs.declared.object_state.ObjectState.{ObjectState}
 use Rattle.pol_objects.specs.declared.rule.ObjectRule.{ObjectRule}
 use Rattle.pol_objects.specs.declared.rule.ObjectRule.TheVariants.{ObjectThere}

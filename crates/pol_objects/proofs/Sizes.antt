@@ -1,12 +1,11 @@
 -- What the rules of a put answer.
 use Rattle.std.proofs.Common.{◌≡◌, ◌≤◌, ◌<◌, ◌+◌, ◌-◌, ◌^◌, ℕ, true, false, List, length, min, None, Some, is_some, refl, ap, sym, ◌∙◌, arith}
 use Rattle.std.specs.Borrow.{Bor}
-use Rattle.std.specs.Prelude.{Option, nat_lt, option_copied}
+use Rattle.std.specs.Prelude.{Option, nat_lt, option_copied, option_map}
 use Rattle.std.proofs.lemmas.Grind.{common_steps}
 use Rattle.pol_objects.specs.Machine.{put_refusal}
-use Rattle.pol_objects.specs.Objects.{object_at}
+use Rattle.pol_objects.specs.Objects.{Object, object_at, object_with}
 use Rattle.pol_objects.specs.Rules.{size_refusal}
-use Rattle.pol_objects.specs.declared.object.Object.{Object}
 use Rattle.pol_objects.specs.declared.object_state.ObjectState.{ObjectState}
 use Rattle.pol_objects.specs.declared.rule.ObjectRule.TheVariants.{ObjectThere, TooLong, SpaceFull}
 
@@ -33,9 +32,9 @@ fits counted length sum within is below =
     rw (short, room) refl
 
 -- an object is found where it is lent
-pub lent : (found : Option (Bor Object)) → is_some (option_copied found) ≡ is_some found
-lent None = refl
-lent (Some object) = refl
+pub lent : (path : List (List ℕ)) (found : Option (Bor (List ℕ))) → is_some (option_map (object_with path) (option_copied found)) ≡ is_some found
+lent path None = refl
+lent path (Some bytes) = refl
 
 pub there : (state : ObjectState) (path : List (List ℕ)) (bytes : List ℕ) (found : Option Object) → found ≡ object_at state.objects path → is_some found ≡ true →
     Some ObjectThere ≡ put_refusal state path bytes

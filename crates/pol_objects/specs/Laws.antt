@@ -3,10 +3,9 @@ use Rattle.std.specs.Prelude.{◌≡◌, ◌+◌, ◌≤◌, ℕ, Bool, true, fa
 use Rattle.std.specs.Ordering.{is_eq}
 use Rattle.pol_locations.specs.Location.{IsLocation, location_text}
 use Rattle.pol_objects.specs.Machine.{object_next, put_refusal, state_after}
-use Rattle.pol_objects.specs.Objects.{byte_order, object_at, with_object, without_object}
+use Rattle.pol_objects.specs.Objects.{Object, byte_order, object_at, with_object, without_object}
 use Rattle.pol_objects.specs.declared.action.ObjectAction.{ObjectAction}
 use Rattle.pol_objects.specs.declared.action.ObjectAction.TheVariants as action
-use Rattle.pol_objects.specs.declared.object.Object.{Object}
 use Rattle.pol_objects.specs.declared.object_state.ObjectState.{ObjectState}
 use Rattle.pol_objects.specs.declared.rule.ObjectRule.{ObjectRule}
 

@@ -1,11 +1,10 @@
 -- The object machine: what each action is answered, what it leaves, and what a history of actions leaves.
 use Rattle.std.specs.Prelude.{ℕ, ◌+◌, List, length, Option, Some, None, is_some, if◌then◌else◌}
 use Rattle.std.specs.List.{fold}
-use Rattle.pol_objects.specs.Objects.{object_at, paths_under, with_object, without_object}
+use Rattle.pol_objects.specs.Objects.{Object, object_at, paths_under, with_object, without_object}
 use Rattle.pol_objects.specs.Rules.{size_refusal}
 use Rattle.pol_objects.specs.declared.action.ObjectAction.{ObjectAction}
 use Rattle.pol_objects.specs.declared.action.ObjectAction.TheVariants as action
-use Rattle.pol_objects.specs.declared.object.Object.{Object}
 use Rattle.pol_objects.specs.declared.object_state.ObjectState.{ObjectState}
 use Rattle.pol_objects.specs.declared.reply.ObjectReply.{ObjectReply}
 use Rattle.pol_objects.specs.declared.reply.ObjectReply.TheVariants as reply

@@ -4,12 +4,16 @@ use Rattle.std.specs.BTreeMap.Range.{range_contains}
 use Rattle.std.specs.Cmp.Lexicographic.{slice_cmp}
 use Rattle.std.specs.List.{AllByRecursion, find, sum_by}
 use Rattle.std.specs.List.Sorted.{IsStrictlySortedBy}
-use Rattle.std.specs.Map.{keys_of, values_of}
+use Rattle.std.specs.Map.{keys_of}
 use Rattle.std.specs.Ordering.{is_eq, is_lt, nat_cmp}
 use Rattle.std.specs.declared.cmp.Ordering.{Ordering}
 use Rattle.std.specs.declared.ops.Bound.TheVariants.{Included, Excluded}
-use Rattle.pol_locations.specs.Location.{IsLocation, is_cover, location_text}
-use Rattle.pol_objects.specs.declared.object.Object.{Object}
+use Rattle.pol_locations.specs.Location.{IsLocation, is_cover, location_text, segments_of}
+
+-- an object: where it is, and its bytes
+pub record Object : Type 0 where
+  pub path : List (List ℕ)
+  pub bytes : List ℕ
 
 -- byte order, in which a proper prefix is first
 abbrev pub byte_order : List ℕ → List ℕ → Ordering
@@ -52,21 +56,36 @@ paths_under objects path = map (λ object. object.path) (filter (λ object. is_c
 abbrev pub total_length : List Object → ℕ
 total_length objects = sum_by (λ object. length object.bytes) objects
 
--- an object under the text of its path
-abbrev pub keyed : Object → List ℕ × Object
-keyed object = (location_text object.path, object)
+-- the object of these bytes at a path
+abbrev pub object_with : List (List ℕ) → List ℕ → Object
+object_with path bytes = record { path = path; bytes = bytes }
+
+-- the objects whose bytes are kept under the texts of their paths
+abbrev pub kept_object : List ℕ × List ℕ → Object
+kept_object entry = object_with (segments_of entry.0) entry.1
+
+abbrev pub kept_objects : List (List ℕ × List ℕ) → List Object
+kept_objects entries = map kept_object entries
+
+-- the bytes of an object under the text of its path
+abbrev pub keyed : Object → List ℕ × List ℕ
+keyed object = (location_text object.path, object.bytes)
 
 -- how objects are kept: each under its text, the texts strictly rising, and each path a location
-pub record IsKept (entries : List (List ℕ × Object)) : Type 0 where
-  pub under : entries ≡ map keyed (values_of entries)
+pub record IsKept (entries : List (List ℕ × List ℕ)) : Type 0 where
+  pub under : entries ≡ map keyed (kept_objects entries)
   pub rising : IsStrictlySortedBy byte_order (keys_of entries)
-  pub located : AllByRecursion (λ object. IsLocation object.path) (values_of entries)
+  pub located : AllByRecursion (λ object. IsLocation object.path) (kept_objects entries)
 
 -- whether a text is between another one with `/` and with `0`, the next byte, behind it
 abbrev pub is_between : List ℕ → List ℕ → Bool
 is_between text other = range_contains byte_order (Included (text ++ 0x2F ∷ [])) (Excluded (text ++ 0x30 ∷ [])) other
 
--- the path of the object that was found
-abbrev pub path_of : Option Object → List (List (List ℕ))
-path_of None = []
-path_of (Some object) = object.path ∷ []
+-- this path, where something was found at it
+abbrev pub path_of : {A : Type 0} → List (List ℕ) → Option A → List (List (List ℕ))
+path_of path None = []
+path_of path (Some found) = path ∷ []
+
+-- the paths of the entries that go on behind a text with a `/`
+abbrev pub paths_behind : List ℕ → List (List ℕ × List ℕ) → List (List (List ℕ))
+paths_behind text entries = map (λ entry. segments_of entry.0) (filter (λ entry. is_between text entry.0) entries)

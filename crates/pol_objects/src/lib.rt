@@ -3,14 +3,12 @@
 
 mod action;
 pub mod laws;
-mod object;
 mod object_map;
 mod object_state;
 mod reply;
 mod rule;
 
 pub use action::ObjectAction;
-pub use object::Object;
 pub use object_map::ObjectMap;
 pub use object_state::ObjectState;
 pub use reply::ObjectReply;

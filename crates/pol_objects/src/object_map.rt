@@ -1,26 +1,27 @@
-ghost use Rattle.std.specs.Prelude.{◌≡◌, ◌++◌, [], ℕ, filter, map, IfOk, OnOk, OnErr, None, List, option_copied};
+ghost use Rattle.std.specs.Prelude.{◌≡◌, ◌++◌, [], ℕ, map, IfOk, OnOk, OnErr, None, List, option_copied, option_map, length};
 ghost use Rattle.std.specs.BTreeMap.{get, values};
-ghost use Rattle.pol_locations.specs.Location.{IsLocation, location_text};
-ghost use Rattle.pol_objects.specs.Objects.{IsKept, IsKey, byte_order, is_between, object_at, path_of, paths_under, total_length, with_object, without_object};
-ghost use Rattle.pol_objects.specs.declared.object.Object.{Object};
+ghost use Rattle.std.specs.List.{sum_by};
+ghost use Rattle.pol_locations.specs.Location.{IsLocation, location_text, parse_refusal, segments_of};
+ghost use Rattle.pol_objects.specs.Objects.{IsKept, IsKey, Object, byte_order, kept_objects, object_at, object_with, path_of, paths_behind, paths_under, total_length, with_object, without_object};
 
-use crate::Object;
-use pol_locations::Location;
+use pol_locations::{Location, LocationRefused};
+use pol_shared_bytes::SharedBytes;
 use pol_types::{Listed, OutOfMemory, Text};
-use std::alloc::{AllocError, Global};
+use std::alloc::Global;
 use std::collections::BTreeMap;
 use std::marker::Model;
 
-/// A finite map from locations to bytes. Contracts see its objects in byte order of the texts of their paths.
+/// A finite map from locations to bytes, which are kept under the texts of their paths. Contracts see the objects in
+/// byte order of these texts.
 #[derive(Drop)]
 pub struct ObjectMap {
-    by_text: BTreeMap<Text, Object>,
+    by_text: BTreeMap<Text, SharedBytes>,
 }
 
 impl Model for ObjectMap {
     ghost Value = { List Object };
 
-    ghost view = { λ map. values map.by_text };
+    ghost view = { λ map. kept_objects map.by_text.entries };
 
     ghost invariant = { λ map. IsKept map.by_text.entries };
 }
@@ -34,22 +35,28 @@ impl ObjectMap {
         }
     }
 
-    /// The object at this path.
-    pub fn find(&self, alloc: Global, path: &Location) -> Result<Option<&Object>, OutOfMemory>
-        ensures { IfOk result (λ found. option_copied found ≡ object_at self.now path.now) }
+    /// The bytes of the object at this path.
+    pub fn find(&self, alloc: Global, path: &Location) -> Result<Option<&SharedBytes>, OutOfMemory>
+        ensures { IfOk result (λ found. option_map (object_with path.now) (option_copied found)
+            ≡ object_at self.now path.now) }
     {
         let text = text_of(alloc, path)?;
         Ok(self.by_text.get(&text))
     }
 
-    /// Adds an object of a new path. Where there is no memory for it, the objects stay.
-    pub fn insert(&mut self, alloc: Global, object: Object) -> Result<(), OutOfMemory>
-        requires new { object_at self.old object.path ≡ None }
-        ensures added { OnOk result (self.new ≡ with_object object self.old) }
+    /// Adds an object at a new path. Where there is no memory for it, the objects stay.
+    pub fn insert(
+        &mut self,
+        alloc: Global,
+        path: &Location,
+        bytes: SharedBytes,
+    ) -> Result<(), OutOfMemory>
+        requires new { object_at self.old path.now ≡ None }
+        ensures added { OnOk result (self.new ≡ with_object (object_with path.now bytes) self.old) }
         ensures error { OnErr result (self.new ≡ self.old) }
     {
-        let text = text_of(alloc, &object.path)?;
-        self.by_text.insert(text, object)?;
+        let text = text_of(alloc, path)?;
+        self.by_text.insert(text, bytes)?;
         Ok(())
     }
 
@@ -60,20 +67,25 @@ impl ObjectMap {
         text_of(alloc, path)
     }
 
-    /// Takes the object whose path has this text away, and tells whether there was one. It takes no memory.
-    pub fn take(&mut self, key: &Text) -> Option<Object>
+    /// Takes the object whose path has this text away, and gives its bytes, if there was one. It takes no memory.
+    pub fn take(&mut self, key: &Text) -> Option<SharedBytes>
         requires { IsKey key.now }
-        ensures taken { (path : List (List ℕ)) → key.now ≡ location_text path → result ≡ object_at self.old path }
+        ensures taken { (path : List (List ℕ)) → IsLocation path → key.now ≡ location_text path
+            → option_map (object_with path) result ≡ object_at self.old path }
         ensures without { (path : List (List ℕ)) → key.now ≡ location_text path
             → self.new ≡ without_object path self.old }
     {
         self.by_text.remove(key)
     }
 
-    /// Takes the object at this path away, and tells whether there was one. Where there is no memory to look for it,
-    /// the objects stay.
-    pub fn remove(&mut self, alloc: Global, path: &Location) -> Result<Option<Object>, OutOfMemory>
-        ensures taken { IfOk result (λ taken. taken ≡ object_at self.old path.now) }
+    /// Takes the object at this path away, and gives its bytes, if there was one. Where there is no memory to look for
+    /// it, the objects stay.
+    pub fn remove(
+        &mut self,
+        alloc: Global,
+        path: &Location,
+    ) -> Result<Option<SharedBytes>, OutOfMemory>
+        ensures taken { IfOk result (λ taken. option_map (object_with path.now) taken ≡ object_at self.old path.now) }
         ensures without { OnOk result (self.new ≡ without_object path.now self.old) }
         ensures error { OnErr result (self.new ≡ self.old) }
     {
@@ -81,7 +93,8 @@ impl ObjectMap {
         Ok(self.take(&key))
     }
 
-    /// The paths of the objects that this path covers, in byte order of their texts. Only these are looked at.
+    /// The paths of the objects that this path covers, in byte order of their texts. Only these are looked at, and read
+    /// of their texts.
     pub fn paths_under(
         &self,
         alloc: Global,
@@ -91,7 +104,7 @@ impl ObjectMap {
     {
         let text = text_of(alloc, path)?;
         let mut paths = Vec::new(alloc);
-        push_at(&mut paths, &self.by_text, &text)?;
+        push_at(&mut paths, &self.by_text, path, &text)?;
         push_below(&mut paths, &self.by_text, alloc, &text)?;
         Ok(Listed::from(paths))
     }
@@ -105,32 +118,24 @@ impl ObjectMap {
     }
 }
 
-impl Clone for ObjectMap {
-    ghost is_clone = { λ source clone. clone ≡ source };
-
-    /// A copy, which shares all bytes.
-    fn clone(&self) -> Result<Self, AllocError> {
-        Ok(ObjectMap {
-            by_text: self.by_text.clone()?,
-        })
-    }
-}
-
+/// The text of a path, in no more memory than it needs.
 fn text_of(alloc: Global, path: &Location) -> Result<Text, OutOfMemory>
     ensures text { IfOk result (λ text. text ≡ location_text path.now) }
     ensures located { IsLocation path.now }
 {
     path.segments();
-    Ok(Text::from(path.text(alloc)?))
+    let mut text = path.text(alloc)?;
+    text.shrink_to_fit();
+    Ok(Text::from(text))
 }
 
 /// The sum of the lengths of the objects.
-fn sum_of_lengths(by_text: &BTreeMap<Text, Object>) -> Result<u64, OutOfMemory>
-    ensures { IfOk result (λ total. total ≡ total_length (values by_text.now)) }
+fn sum_of_lengths(by_text: &BTreeMap<Text, SharedBytes>) -> Result<u64, OutOfMemory>
+    ensures { IfOk result (λ total. total ≡ sum_by length (values by_text.now)) }
 {
     let mut total = 0u64;
-    for object in by_text.values() {
-        let Some(more) = total.checked_add(object.bytes.len() as u64) else {
+    for bytes in by_text.values() {
+        let Some(more) = total.checked_add(bytes.len() as u64) else {
             return Err(OutOfMemory);
         };
         total = more;
@@ -138,16 +143,18 @@ fn sum_of_lengths(by_text: &BTreeMap<Text, Object>) -> Result<u64, OutOfMemory>
     Ok(total)
 }
 
-/// Pushes the path of the object whose text this is, if there is one.
+/// Pushes this path, whose text this is, if there is an object at it.
 fn push_at(
     paths: &mut Vec<Location>,
-    by_text: &BTreeMap<Text, Object>,
+    by_text: &BTreeMap<Text, SharedBytes>,
+    path: &Location,
     text: &Text,
 ) -> Result<(), OutOfMemory>
-    ensures { OnOk result (paths.new.items ≡ paths.old.items ++ path_of (get byte_order by_text.now text.now)) }
+    ensures { OnOk result (paths.new.items
+        ≡ paths.old.items ++ path_of path.now (get byte_order by_text.now text.now)) }
 {
-    if let Some(object) = by_text.get(text) {
-        paths.push(object.path.clone()?)?;
+    if by_text.contains_key(text) {
+        paths.push(path.clone()?)?;
     }
     Ok(())
 }
@@ -155,19 +162,37 @@ fn push_at(
 /// Pushes the paths of the objects whose texts go on behind this text with a `/`.
 fn push_below(
     paths: &mut Vec<Location>,
-    by_text: &BTreeMap<Text, Object>,
+    by_text: &BTreeMap<Text, SharedBytes>,
     alloc: Global,
     text: &Text,
 ) -> Result<(), OutOfMemory>
-    ensures { OnOk result (paths.new.items ≡ paths.old.items ++ map (λ entry. entry.1.path)
-        (filter (λ entry. is_between text.now entry.0) by_text.now.entries)) }
+    requires { IsKept by_text.now.entries }
+    ensures { OnOk result (paths.new.items ≡ paths.old.items ++ paths_behind text.now by_text.now.entries) }
 {
     let first = text_with(alloc, text, "/")?;
     let end = text_with(alloc, text, "0")?;
-    for (_, object) in by_text.range(first..end) {
-        paths.push(object.path.clone()?)?;
+    for (text, _) in by_text.range(first..end) {
+        paths.push(location_of(alloc, text)?)?;
     }
     Ok(())
+}
+
+/// The location that has this text.
+fn location_of(alloc: Global, text: &Text) -> Result<Location, OutOfMemory>
+    requires { parse_refusal text.now ≡ None }
+    ensures { IfOk result (λ location. location ≡ segments_of text.now) }
+{
+    match Location::parse(alloc, text.as_str()) {
+        Ok(location) => Ok(location),
+        Err(LocationRefused::OutOfMemory) => Err(OutOfMemory),
+        Err(
+            LocationRefused::BadScheme
+            | LocationRefused::EmptySegment
+            | LocationRefused::DotSegment
+            | LocationRefused::ControlByte
+            | LocationRefused::TooLong,
+        ) => unreachable!(),
+    }
 }
 
 /// The first text with the second behind it.

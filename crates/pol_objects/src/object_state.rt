@@ -7,11 +7,11 @@ ghost use Rattle.pol_objects.specs.declared.object_state.ObjectState.{ObjectStat
 ghost use Rattle.pol_objects.specs.declared.reply.ObjectReply.TheVariants as reply;
 ghost use Rattle.pol_objects.specs.declared.rule.ObjectRule.TheVariants.{NoObject};
 
-use crate::{Object, ObjectMap, ObjectReply, ObjectRule};
+use crate::{ObjectMap, ObjectReply, ObjectRule};
 use pol_locations::Location;
 use pol_shared_bytes::SharedBytes;
 use pol_types::{OutOfMemory, Text};
-use std::alloc::{AllocError, Global};
+use std::alloc::Global;
 
 /// The most bytes that an object has.
 const MAX_LENGTH: u64 = 8_388_608;
@@ -45,11 +45,11 @@ impl ObjectState {
     pub fn get(&self, alloc: Global, path: &Location) -> Result<ObjectReply, OutOfMemory>
         ensures { IfOk result (λ reply. reply ≡ object_reply self.now (action.Get path.now)) }
     {
-        let Some(object) = self.objects.find(alloc, path)? else {
+        let Some(bytes) = self.objects.find(alloc, path)? else {
             return Ok(no_object());
         };
         Ok(ObjectReply::Bytes {
-            bytes: object.bytes.clone()?,
+            bytes: bytes.clone()?,
         })
     }
 
@@ -57,11 +57,11 @@ impl ObjectState {
     pub fn head(&self, alloc: Global, path: &Location) -> Result<ObjectReply, OutOfMemory>
         ensures { IfOk result (λ reply. reply ≡ object_reply self.now (action.Head path.now)) }
     {
-        let Some(object) = self.objects.find(alloc, path)? else {
+        let Some(bytes) = self.objects.find(alloc, path)? else {
             return Ok(no_object());
         };
         Ok(ObjectReply::Length {
-            length: object.bytes.len() as u64,
+            length: bytes.len() as u64,
         })
     }
 
@@ -131,11 +131,7 @@ impl ObjectState {
         ensures stored { OnOk result (self.new ≡ stored self.old path.now bytes.now) }
         ensures error { OnErr result (self.new ≡ self.old) }
     {
-        let object = Object {
-            path: path.clone()?,
-            bytes: bytes.clone()?,
-        };
-        self.objects.insert(alloc, object)?;
+        self.objects.insert(alloc, path, bytes.clone()?)?;
         self.counted += bytes.len() as u64;
         Ok(())
     }
@@ -160,18 +156,6 @@ impl ObjectState {
     {
         self.objects.take(key);
         self.counted -= count;
-    }
-}
-
-impl Clone for ObjectState {
-    ghost is_clone = { λ source clone. clone ≡ source };
-
-    /// A copy, which shares all bytes.
-    fn clone(&self) -> Result<Self, AllocError> {
-        Ok(ObjectState {
-            objects: self.objects.clone()?,
-            counted: self.counted,
-        })
     }
 }
 

@@ -7,7 +7,7 @@ use Rattle.pol_http.specs.Answer.{answer_text}
 use Rattle.pol_http.specs.Head.{closes}
 use Rattle.pol_http.specs.Message.{Message}
 use Rattle.pol_http.specs.declared.answer.TheConstants.{INSUFFICIENT_STORAGE}
-use Rattle.pol_shared.specs.Machine.{reply_of}
+use Rattle.pol_shared_objects.specs.Machine.{reply_of}
 use Rattle.pol_commands.specs.declared.command.Action.TheVariants.{Access}
 use Rattle.pol_commands.specs.declared.command.Command.{Command}
 use Rattle.pol_objects.specs.Machine.{object_reply}
@@ -23,22 +23,21 @@ use Rattle.pol_routes.specs.Verbs.{AsksFor, verb_act}
 use Rattle.pol_routes.specs.declared.plans.Planned.{Planned}
 use Rattle.pol_routes.specs.declared.verb.Verb.{Verb}
 use Rattle.pol_tokens.specs.declared.token.Act.{Act}
-use Rattle.pol_shared.specs.Accessed.{access_allowed}
-use Rattle.pol_shared.specs.History.{state_at}
-use Rattle.pol_shared.specs.Seen.{HasSeen, Seen}
-use Rattle.pol_shared.specs.Stepped.{HasSpace}
-use Rattle.pol_shared.specs.Entry.{Entry}
-use Rattle.pol_shared.proofs.SeenLemmas.{seen-push, seen-trans}
+use Rattle.pol_shared_objects.specs.Accessed.{access_allowed}
+use Rattle.pol_shared_objects.specs.History.{state_at}
+use Rattle.pol_shared_objects.specs.Seen.{HasSeen, Seen}
+use Rattle.pol_shared_objects.specs.Stepped.{HasSpace}
+use Rattle.pol_shared_objects.specs.Entry.{Entry}
+use Rattle.pol_shared_objects.proofs.SeenLemmas.{seen-push, seen-trans}
 use Rattle.pol_shared_objects.specs.Acted.{HasObjectSpace}
 use Rattle.pol_shared_objects.specs.SeenObjects.{HasSeenObjects, SeenObjects, object_entry_number}
 use Rattle.pol_server.specs.Actions.{action_by, tells_change}
 use Rattle.pol_server.specs.Ends.{Ends}
 use Rattle.pol_server.specs.Handling.{Handles, HasAccessed, HasActed, IsOther, IsUnstoredIn}
-use Rattle.pol_server.specs.Both.{HasSeenBoth}
+use Rattle.pol_server.specs.Both.{HasSeenBoth, SeenBoth}
 use Rattle.pol_server.specs.Turn.{Case, IsAllowedAt, IsDoneAt, IsFullAs, Turn, acted, four_words, framed, is_head, marks_by, text_of, unacted, unstored, untold, unwritten_answer}
 use Rattle.pol_server.specs.declared.served.Place.{Place}
 use Rattle.pol_server.specs.declared.served.Place.TheVariants.{Catalogue, Object, NoEntry}
-use Rattle.pol_server.specs.Both.{SeenBoth}
 use Rattle.pol_server.proofs.HandleLemmas.{IsReadFor, action-command, entered-at, entry-high, entry-low, handles-as, handles-entered, reply-there, seen-entry, turn-as, with-entry}
 use Rattle.pol_server.proofs.BothLemmas.{seen-longer}
 

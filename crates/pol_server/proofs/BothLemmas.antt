@@ -2,14 +2,13 @@
 use Rattle.std.proofs.Common.{◌≡◌, ◌≤◌, ℕ, List, [], ◌++◌, sym, ap, subst, ◌∙◌, arith, length, length-append}
 use Rattle.std.proofs.lemmas.Grind.{flat_map-append}
 use Rattle.pol_object_store.specs.declared.entry.ObjectEntry.{ObjectEntry}
-use Rattle.pol_shared.specs.Passes.{HasSeenOf, SeenOf}
-use Rattle.pol_shared.specs.Seen.{HasSeen, entry_number}
-use Rattle.pol_shared.specs.Entry.{Entry}
-use Rattle.pol_shared.proofs.SeenLemmas.{seen-same, seen-trans}
+use Rattle.pol_shared_objects.specs.Passes.{HasSeenOf, SeenOf}
+use Rattle.pol_shared_objects.specs.Seen.{HasSeen, entry_number}
+use Rattle.pol_shared_objects.specs.Entry.{Entry}
+use Rattle.pol_shared_objects.proofs.SeenLemmas.{seen-same, seen-trans}
 use Rattle.pol_shared_objects.specs.SeenObjects.{HasSeenObjects, object_entry_number}
-use Rattle.pol_server.specs.Both.{HasSeenBoth, catalogue_place, catalogue_places, object_place, object_places}
+use Rattle.pol_server.specs.Both.{HasSeenBoth, catalogue_place, catalogue_places, object_place, object_places, SeenBoth}
 use Rattle.pol_server.specs.declared.served.Place.{Place}
-use Rattle.pol_server.specs.Both.{SeenBoth}
 
 -- nothing more was seen
 pub both-same : (seen : SeenBoth) → HasSeenBoth seen seen []

@@ -10,7 +10,7 @@ use Rattle.pol_http.specs.Head.{closes}
 use Rattle.pol_http.specs.Message.{Message}
 use Rattle.pol_http.specs.declared.answer.Answer.{Answer}
 use Rattle.pol_http.specs.declared.answer.TheConstants.{INSUFFICIENT_STORAGE}
-use Rattle.pol_shared.specs.Machine.{reply_of}
+use Rattle.pol_shared_objects.specs.Machine.{reply_of}
 use Rattle.pol_commands.specs.declared.command.Command.{Command}
 use Rattle.pol_commands.specs.declared.command.Words4.{Words4}
 use Rattle.pol_commands.specs.declared.reply.Refusal.TheVariants as refusal
@@ -27,24 +27,23 @@ use Rattle.pol_routes.specs.Plan.{command_of, plan_of}
 use Rattle.pol_routes.specs.Verbs.{AsksFor}
 use Rattle.pol_routes.specs.declared.plans.Planned.{Planned}
 use Rattle.pol_routes.specs.declared.verb.Verb.{Verb}
-use Rattle.pol_shared.specs.Accessed.{access_allowed}
+use Rattle.pol_shared_objects.specs.Accessed.{access_allowed}
 use Rattle.pol_tokens.specs.declared.token.Act.{Act}
-use Rattle.pol_shared.specs.History.{changes_of, end_after, end_with, state_at}
-use Rattle.pol_shared.specs.Seen.{HasSeen, Seen, entry_number}
-use Rattle.pol_shared.specs.Stepped.{HasSpace}
-use Rattle.pol_shared.specs.Entry.{Entry}
-use Rattle.pol_shared.proofs.SeenLemmas.{seen-push, seen-same, seen-trans}
+use Rattle.pol_shared_objects.specs.History.{changes_of, end_after, end_with, state_at}
+use Rattle.pol_shared_objects.specs.Seen.{HasSeen, Seen, entry_number}
+use Rattle.pol_shared_objects.specs.Stepped.{HasSpace}
+use Rattle.pol_shared_objects.specs.Entry.{Entry}
+use Rattle.pol_shared_objects.proofs.SeenLemmas.{seen-push, seen-same, seen-trans}
 use Rattle.pol_shared_objects.specs.SeenObjects.{HasSeenObjects, SeenObjects, object_entry_number}
 use Rattle.pol_wire.proofs.StreamsLemmas.{IsShifted-nil}
 use Rattle.pol_wire.specs.Streams.{IsShifted}
 use Rattle.pol_server.specs.Ends.{Ends, Reads}
 use Rattle.pol_server.specs.Calls.{DrawsWords}
 use Rattle.pol_server.specs.Handling.{Handles, IsEntered, IsUnplannedAs, IsUnwrittenIn, text_by}
-use Rattle.pol_server.specs.Both.{HasSeenBoth}
+use Rattle.pol_server.specs.Both.{HasSeenBoth, SeenBoth}
 use Rattle.pol_server.specs.Turn.{AreMarked, AreOrdered, Case, IsAnswered, IsEnteredAt, IsFullAs, Turn, failed_in, four_words, framed, full, is_head, marks_by, place_by, stepped, text_of, undrawn, unplanned, unwritten, unwritten_answer, without_memory}
 use Rattle.pol_server.specs.declared.served.Place.{Place}
 use Rattle.pol_server.specs.declared.served.Place.TheVariants.{Catalogue, Object, NoEntry}
-use Rattle.pol_server.specs.Both.{SeenBoth}
 use Rattle.pol_server.proofs.BothLemmas.{seen-longer}
 
 -- what holds of the bytes of a result holds of those that it keeps

@@ -7,3 +7,4 @@ pub mod MovesLemmas
 pub mod ServeLemmas
 pub mod StoresLemmas
 pub mod TurnLemmas
+pub use Rattle.pol_shared_objects.proofs.SeenLemmas

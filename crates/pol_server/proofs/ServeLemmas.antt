@@ -4,9 +4,8 @@ use Rattle.std.specs.Io.KnownBytes.{IsAtEnd}
 use Rattle.std.proofs.KnownBytes.{Appends-nil}
 use Rattle.pol_wire.specs.Faults.{Rises}
 use Rattle.pol_server.specs.Ends.{Ends}
-use Rattle.pol_server.specs.Both.{SeenBoth}
+use Rattle.pol_server.specs.Both.{SeenBoth, HasSeenBoth}
 use Rattle.pol_server.specs.Link.{EndsBy, ServesLink, taken_bound}
-use Rattle.pol_server.specs.Both.{HasSeenBoth}
 use Rattle.pol_server.specs.Turn.{Turn, place_of}
 use Rattle.pol_server.specs.declared.served.Served.{Served}
 use Rattle.pol_server.specs.declared.served.Ending.TheVariants.{Ended, Cut, Closed, ReadFault, WriteFault, Spent, NoMemory}

@@ -1,7 +1,7 @@
 -- What a crash may have left of the stores stays known: where nothing was done, and over one call and then another.
 use Rattle.std.proofs.Common.{ℕ, List, Option, refl, ◌∙◌, arith}
 use Rattle.pol_server.specs.Stores.{KeepsCatalogue, KeepsObjects}
-use Rattle.pol_shared.specs.Held.{Held}
+use Rattle.pol_shared_objects.specs.Held.{Held}
 use Rattle.pol_shared_objects.specs.HeldObjects.{HeldObjects}
 
 module _ {D : Type 0} (seen : D → Option (List ℕ)) (may_leave : D → List ℕ → Type 0) (clock : D → ℕ) (left_since : D → ℕ → List ℕ → Type 0) (fault_count : D → ℕ) where

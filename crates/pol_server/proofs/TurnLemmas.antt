@@ -4,7 +4,7 @@ use Rattle.std.specs.Prelude.{false, slice_get}
 use Rattle.std.specs.List.{AllByRecursion}
 use Rattle.std.proofs.lemmas.List.{take-append-le, get_or_append_left}
 use Rattle.std.proofs.lemmas.Option.{slice_get_within, slice_get-get_or}
-use Rattle.pol_shared.specs.Machine.{reply_of}
+use Rattle.pol_shared_objects.specs.Machine.{reply_of}
 use Rattle.pol_answers.specs.Texts.{answer_of}
 use Rattle.pol_objects.specs.Machine.{object_reply}
 use Rattle.pol_object_answers.specs.ObjectAnswers.{object_answer_of}
@@ -12,16 +12,15 @@ use Rattle.pol_object_store.specs.ObjectHistory.{object_state_at}
 use Rattle.pol_object_store.specs.ObjectRecords.{object_changes, object_end_after, object_end_with}
 use Rattle.pol_object_store.specs.declared.entry.ObjectEntry.{ObjectEntry}
 use Rattle.pol_records.specs.declared.unwritten.Unwritten.{Unwritten}
-use Rattle.pol_shared.specs.Accessed.{access_allowed}
-use Rattle.pol_shared.specs.Stepped.{HasSpace}
+use Rattle.pol_shared_objects.specs.Accessed.{access_allowed}
+use Rattle.pol_shared_objects.specs.Stepped.{HasSpace}
 use Rattle.pol_shared_objects.specs.Acted.{HasObjectSpace}
-use Rattle.pol_shared.specs.History.{changes_of, end_after, end_with, state_at}
-use Rattle.pol_shared.specs.Entry.{Entry}
+use Rattle.pol_shared_objects.specs.History.{changes_of, end_after, end_with, state_at}
+use Rattle.pol_shared_objects.specs.Entry.{Entry}
 use Rattle.pol_server.specs.Actions.{tells_change}
-use Rattle.pol_server.specs.Both.{HasSeenBoth}
+use Rattle.pol_server.specs.Both.{HasSeenBoth, SeenBoth}
 use Rattle.pol_server.specs.Turn.{AnsweredAs, AreMarked, AreOrdered, Case, IsActed, IsAllowedAt, IsAnswered, IsDoneAt, IsEnteredAt, IsFrom, IsFullAs, IsFullAt, IsOrdered, IsStepped, IsUnacted, IsUnstored, IsUntold, IsUnwritten, LastCloses, NoneCloses, Spot, Turn, acted, behind, catalogue_marks_in, catalogue_spot, entry_at, failed_draws, failed_in, full, low_after, nowhere, object_marks_in, object_spot, stepped, text_of, total_of, unacted, undrawn, unplanned, unstored, untold, unwritten, without_memory}
 use Rattle.pol_server.specs.declared.served.Place.{Place}
-use Rattle.pol_server.specs.Both.{SeenBoth}
 use Rattle.pol_server.proofs.BothLemmas.{both-grow, both-grown}
 
 -- what holds of each of two lists holds of each of both

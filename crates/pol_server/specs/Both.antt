@@ -1,7 +1,7 @@
 -- What is seen of the catalogue and of the objects, and where requests stand in both.
 use Rattle.std.specs.Prelude.{ℕ, List, [], ◌∷◌}
 use Rattle.std.specs.List.{flat_map}
-use Rattle.pol_shared.specs.Seen.{GoesOnAlone, HasSeen, Seen}
+use Rattle.pol_shared_objects.specs.Seen.{GoesOnAlone, HasSeen, Seen}
 use Rattle.pol_shared_objects.specs.SeenObjects.{HasSeenObjects, ObjectsGoOnAlone, SeenObjects}
 use Rattle.pol_server.specs.declared.served.Place.{Place}
 use Rattle.pol_server.specs.declared.served.Place.TheVariants.{Catalogue, Object, NoEntry}

@@ -16,12 +16,12 @@ use Rattle.pol_records.specs.declared.unwritten.Unwritten.TheVariants.{JournalFu
 use Rattle.pol_requests.specs.declared.refused.Unplanned.{Unplanned}
 use Rattle.pol_requests.specs.declared.refused.Unplanned.TheVariants as unplanned
 use Rattle.pol_routes.specs.declared.verb.Verb.{Verb}
-use Rattle.pol_shared.specs.KeptStepped.{Stepped}
-use Rattle.pol_shared.specs.KeptStepped.TheVariants as stepped
-use Rattle.pol_shared.specs.Accessed.{IsAllowedIn, access_allowed}
-use Rattle.pol_shared.specs.Permits.{Permitted}
-use Rattle.pol_shared.specs.Seen.{HasSeen, Seen}
-use Rattle.pol_shared.specs.Stepped.{IsDoneIn, IsFullIn, IsJournalFullIn, IsMarkedIn}
+use Rattle.pol_shared_objects.specs.KeptStepped.{Stepped}
+use Rattle.pol_shared_objects.specs.KeptStepped.TheVariants as stepped
+use Rattle.pol_shared_objects.specs.Accessed.{IsAllowedIn, access_allowed}
+use Rattle.pol_shared_objects.specs.Permits.{Permitted}
+use Rattle.pol_shared_objects.specs.Seen.{HasSeen, Seen}
+use Rattle.pol_shared_objects.specs.Stepped.{IsDoneIn, IsFullIn, IsJournalFullIn, IsMarkedIn}
 use Rattle.pol_shared_objects.specs.Acted.{IsActedIn, IsObjectJournalFullIn, IsObjectMarkedIn}
 use Rattle.pol_shared_objects.specs.SeenObjects.{HasSeenObjects, SeenObjects}
 use Rattle.pol_wire.specs.Streams.{IsShifted}

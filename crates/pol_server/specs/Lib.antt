@@ -7,3 +7,16 @@ pub mod Link
 pub mod Serving
 pub mod Stores
 pub mod Turn
+pub use Rattle.pol_shared_objects.specs.Acted
+pub use Rattle.pol_shared_objects.specs.Entry
+pub use Rattle.pol_shared_objects.specs.Held
+pub use Rattle.pol_shared_objects.specs.HeldObjects
+pub use Rattle.pol_shared_objects.specs.History
+pub use Rattle.pol_shared_objects.specs.Machine
+pub use Rattle.pol_shared_objects.specs.Opened
+pub use Rattle.pol_shared_objects.specs.OpenedObjects
+pub use Rattle.pol_shared_objects.specs.Opening
+pub use Rattle.pol_shared_objects.specs.Passes
+pub use Rattle.pol_shared_objects.specs.Seen
+pub use Rattle.pol_shared_objects.specs.SeenObjects
+pub use Rattle.pol_shared_objects.specs.Stepped

@@ -2,7 +2,7 @@
 use Rattle.std.specs.Prelude.{◌≡◌, ◌≤◌, ℕ, List, Option}
 use Rattle.pol_server.specs.declared.stores.Stores.{Stores}
 use Rattle.pol_server.specs.Both.{SeenBoth}
-use Rattle.pol_shared.specs.Held.{Held, HoldsImages}
+use Rattle.pol_shared_objects.specs.Held.{Held, HoldsImages}
 use Rattle.pol_shared_objects.specs.HeldObjects.{HeldObjects, HoldsObjectImages}
 
 -- what the passes have seen

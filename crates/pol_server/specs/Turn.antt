@@ -7,7 +7,7 @@ use Rattle.pol_http.specs.Head.{asks, closes}
 use Rattle.pol_http.specs.Message.{Message}
 use Rattle.pol_http.specs.declared.answer.Answer.{Answer}
 use Rattle.pol_http.specs.declared.answer.TheConstants.{CONTINUE, INSUFFICIENT_STORAGE}
-use Rattle.pol_shared.specs.Machine.{reply_of}
+use Rattle.pol_shared_objects.specs.Machine.{reply_of}
 use Rattle.pol_commands.specs.declared.command.Action.TheVariants.{Access}
 use Rattle.pol_commands.specs.declared.command.Command.{Command}
 use Rattle.pol_commands.specs.declared.command.Words4.{Words4}
@@ -29,11 +29,11 @@ use Rattle.pol_routes.specs.Plan.{plan_of, command_of}
 use Rattle.pol_routes.specs.Verbs.{verb_act}
 use Rattle.pol_routes.specs.declared.plans.Planned.{Planned}
 use Rattle.pol_routes.specs.declared.verb.Verb.{Verb}
-use Rattle.pol_shared.specs.Accessed.{access_allowed}
-use Rattle.pol_shared.specs.Stepped.{HasSpace}
+use Rattle.pol_shared_objects.specs.Accessed.{access_allowed}
+use Rattle.pol_shared_objects.specs.Stepped.{HasSpace}
 use Rattle.pol_shared_objects.specs.Acted.{HasObjectSpace}
-use Rattle.pol_shared.specs.History.{changes_of, end_after, end_with, state_at}
-use Rattle.pol_shared.specs.Entry.{Entry}
+use Rattle.pol_shared_objects.specs.History.{changes_of, end_after, end_with, state_at}
+use Rattle.pol_shared_objects.specs.Entry.{Entry}
 use Rattle.pol_server.specs.Actions.{action_by, tells_change}
 use Rattle.pol_server.specs.declared.served.Place.{Place}
 use Rattle.pol_server.specs.declared.served.Place.TheVariants.{Catalogue, Object, NoEntry}

@@ -12,6 +12,7 @@ mod stores;
 mod text;
 
 pub use ends::Linked;
+pub use pol_shared_objects::{Closed, ClosedObjects, Objects, Shared};
 pub use serve::serve_connection;
 pub use served::{Ending, Place, Served};
 pub use stores::Stores;

@@ -24,7 +24,7 @@ use pol_http::Head;
 use pol_records::Unwritten;
 use pol_requests::Unplanned;
 use pol_routes::{Planned, Routes, command_of, plan};
-use pol_shared::{Shared, Stepped};
+use pol_shared_objects::{Shared, Stepped};
 use std::alloc::Global;
 
 /// How a message was answered: its place in the history, and the bytes of its answer, unless memory was wanting.

@@ -7,8 +7,7 @@ ghost use Rattle.pol_objects.specs.declared.action.ObjectAction.TheVariants as a
 ghost use Rattle.pol_records.specs.declared.unwritten.Unwritten.TheVariants.{Unknown};
 ghost use Rattle.pol_routes.specs.Verbs.{AsksFor, verb_act};
 ghost use Rattle.pol_server.specs.Actions.{action_by, tells_change};
-ghost use Rattle.pol_server.specs.Handling.{HasAccessed, HasActed, IsAnsweredBy, IsReadyFor, IsTold};
-ghost use Rattle.pol_server.specs.Handling.{IsUnwrittenText, OnlyLooks};
+ghost use Rattle.pol_server.specs.Handling.{HasAccessed, HasActed, IsAnsweredBy, IsReadyFor, IsTold, IsUnwrittenText, OnlyLooks};
 ghost use Rattle.pol_server.specs.Stores.{KeepsCatalogue, KeepsObjects, seen_of};
 ghost use Rattle.pol_server.specs.Turn.{framed};
 ghost use Rattle.pol_tokens.specs.declared.token.Act.TheVariants.{Write};
@@ -22,8 +21,7 @@ use pol_object_answers::object_answer;
 use pol_objects::ObjectReply;
 use pol_records::Unwritten;
 use pol_routes::Verb;
-use pol_shared::{Accessed, Permit, Stepped};
-use pol_shared_objects::{Acted, Objects};
+use pol_shared_objects::{Accessed, Acted, Objects, Permit, Stepped};
 use pol_types::{Bytes, OutOfMemory};
 use std::alloc::Global;
 

@@ -1,6 +1,5 @@
 use pol_disk::Disk;
-use pol_shared::Shared;
-use pol_shared_objects::Objects;
+use pol_shared_objects::{Objects, Shared};
 
 /// The catalogue and the objects that requests are answered from, each as one pass of it sees it.
 #[derive(Drop)]

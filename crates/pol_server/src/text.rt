@@ -12,7 +12,7 @@ use pol_http::{Answer, HeadRefused, write_answer};
 use pol_json_answers::error_answer;
 use pol_records::Unwritten;
 use pol_requests::RouteRefused;
-use pol_shared::Render;
+use pol_shared_objects::Render;
 use pol_types::OutOfMemory;
 use std::alloc::Global;
 

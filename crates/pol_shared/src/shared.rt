@@ -27,9 +27,9 @@ use std::marker::Model;
 /// The number of the founding pass.
 const FOUNDING: u64 = 0;
 
-/// The catalogue as its founding pass sees it, which is the only one. Contracts see the state at the opening, where the
-/// journal ended then, the pass's number, how many passes were made, the history that this one has seen, how many of its
-/// calls the disk failed, and the journal.
+/// The catalogue as its founding pass sees it, which is the only one. Contracts see the state at the opening, where
+/// the journal ended then, the pass's number, how many passes were made, the history that this one has seen, how many
+/// of its calls the disk failed, and the journal.
 #[derive(Drop)]
 pub struct Shared<D: Disk> {
     kept: Kept<D>,
@@ -60,8 +60,8 @@ impl<D: Disk> Model for Shared<D> {
 }
 
 impl<D: Disk> Shared<D> {
-    /// Makes a catalogue with the fresh state of this root secret, and its journal, on an empty disk. A refusal hands the
-    /// disk back.
+    /// Makes a catalogue with the fresh state of this root secret, and its journal, on an empty disk. A refusal hands
+    /// the disk back.
     pub fn fresh(
         alloc: Global,
         disk: D,
@@ -133,12 +133,12 @@ impl<D: Disk> Shared<D> {
     /// Closes the catalogue. Each entry of its history is of a pass that was made.
     pub fn close(self) -> Closed<D>
         ensures disk { result.disk ≡ self.journal.disk }
-        ensures base { result.base.rows ≡ self.seen.base }
-        ensures history { result.history.items ≡ self.seen.front }
+        ensures base { result.base.value.rows ≡ self.seen.base }
+        ensures history { result.history ≡ self.seen.front }
         ensures state { result.state.rows ≡ state_at self.seen.base self.seen.front }
         ensures sound { IsSound result.state.rows }
         ensures passes { AreOfPasses self.seen.made self.seen.front }
-        // No more calls were marked than the disk's count of faults rose since the opening.
+        // No more calls were marked than the disk's count of faults rose since the opening, until it is at its end.
         ensures marked { RisesBy self.seen.failed self.journal.opening.faults (D.fault_count self.journal.disk) }
     {
         self.kept.close()

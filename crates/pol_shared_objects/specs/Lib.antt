@@ -2,3 +2,15 @@ pub mod Acted
 pub mod HeldObjects
 pub mod OpenedObjects
 pub mod SeenObjects
+pub use Rattle.pol_shared.specs.Accessed
+pub use Rattle.pol_shared.specs.Entry
+pub use Rattle.pol_shared.specs.Held
+pub use Rattle.pol_shared.specs.History
+pub use Rattle.pol_shared.specs.KeptStepped
+pub use Rattle.pol_shared.specs.Machine
+pub use Rattle.pol_shared.specs.Opened
+pub use Rattle.pol_shared.specs.Opening
+pub use Rattle.pol_shared.specs.Passes
+pub use Rattle.pol_shared.specs.Permits
+pub use Rattle.pol_shared.specs.Seen
+pub use Rattle.pol_shared.specs.Stepped

@@ -6,3 +6,4 @@ mod objects;
 
 pub use objects::Objects;
 pub use pol_object_store::{Acted, ClosedObjects};
+pub use pol_shared::{Accessed, Closed, Permit, Render, Shared, Stepped};

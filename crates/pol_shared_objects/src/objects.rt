@@ -34,8 +34,8 @@ use std::marker::Model;
 const FOUNDING: u64 = 0;
 
 /// The objects as their founding pass sees them, which is the only one. Contracts see the state at the opening, where
-/// the journal ended then, the pass's number, how many passes were made, the history that this one has seen, how many of
-/// its calls the disk failed, and the journal.
+/// the journal ended then, the pass's number, how many passes were made, the history that this one has seen, how many
+/// of its calls the disk failed, and the journal.
 ///
 /// Each action takes the permit that allows it, and is entered with the place of its access.
 #[derive(Drop)]
@@ -212,11 +212,11 @@ impl<D: Disk> Objects<D> {
     /// Closes the store. Each entry of its history is of a pass that was made.
     pub fn close(self) -> ClosedObjects<D>
         ensures disk { result.disk ≡ self.journal.disk }
-        ensures base { result.base ≡ self.seen.base }
-        ensures history { result.history.items ≡ self.seen.front }
+        ensures base { result.base.value ≡ self.seen.base }
+        ensures history { result.history ≡ self.seen.front }
         ensures state { result.state ≡ object_state_at self.seen.base self.seen.front }
         ensures passes { AreOfObjectPasses self.seen.made self.seen.front }
-        // No more calls were marked than the disk's count of faults rose since the opening.
+        // No more calls were marked than the disk's count of faults rose since the opening, until it is at its end.
         ensures marked { RisesBy self.seen.failed self.journal.opening.faults (D.fault_count self.journal.disk) }
     {
         self.kept.close()

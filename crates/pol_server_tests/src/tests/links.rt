@@ -1,7 +1,5 @@
 use pol_disk::{Disk, HollowDisk};
-use pol_server::{Ending, Place, Stores, serve_connection};
-use pol_shared::Shared;
-use pol_shared_objects::Objects;
+use pol_server::{Ending, Objects, Place, Shared, Stores, serve_connection};
 use pol_wire::{CountingDraw, Link, MemoryClock, MemorySink, MemorySource};
 use std::alloc::{AllocError, Global};
 use std::test::Fail;

@@ -31,10 +31,10 @@ records-preserved g c =
     (λ file bodies read. rw c.in-Some.is at (c.in_ok-body.ensures.next file bodies read)) c.redo.new.objects
     (rw c.as_slice.ensures.value at c.in-Ok.ensures.made) c.next_record.ensures.untouched c.next_record.ensures.kept
 
-pub returns-in-Ok-states_of-clause-read : goal.returns-in-Ok-states_of-clause-read
-returns-in-Ok-states_of-clause-read g c file was =
+pub returns-in-Ok-state_of-clause-read : goal.returns-in-Ok-state_of-clause-read
+returns-in-Ok-state_of-clause-read g c file was =
     let d = g.D.Disk in
-    rw c.in-Ok-states_of.ensures.objects
+    rw c.in-Ok-state_of.ensures.objects
     (reads_whole d.seen d.may_leave d.clock d.left_since d.fault_count d.size c.args.journal.now c.records.journal c.next_record.new.self c.records.objects c.records.invariant
     (rw c.in_default.is at (c.in_ok-body.ensures.after c.records.invariant.reading))
     (λ file bodies read. rw c.in_default.is at (c.in_ok-body.ensures.next file bodies read)) file was)

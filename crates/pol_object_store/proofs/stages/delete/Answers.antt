@@ -1,8 +1,7 @@
 use Rattle.std.proofs.Common.{◌≡◌, Option, Some, None, true, false, is_some, List, [], ◌∷◌, ap, refl, sym, ◌∙◌}
 use Rattle.pol_codec.specs.declared.objects.ObjectChange.{ObjectChange}
 use Rattle.pol_codec.specs.declared.objects.ObjectChange.TheVariants as change
-use Rattle.pol_objects.specs.Objects.{object_at}
-use Rattle.pol_objects.specs.declared.object.Object.{Object}
+use Rattle.pol_objects.specs.Objects.{Object, object_at}
 use Rattle.pol_objects.specs.declared.object_state.ObjectState.{ObjectState}
 use Rattle.pol_objects.proofs.Machines.{all_kept}
 use Rattle.pol_objects.proofs.Sizes.{lent}
@@ -20,12 +19,12 @@ made_there (Some object) made some = refl
 pub returns-then-is_none-clause-next : goal.returns-then-is_none-clause-next
 returns-then-is_none-clause-next g c =
     let state = c.args.state.now in
-    let none = none_there (object_at state.objects c.args.path.now) (ap is_some (sym c.in_ok-find.ensures) ∙ lent c.in_ok-find.field-0 ∙ c.if-is_none.ensures) in
+    let none = none_there (object_at state.objects c.args.path.now) (ap is_some (sym c.in_ok-find.ensures) ∙ lent c.args.path.now c.in_ok-find.field-0 ∙ c.if-is_none.ensures) in
     let put_back : List Object → ObjectState = λ objects. record { objects = objects; counted = state.counted } in
     ap put_back (sym (all_kept c.args.path.now state.objects none))
 
 pub returns-clause-recorded : goal.returns-clause-recorded
 returns-clause-recorded g c =
-    let there = ap is_some (sym c.in_ok-find.ensures) ∙ lent c.in_ok-find.field-0 ∙ c.if-is_none.ensures in
+    let there = ap is_some (sym c.in_ok-find.ensures) ∙ lent c.args.path.now c.in_ok-find.field-0 ∙ c.if-is_none.ensures in
     rw (made_there (object_at c.args.state.now.objects c.args.path.now) (change.Delete c.args.path.now) there, c.in_ok-body.ensures.1, ← c.as_slice.ensures.value)
     c.in_ok-write.ensures.recorded

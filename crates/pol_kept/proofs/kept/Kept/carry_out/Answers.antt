@@ -1,4 +1,4 @@
-use Rattle.std.proofs.Common.{◌≡◌, List, [], ◌∷◌, ◌++◌, sym, ap, ◌∙◌}
+use Rattle.std.proofs.Common.{◌≡◌, [], ◌∷◌, ◌++◌, refl, sym, ap, ◌∙◌}
 use Rattle.pol_machine.specs.Machine.{next_state}
 use Rattle.pol_state.specs.Rows.{Rows}
 use Rattle.pol_kept.specs.History.{bodies_of, state_at}
@@ -12,10 +12,10 @@ pub returns-in-Err-clause-goes_on : goal.returns-in-Err-clause-goes_on
 returns-in-Err-clause-goes_on g c =
     let d = g.D.Disk in
     let s = c.self.inside in
-    left-goes d.seen d.may_leave d.clock d.left_since d.fault_count s.base.rows s.history.items s.marks.items s.records c.write.new.records c.args.self.now c.self.view_is
+    left-goes d.seen d.may_leave d.clock d.left_since d.fault_count s.base.value.rows s.history s.marks.items s.records c.write.new.records c.args.self.now c.self.view_is
     c.args.number c.args.command c.args.changes.items c.requires.changes c.self.invariant.3 c.write.ensures.kept
     _ (c.in-Ok.ensures.body ∙ ap bodies_of c.as_slice.ensures.value)
-    c.in-Err.why c.make_ready.new.history.items c.mark.new.marks.items c.make_ready.ensures.items
+    c.in-Err.why s.history c.mark.new.marks.items refl
     (c.mark.ensures.marks ∙ ap (marks_by c.in-Err.why c.args.number) c.make_ready.ensures.marks) c.in-Err.ensures.left_out
 
 pub invariant_of-self-2 : goal.invariant_of-self-2
@@ -23,18 +23,18 @@ invariant_of-self-2 g c =
     let d = g.D.Disk in
     let s = c.self.inside in
     let entry : Entry = record { number = c.args.number; command = c.args.command } in
-    let items : c.enter.new.history.items ≡ s.history.items ++ entry ∷ [] = c.enter.ensures.items ∙ ap (λ (entries : List Entry). entries ++ entry ∷ []) c.make_ready.ensures.items in
+    let items : c.enter.new.history ≡ s.history ++ entry ∷ [] = c.enter.ensures.items in
     let next : c.enter.new.state.rows ≡ next_state s.state.rows c.args.command = c.enter.ensures.rows ∙ ap (λ (rows : Rows). next_state rows c.args.command) c.make_ready.ensures.rows in (
-      state_at-push s.base.rows s.state.rows c.enter.new.state.rows s.history.items entry c.self.invariant.0 next ∙ ap (state_at s.base.rows) (sym items),
+      state_at-push s.base.value.rows s.state.rows c.enter.new.state.rows s.history entry c.self.invariant.0 next ∙ ap (state_at s.base.value.rows) (sym items),
       c.enter.ensures.sound,
-      carried-rises d.seen d.may_leave d.clock d.left_since d.fault_count s.base.rows s.history.items s.marks.items s.records c.write.new.records c.args.self.now c.self.view_is
+      carried-rises d.seen d.may_leave d.clock d.left_since d.fault_count s.base.value.rows s.history s.marks.items s.records c.write.new.records c.args.self.now c.self.view_is
           c.args.number c.args.command c.args.changes.items c.requires.changes c.self.invariant.3 c.write.ensures.kept
           _ (c.in-Ok.ensures.body ∙ ap bodies_of c.as_slice.ensures.value)
-          c.enter.new.history.items c.make_ready.new.marks.items items c.make_ready.ensures.marks c.in_default-write.ensures.written c.self.invariant.2,
-      carried-within d.seen d.may_leave d.clock d.left_since d.fault_count s.base.rows s.history.items s.marks.items s.records c.write.new.records c.args.self.now c.self.view_is
+          c.enter.new.history c.make_ready.new.marks.items items c.make_ready.ensures.marks c.in_default-write.ensures.written c.self.invariant.2,
+      carried-within d.seen d.may_leave d.clock d.left_since d.fault_count s.base.value.rows s.history s.marks.items s.records c.write.new.records c.args.self.now c.self.view_is
           c.args.number c.args.command c.args.changes.items c.requires.changes c.self.invariant.3 c.write.ensures.kept
           _ (c.in-Ok.ensures.body ∙ ap bodies_of c.as_slice.ensures.value)
-          c.enter.new.history.items c.make_ready.new.marks.items items c.make_ready.ensures.marks c.in_default-write.ensures.written,
+          c.enter.new.history c.make_ready.new.marks.items items c.make_ready.ensures.marks c.in_default-write.ensures.written,
     )
 
 pub returns-clause-goes_on : goal.returns-clause-goes_on
@@ -42,29 +42,29 @@ returns-clause-goes_on g c =
     let d = g.D.Disk in
     let s = c.self.inside in
     let entry : Entry = record { number = c.args.number; command = c.args.command } in
-    let items : c.enter.new.history.items ≡ s.history.items ++ entry ∷ [] = c.enter.ensures.items ∙ ap (λ (entries : List Entry). entries ++ entry ∷ []) c.make_ready.ensures.items in
-    carried-goes d.seen d.may_leave d.clock d.left_since d.fault_count s.base.rows s.history.items s.marks.items s.records c.write.new.records c.args.self.now c.self.view_is
+    let items : c.enter.new.history ≡ s.history ++ entry ∷ [] = c.enter.ensures.items in
+    carried-goes d.seen d.may_leave d.clock d.left_since d.fault_count s.base.value.rows s.history s.marks.items s.records c.write.new.records c.args.self.now c.self.view_is
     c.args.number c.args.command c.args.changes.items c.requires.changes c.self.invariant.3 c.write.ensures.kept
     _ (c.in-Ok.ensures.body ∙ ap bodies_of c.as_slice.ensures.value)
-    c.enter.new.history.items c.make_ready.new.marks.items items c.make_ready.ensures.marks c.in_default-write.ensures.written
+    c.enter.new.history c.make_ready.new.marks.items items c.make_ready.ensures.marks c.in_default-write.ensures.written
 
 pub returns-clause-idle : goal.returns-clause-idle
 returns-clause-idle g c =
     let d = g.D.Disk in
     let s = c.self.inside in
     let entry : Entry = record { number = c.args.number; command = c.args.command } in
-    let items : c.enter.new.history.items ≡ s.history.items ++ entry ∷ [] = c.enter.ensures.items ∙ ap (λ (entries : List Entry). entries ++ entry ∷ []) c.make_ready.ensures.items in
-    carried-idle d.seen d.may_leave d.clock d.left_since d.fault_count s.base.rows s.history.items s.marks.items s.records c.write.new.records c.args.self.now c.self.view_is
+    let items : c.enter.new.history ≡ s.history ++ entry ∷ [] = c.enter.ensures.items in
+    carried-idle d.seen d.may_leave d.clock d.left_since d.fault_count s.base.value.rows s.history s.marks.items s.records c.write.new.records c.args.self.now c.self.view_is
     c.args.number c.args.command c.args.changes.items c.requires.changes c.self.invariant.3 c.write.ensures.kept
     _ (c.in-Ok.ensures.body ∙ ap bodies_of c.as_slice.ensures.value)
-    c.enter.new.history.items c.make_ready.new.marks.items items c.make_ready.ensures.marks c.in_default-write.ensures.written
+    c.enter.new.history c.make_ready.new.marks.items items c.make_ready.ensures.marks c.in_default-write.ensures.written
 
 pub returns-in-Err-clause-idle : goal.returns-in-Err-clause-idle
 returns-in-Err-clause-idle g c =
     let d = g.D.Disk in
     let s = c.self.inside in
-    left-idle d.seen d.may_leave d.clock d.left_since d.fault_count s.base.rows s.history.items s.marks.items s.records c.write.new.records c.args.self.now c.self.view_is
+    left-idle d.seen d.may_leave d.clock d.left_since d.fault_count s.base.value.rows s.history s.marks.items s.records c.write.new.records c.args.self.now c.self.view_is
     c.args.number c.args.command c.args.changes.items c.requires.changes c.self.invariant.3 c.write.ensures.kept
     _ (c.in-Ok.ensures.body ∙ ap bodies_of c.as_slice.ensures.value)
-    c.in-Err.why c.make_ready.new.history.items c.mark.new.marks.items c.make_ready.ensures.items
+    c.in-Err.why s.history c.mark.new.marks.items refl
     (c.mark.ensures.marks ∙ ap (marks_by c.in-Err.why c.args.number) c.make_ready.ensures.marks) c.in-Err.ensures.left_out

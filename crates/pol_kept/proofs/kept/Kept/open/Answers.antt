@@ -1,16 +1,12 @@
-use Rattle.std.proofs.Common.{inl, subst, sym}
-use Rattle.pol_state.specs.Sound.{IsSound}
+use Rattle.std.proofs.Common.{inl}
 use Rattle.pol_kept.proofs.OpenedLemmas.{reopens}
 use Rattle.pol_kept.proofs.kept.Kept.open.Goals as goal
 
 pub of-requires-clause-past_reading : goal.of-requires-clause-past_reading
 of-requires-clause-past_reading g c = inl c.in_ok-journal.ensures.ready.0
 
-pub of-requires-clause-sound : goal.of-requires-clause-sound
-of-requires-clause-sound g c = subst IsSound (sym c.in-Ok.ensures.cases) c.in_ok-journal.ensures.sound
-
 pub returns-clause-sound : goal.returns-clause-sound
-returns-clause-sound g c = rw c.of.ensures.log (subst IsSound (sym c.in-Ok.ensures.cases) c.in_ok-journal.ensures.sound)
+returns-clause-sound g c = rw c.of.ensures.log c.in_ok-journal.ensures.sound
 
 pub returns-clause-untouched : goal.returns-clause-untouched
 returns-clause-untouched g c = rw c.of.ensures.log c.in_ok-journal.ensures.untouched
@@ -19,5 +15,5 @@ pub returns-clause-opened : goal.returns-clause-opened
 returns-clause-opened g c file told =
     let d = g.D.Disk in
     let opened = c.in_ok-journal.field-0 in
-    reopens d.seen d.may_leave d.clock d.left_since d.fault_count file c.of.result c.in-Ok.base.rows opened.state.rows opened.journal
-    c.of.ensures.log c.in-Ok.ensures.cases (c.in_ok-journal.ensures.opened file told) c.of.ensures.images
+    reopens d.seen d.may_leave d.clock d.left_since d.fault_count file c.of.result opened.state.rows opened.journal
+    c.of.ensures.log (c.in_ok-journal.ensures.opened file told) c.of.ensures.images

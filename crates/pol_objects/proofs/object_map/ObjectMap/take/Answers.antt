@@ -1,4 +1,5 @@
-use Rattle.std.proofs.Common.{◌∙◌}
+use Rattle.std.proofs.Common.{◌∙◌, ap, option_map}
+use Rattle.pol_objects.specs.Objects.{object_with}
 use Rattle.pol_objects.proofs.Kept.{found, removed}
 use Rattle.pol_objects.proofs.object_map.ObjectMap.take.Goals as goal
 
@@ -8,8 +9,9 @@ invariant_of-self c =
     c.remove.ensures.entries c.remove.ensures.ordered).kept
 
 pub returns-clause-taken : goal.returns-clause-taken
-returns-clause-taken c path is =
-    rw (← c.self.view_is) (c.remove.ensures.value ∙ found c.self.inside.by_text.entries c.args.key.now path c.self.invariant is)
+returns-clause-taken c path location is =
+    rw (← c.self.view_is)
+    (ap (option_map (object_with path)) c.remove.ensures.value ∙ found c.self.inside.by_text.entries c.args.key.now path c.self.invariant location is)
 
 pub returns-clause-without : goal.returns-clause-without
 returns-clause-without c path is =

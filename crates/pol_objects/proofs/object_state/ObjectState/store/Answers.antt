@@ -1,12 +1,10 @@
-use Rattle.std.proofs.Common.{◌≡◌, ◌≤◌, ◌+◌, ap, ◌∙◌, length, rules, arith}
-use Rattle.pol_objects.specs.Objects.{object_at}
+use Rattle.std.proofs.Common.{◌≡◌, ◌≤◌, ◌+◌, length, arith}
 use Rattle.pol_objects.proofs.Machines.{absent, fits}
 use Rattle.pol_objects.proofs.object_state.ObjectState.store.Goals as goal
 
 pub insert-requires : goal.insert-requires
 insert-requires c =
-    let same : c.in_ok-clone.field-0 ≡ c.args.path.now = search rules in
-    record { new = ap (object_at c.args.self.now.objects) same ∙ absent c.args.self.now c.args.path.now c.args.bytes.now c.requires }
+    record { new = absent c.args.self.now c.args.path.now c.args.bytes.now c.requires }
 
 pub overflow_add-self : goal.overflow_add-self
 overflow_add-self c =

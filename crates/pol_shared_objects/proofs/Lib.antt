@@ -1,0 +1,1 @@
+pub use Rattle.pol_shared.proofs.SeenLemmas
