@@ -1,5 +1,5 @@
 -- What the reason of a run tells of its devices, by what was done.
-use Rattle.std.proofs.Common.{◌≡◌, ◌≢◌, ◌<◌, ℕ, List, length, Option, Some, None, true, false, refl, sym, ap, ◌∙◌, arith, length-append}
+use Rattle.std.proofs.Common.{◌≡◌, ◌≢◌, ◌<◌, ℕ, List, length, Option, Some, None, true, false, sym, ap, ◌∙◌, arith, length-append}
 use Rattle.std.specs.Prelude.{IfSome, IsSome}
 use Rattle.std.specs.Io.KnownBytes.{Consumes}
 use Rattle.pol_init.specs.Journals.{IsNotMade}

@@ -1,11 +1,9 @@
 -- What a link that was served, or not called, tells of the run.
-use Rattle.std.proofs.Common.{◌≡◌, ◌≢◌, ◌<◌, ◌≤◌, ◌+◌, ◌-◌, ◌^◌, ◌⊎◌, ℕ, List, [], ◌∷◌, refl, sym, ap, subst, ◌∙◌, inl, inr, arith}
-use Rattle.pol_server.specs.Entry.{Entry}
+use Rattle.std.proofs.Common.{◌≡◌, ◌≢◌, ℕ, List, [], ◌∷◌, refl, sym, ap, subst, ◌∙◌, inl, inr, arith}
 use Rattle.pol_server.specs.Both.{BothGoOnAlone, SeenBoth}
 use Rattle.pol_server.specs.Ends.{Ends}
 use Rattle.pol_server.specs.declared.served.Ending.{Ending}
 use Rattle.pol_server.specs.declared.served.Ending.TheVariants as ending
-use Rattle.pol_object_store.specs.declared.entry.ObjectEntry.{ObjectEntry}
 use Rattle.pol_records.specs.Holding.{RisesBy}
 use Rattle.pol_cli.specs.Causes.{HasCause}
 use Rattle.pol_cli.specs.Disks.{Both}
@@ -19,7 +17,7 @@ use Rattle.pol_server.proofs.SeenLemmas.{alone-founding}
 use Rattle.pol_server.specs.Opened.{seen_new}
 use Rattle.pol_server.specs.Seen.{AreOfPasses, GoesOnAlone, Seen, entry_number}
 use Rattle.pol_server.specs.SeenObjects.{AreOfObjectPasses, ObjectsGoOnAlone, SeenObjects, object_entry_number}
-use Rattle.pol_cli.specs.Serving.{HasNoMarks, IsServed, RunsLink, Serves, seen_fresh}
+use Rattle.pol_cli.specs.Serving.{RunsLink, Serves, seen_fresh}
 
 -- a report with a link that was served has one
 pub served-something : (reason : Reason) (report : Report) (link : ServedLink) → report ≡ report_of reason (link ∷ []) → report.served ≢ []

@@ -87,8 +87,8 @@ pub record KeepsObjectsJournal {O : Type 0} (o : Tells O) (old new : O) (first l
 abbrev pub seen_in : {D O : Type 0} → Held D → HeldObjects O → SeenBoth
 seen_in catalogue objects = record { catalogue = catalogue.seen; objects = objects.seen }
 
--- both journals were opened, the link was served by the founding passes over what they hold, and nobody else entered
--- anything
+-- Both journals were opened, the link was served by the founding passes over what they hold, and nobody else entered
+-- anything. Where memory was wanting before the link was called, both disks read as before the run
 pub record ServesFiles {D O : Type 0} (d : Tells D) (o : Tells O) (old new : D) (objects_old objects_new : O) (before after : Ends) (report : Report) : Type 0 where
   pub first : Held D
   pub last : Held D
@@ -98,6 +98,8 @@ pub record ServesFiles {D O : Type 0} (d : Tells D) (o : Tells O) (old new : D) 
   pub objects : KeepsObjectsJournal o objects_old objects_new objects_first objects_last
   pub serves : Serves (seen_in first objects_first) before after (seen_in last objects_last) report
   pub alone : BothGoOnAlone (seen_in first objects_first) (seen_in last objects_last)
+  pub stays : report.served ≡ [] → Stays d old new
+  pub objects_stay : report.served ≡ [] → Stays o objects_old objects_new
 
 -- what a run on files reports, and does to its link and to both disks
 abbrev pub RunsFiles : {D O : Type 0} → Tells D → Tells O → D → D → O → O → Ends → Ends → Report → Type 0

@@ -25,6 +25,7 @@ pub(crate) fn exec<D: Disk, O: Disk, S: Source, K: Sink, C: Clock, W: Draw>(
     ensures objects { KeepsObjects O.seen O.may_leave O.clock O.left_since O.fault_count
         stores.old.objects stores.new.objects }
     ensures untouched { result.served ≡ [] → link.new ≡ link.old }
+    ensures unserved { result.served ≡ [] → stores.new ≡ stores.old }
 {
     let mut links = Vec::new(alloc);
     let Ok(()) = links.reserve(1) else {

@@ -25,7 +25,8 @@ pub(crate) struct FilesRun<D, O> {
 /// Opens the journal of the objects and then the catalogue's, and serves the link over what they hold.
 ///
 /// Where a journal isn't opened no disk is written; where it is that of the objects, the catalogue's isn't called. The
-/// link is called once both are open. Where it isn't called it is as it was, and no link is reported.
+/// link is called once both are open. Where it isn't called it is as it was, no disk is written and no link is
+/// reported.
 pub(crate) fn exec_files<D: Disk, O: Disk, S: Source, K: Sink, C: Clock, W: Draw>(
     alloc: Global,
     catalogue: D,

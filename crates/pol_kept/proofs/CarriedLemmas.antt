@@ -3,13 +3,13 @@ use Rattle.std.proofs.Common.{◌≡◌, ◌≢◌, Option, ℕ, ◌+◌, ◌≤
 use Rattle.pol_commands.specs.declared.command.Command.{Command}
 use Rattle.pol_content.specs.declared.change.Change.{Change}
 use Rattle.pol_journal.specs.Journal.{JournalState}
-use Rattle.pol_records.specs.Holding.{RisesBy}
+use Rattle.pol_records.specs.Holding.{Holds, Lost, RisesBy}
 use Rattle.pol_records.specs.declared.unwritten.Unwritten.{Unwritten}
 use Rattle.pol_state.specs.Rows.{Rows}
-use Rattle.pol_kept.specs.History.{Log, bodies_of, changes_of, records, size_of, state_of}
-use Rattle.pol_kept.specs.Stages.{GoesOn, IsLeftOut, IsWritten, marks_by}
+use Rattle.pol_kept.specs.History.{IsFormed, Log, bodies_of, changes_of, records, size_of, state_of}
+use Rattle.pol_kept.specs.Stages.{GoesOn, IsLeftOut, IsWritten, lost_undone, marks_by, undone_by}
 use Rattle.pol_kept.specs.declared.entry.Entry.{Entry}
-use Rattle.pol_kept.proofs.GoesOnLemmas.{entered-goes, entered-rises, entered-within, marked-goes}
+use Rattle.pol_kept.proofs.GoesOnLemmas.{entered-goes, entered-holds, entered-rises, entered-within, marked-goes, marked-holds}
 
 -- a log of these parts
 abbrev pub log_of : {D : Type 0} → Rows → List Entry → List ℕ → JournalState D → Log D
@@ -20,6 +20,9 @@ no-body : (body : List ℕ) → body ∷ [] ≢ []
 no-body body is = absurd (cc)
 
 module _ {D : Type 0} (seen : D → Option (List ℕ)) (may_leave : D → List ℕ → Type 0) (clock : D → ℕ) (left_since : D → ℕ → List ℕ → Type 0) (fault_count : D → ℕ) where
+  abbrev Held : List (List ℕ) → List (List ℕ) → List Lost → JournalState D → Type 0
+  Held = Holds seen may_leave clock left_since fault_count
+
   abbrev Goes : Log D → Log D → Type 0
   Goes old new = GoesOn seen may_leave clock left_since fault_count old new
 
@@ -32,6 +35,9 @@ module _ {D : Type 0} (seen : D → Option (List ℕ)) (may_leave : D → List �
 
     changes_are : changes ≡ changes_of (state_of old) command
     changes_are = is ∙ ap (λ (log : Log D). changes_of (state_of log) command) (sym view_is)
+
+    formed_old : IsFormed (state_of log) command → IsFormed (state_of old) command
+    formed_old = subst (λ (log : Log D). IsFormed (state_of log) command) (sym view_is)
 
     -- the command was entered
     module _ (now : List Entry) (marked : List ℕ) (now_is : now ≡ history ++ (record { number = number; command = command }) ∷ []) (marked_is : marked ≡ marks)
@@ -55,11 +61,18 @@ module _ {D : Type 0} (seen : D → Option (List ℕ)) (may_leave : D → List �
           subst (λ (marks : List ℕ). RisesBy (length marks) after.opening.faults (fault_count after.disk)) (sym marked_is)
           (entered-rises seen may_leave clock left_since fault_count old number command changes changes_are within after counts wrote was)
 
-      pub carried-goes : Goes log (log_of base now marked after)
-      carried-goes =
+      -- what was lost is lost, and nothing more
+      pub carried-holds : (opening : List (List ℕ)) (lost : List Lost) → Held opening (records log.base log.history) lost log.journal → Held opening (records base now) lost after
+      carried-holds opening lost =
+          subst (λ (from : Log D). Held opening (records from.base from.history) lost from.journal → Held opening (records base now) lost after) view_is (λ held.
+          subst (λ (entries : List Entry). Held opening (records base entries) lost after) (sym now_is)
+          (entered-holds seen may_leave clock left_since fault_count old number command changes changes_are within after counts wrote opening lost held))
+
+      pub carried-goes : IsFormed (state_of log) command → Goes log (log_of base now marked after)
+      carried-goes formed =
           subst (λ (from : Log D). Goes from (log_of base now marked after)) view_is
           (subst (λ (to : Log D). Goes old to) next_is
-          (entered-goes seen may_leave clock left_since fault_count old number command changes changes_are within after counts wrote))
+          (entered-goes seen may_leave clock left_since fault_count old number command changes changes_are within after counts wrote (formed_old formed)))
 
       -- where there were no changes the journal stays
       pub carried-idle : changes ≡ [] → after ≡ log.journal
@@ -77,11 +90,19 @@ module _ {D : Type 0} (seen : D → Option (List ℕ)) (may_leave : D → List �
       same_is : same ≡ log_of base now marked after
       same_is = λ i. log_of base (sym now_is i) (sym marked_is i) after
 
-      pub left-goes : Goes log (log_of base now marked after)
-      left-goes =
+      -- what was lost is lost, and its body too where that is unknown
+      pub left-holds : (opening : List (List ℕ)) (lost : List Lost) → Held opening (records log.base log.history) lost log.journal
+          → Held opening (records base now) (lost_undone (undone_by why) (records log.base log.history) changes lost) after
+      left-holds opening lost =
+          subst (λ (from : Log D). Held opening (records from.base from.history) lost from.journal → Held opening (records base now) (lost_undone (undone_by why) (records from.base from.history) changes lost) after) view_is (λ held.
+          subst (λ (entries : List Entry). Held opening (records base entries) (lost_undone (undone_by why) (records base history) changes lost) after) (sym now_is)
+          (marked-holds seen may_leave clock left_since fault_count old number command changes changes_are within after counts why out opening lost held))
+
+      pub left-goes : IsFormed (state_of log) command → Goes log (log_of base now marked after)
+      left-goes formed =
           subst (λ (from : Log D). Goes from (log_of base now marked after)) view_is
           (subst (λ (to : Log D). Goes old to) same_is
-          (marked-goes seen may_leave clock left_since fault_count old number command changes changes_are within after counts why out))
+          (marked-goes seen may_leave clock left_since fault_count old number command changes changes_are within after counts why out (formed_old formed)))
 
       -- so there were changes
       pub left-idle : changes ≡ [] → after ≡ log.journal

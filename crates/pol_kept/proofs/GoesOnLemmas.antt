@@ -1,5 +1,5 @@
 -- How a log goes on where a command is entered, and where its record isn't written.
-use Rattle.std.proofs.Common.{◌≡◌, inl, inr, Option, ℕ, ◌+◌, ◌-◌, ◌≤◌, List, [], ◌∷◌, ◌++◌, length, refl, sym, ◌∙◌, ap, subst, arith, append_assoc, append-nil}
+use Rattle.std.proofs.Common.{◌≡◌, inl, inr, Option, ℕ, ◌+◌, ◌-◌, ◌≤◌, List, [], ◌∷◌, ◌++◌, length, map, refl, sym, ◌∙◌, ap, subst, arith, append_assoc, append-nil}
 use Rattle.std.specs.List.{AllByRecursion}
 use mathlib.Core.List.{IsPrefix}
 use Rattle.pol_commands.specs.declared.command.Command.{Command}
@@ -11,10 +11,11 @@ use Rattle.pol_records.specs.Unwritten.{lost_by}
 use Rattle.pol_records.specs.declared.unwritten.Unwritten.{Unwritten}
 use Rattle.pol_records.specs.declared.unwritten.Unwritten.TheVariants.{JournalFull, Unknown, DiskFault}
 use Rattle.pol_state.specs.Rows.{Rows}
-use Rattle.pol_kept.specs.History.{Log, bodies_of, changes_of, records, size_of, state_of}
+use Rattle.pol_kept.specs.History.{IsFormed, Log, bodies_of, changes_of, records, size_of, state_of}
 use Rattle.pol_kept.specs.Images.{IsLostCommand, KeepsImages}
-use Rattle.pol_kept.specs.Stages.{GoesOn, IsLeftOut, IsWritten, marks_by}
+use Rattle.pol_kept.specs.Stages.{GoesOn, IsLeftOut, IsWritten, lost_undone, marks_by, undone_by}
 use Rattle.pol_kept.specs.declared.entry.Entry.{Entry}
+use Rattle.pol_kept.proofs.FormedLemmas.{formed-push}
 use Rattle.pol_kept.proofs.RecordLemmas.{opened-still, records-push, size-append}
 
 abbrev Bodies : Type 0
@@ -31,6 +32,7 @@ lost_grows base history more one is = record {
   command = is.command;
   behind = is.behind;
   body = is.body;
+  formed = is.formed;
 }
 
 all_grow : (base : Rows) (history more : List Entry) (lost : List Lost) → AllByRecursion (IsLostCommand base history) lost → AllByRecursion (IsLostCommand base (history ++ more)) lost
@@ -53,6 +55,9 @@ end-within had more all gate end within end_is all_is = omega arith
 module _ {D : Type 0} (seen : D → Option (List ℕ)) (may_leave : D → List ℕ → Type 0) (clock : D → ℕ) (left_since : D → ℕ → List ℕ → Type 0) (fault_count : D → ℕ) where
   abbrev Goes : Log D → Log D → Type 0
   Goes old new = GoesOn seen may_leave clock left_since fault_count old new
+
+  abbrev Held : Bodies → Bodies → List Lost → JournalState D → Type 0
+  Held = Holds seen may_leave clock left_since fault_count
 
   abbrev Keeps : Bodies → Rows → List Entry → JournalState D → Type 0
   Keeps opening base history journal = KeepsImages seen may_leave clock left_since fault_count opening base history journal
@@ -82,17 +87,21 @@ module _ {D : Type 0} (seen : D → Option (List ℕ)) (may_leave : D → List �
           end-within (size_of (records old.base old.history)) (size_of (bodies_of changes)) (size_of (records old.base (old.history ++ entry ∷ [])))
           old.journal.gate journal.gate within written.end size_is
 
-      entered-images : (opening : Bodies) → Keeps opening old.base old.history old.journal → Keeps opening old.base (old.history ++ entry ∷ []) journal
-      entered-images opening keeps = record {
+      pub entered-holds : (opening : Bodies) (lost : List Lost) → Held opening (records old.base old.history) lost old.journal → Held opening (records old.base (old.history ++ entry ∷ [])) lost journal
+      entered-holds opening lost held =
+          subst (λ (bodies : Bodies). Held opening bodies lost journal) (sym longer) (written.holds opening (records old.base old.history) lost held)
+
+      entered-images : IsFormed (state_of old) command → (opening : Bodies) → Keeps opening old.base old.history old.journal → Keeps opening old.base (old.history ++ entry ∷ []) journal
+      entered-images formed opening keeps = record {
         lost = keeps.lost;
-        holds = subst (λ (bodies : Bodies). Holds seen may_leave clock left_since fault_count opening bodies keeps.lost journal) (sym longer)
-            (written.holds opening (records old.base old.history) keeps.lost keeps.holds);
+        holds = entered-holds opening keeps.lost keeps.holds;
         commands = all_grow old.base old.history (entry ∷ []) keeps.lost keeps.commands;
+        formed = formed-push old.base old.history entry keeps.formed formed;
       }
 
-      pub entered-goes : Goes old entered
-      entered-goes = record {
-        images = entered-images;
+      pub entered-goes : IsFormed (state_of old) command → Goes old entered
+      entered-goes formed = record {
+        images = entered-images formed;
         opened = opened-still old.journal.gate (size_of (records old.base old.history)) (size_of (bodies_of changes)) journal.gate
             (size_of (records old.base (old.history ++ entry ∷ []))) within written.end size_is;
         told = written.opened;
@@ -109,28 +118,40 @@ module _ {D : Type 0} (seen : D → Option (List ℕ)) (may_leave : D → List �
       abbrev marked : Log D
       marked = record old { marks = marks_by why number old.marks; journal = journal }
 
-      lost_too : (which : Unwritten) (lost : List Lost) → AllByRecursion (IsLostCommand old.base old.history) lost
+      lost-is : (which : Unwritten) (lost : List Lost) → lost_by which (records old.base old.history) out.body lost ≡ lost_undone (undone_by which) (records old.base old.history) changes lost
+      lost-is (JournalFull end wanted) lost = refl
+      lost-is Unknown lost = ap (λ (bodies : Bodies). lost ++ map (lost_behind (records old.base old.history)) bodies) (sym out.one)
+      lost-is DiskFault lost = refl
+
+      pub marked-holds : (opening : Bodies) (lost : List Lost) → Held opening (records old.base old.history) lost old.journal
+          → Held opening (records old.base old.history) (lost_undone (undone_by why) (records old.base old.history) changes lost) journal
+      marked-holds opening lost held =
+          subst (λ (all : List Lost). Held opening (records old.base old.history) all journal) (lost-is why lost) (out.holds opening (records old.base old.history) lost held)
+
+      lost_too : IsFormed (state_of old) command → (which : Unwritten) (lost : List Lost) → AllByRecursion (IsLostCommand old.base old.history) lost
           → AllByRecursion (IsLostCommand old.base old.history) (lost_by which (records old.base old.history) out.body lost)
-      lost_too (JournalFull end wanted) lost all = all
-      lost_too Unknown lost all = all_push (IsLostCommand old.base old.history) lost (lost_behind (records old.base old.history) out.body) all (record {
+      lost_too formed (JournalFull end wanted) lost all = all
+      lost_too formed Unknown lost all = all_push (IsLostCommand old.base old.history) lost (lost_behind (records old.base old.history) out.body) all (record {
         front = old.history;
         first = ([], append-nil old.history);
         command = command;
         behind = refl;
         body = sym bodies_are ∙ out.one;
+        formed = formed;
       })
-      lost_too DiskFault lost all = all
+      lost_too formed DiskFault lost all = all
 
-      marked-images : (opening : Bodies) → Keeps opening old.base old.history old.journal → Keeps opening old.base old.history journal
-      marked-images opening keeps = record {
+      marked-images : IsFormed (state_of old) command → (opening : Bodies) → Keeps opening old.base old.history old.journal → Keeps opening old.base old.history journal
+      marked-images formed opening keeps = record {
         lost = lost_by why (records old.base old.history) out.body keeps.lost;
         holds = out.holds opening (records old.base old.history) keeps.lost keeps.holds;
-        commands = lost_too why keeps.lost keeps.commands;
+        commands = lost_too formed why keeps.lost keeps.commands;
+        formed = keeps.formed;
       }
 
-      pub marked-goes : Goes old marked
-      marked-goes = record {
-        images = marked-images;
+      pub marked-goes : IsFormed (state_of old) command → Goes old marked
+      marked-goes formed = record {
+        images = marked-images formed;
         opened = ap (λ gate. (gate + 1) - size_of (records old.base old.history)) out.end;
         told = out.opened;
         kept = counts;

@@ -1,5 +1,6 @@
 pub mod CarriedLemmas
 pub mod EntryLemmas
+pub mod FormedLemmas
 pub mod FullLemmas
 pub mod GoesOnLemmas
 pub mod OpenedLemmas

@@ -17,6 +17,7 @@ use Rattle.pol_kept.specs.History.{Log, records, size_of, state_at}
 use Rattle.pol_kept.specs.Images.{KeepsImages}
 use Rattle.pol_kept.specs.Opened.{Reopens, fresh_bodies}
 use Rattle.pol_kept.specs.declared.entry.Entry.{Entry}
+use Rattle.pol_kept.proofs.FormedLemmas.{formed-none}
 use Rattle.pol_kept.proofs.RecordLemmas.{bodies-some, records-none}
 
 -- a fresh state has changes, and all of it is live
@@ -71,6 +72,7 @@ module _ {D : Type 0} (seen : D → Option (List ℕ)) (may_leave : D → List �
     lost = [];
     holds = subst (λ (written : List (List ℕ)). Holds seen may_leave clock left_since fault_count opening written [] journal) (sym (records-none base)) holds;
     commands = tt;
+    formed = formed-none base;
   }
 
   -- a journal that was opened

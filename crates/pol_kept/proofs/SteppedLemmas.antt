@@ -1,14 +1,18 @@
 -- What a step tells, by the reply.
-use Rattle.std.proofs.Common.{◌≡◌, ◌≢◌, ℕ, ◌+◌, ◌≤◌, ◌^◌, refl, sym, ap, subst, ◌∙◌, arith}
+use Rattle.std.proofs.Common.{◌≡◌, ◌≢◌, ℕ, ◌+◌, ◌≤◌, ◌^◌, List, ◌++◌, map, refl, sym, ap, subst, ◌∙◌, arith}
 use Rattle.pol_machine.specs.Machine.{reply_of}
 use Rattle.pol_state.specs.Rows.{Rows}
 use Rattle.pol_commands.specs.declared.command.Command.{Command}
 use Rattle.pol_commands.specs.declared.reply.Refusal.TheVariants.{RunFull}
 use Rattle.pol_commands.specs.declared.reply.Reply.{Reply}
 use Rattle.pol_commands.specs.declared.reply.Reply.TheVariants.{Refused}
-use Rattle.pol_kept.specs.History.{Log, state_of}
-use Rattle.pol_kept.specs.Stages.{IsEntered}
-use Rattle.pol_kept.specs.Stepped.{IsDone, IsFull}
+use Rattle.pol_content.specs.declared.change.Change.{Change}
+use Rattle.pol_records.specs.Holding.{Lost, lost_behind}
+use Rattle.pol_kept.specs.History.{Log, bodies_of, state_of}
+use Rattle.pol_kept.specs.Stages.{IsEntered, lost_undone, stepped_by}
+use Rattle.pol_kept.specs.Stepped.{IsDone, IsFull, lost_after}
+use Rattle.pol_kept.specs.declared.undone.Undone.{Undone}
+use Rattle.pol_kept.specs.declared.undone.Undone.TheVariants as undone
 use Rattle.pol_kept.proofs.FullLemmas.{IsFullRun, reply-full, room-open}
 
 -- a reply that doesn't tell a full run
@@ -43,3 +47,11 @@ module _ {D Out : Type 0} (Renders : Reply → Out → Type 0) (log : Log D) (s 
     fits = entered.fits;
     rendered = subst (λ (rows : Rows). Renders (reply_of rows command) out) state_is rendered;
   }
+
+-- what a command that wasn't carried out leaves lost
+pub lost-told : (Out : Type 0) (why : Undone) (written : List (List ℕ)) (made changes : List Change) (lost : List Lost) → made ≡ changes →
+    lost_undone why written made lost ≡ lost_after {Out = Out} (stepped_by why) written changes lost
+lost-told Out (undone.JournalFull end wanted) written made changes lost same = refl
+lost-told Out undone.Unknown written made changes lost same = ap (λ (changes : List Change). lost ++ map (lost_behind written) (bodies_of changes)) same
+lost-told Out undone.DiskFault written made changes lost same = refl
+lost-told Out undone.OutOfMemory written made changes lost same = refl

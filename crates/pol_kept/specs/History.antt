@@ -1,5 +1,5 @@
 -- Histories: the commands that were done since an opening, the states that they led to, and the records of their changes.
-use Rattle.std.specs.Prelude.{ℕ, ◌+◌, ◌-◌, List, [], ◌∷◌, ◌++◌, length}
+use Rattle.std.specs.Prelude.{ℕ, ◌≢◌, ◌+◌, ◌-◌, List, [], ◌∷◌, ◌++◌, length, ⊤}
 use Rattle.std.specs.List.{fold, sum_by}
 use Rattle.pol_changecodec.specs.Change.{changes as changes_form}
 use Rattle.pol_commands.specs.declared.command.Command.{Command}
@@ -8,6 +8,7 @@ use Rattle.pol_journal.specs.Journal.{JournalState}
 use Rattle.pol_machine.specs.Machine.{next_state}
 use Rattle.pol_state.specs.Changes.{changes_between}
 use Rattle.pol_state.specs.Rows.{Rows}
+use Rattle.pol_state.specs.Sound.{IsSound}
 use Rattle.pol_kept.specs.declared.entry.Entry.{Entry}
 
 -- the state at the opening, the history since, the number of the pass of each call that the disk failed, and the journal
@@ -42,6 +43,16 @@ bodies_of (change ∷ changes) = changes_form.write (change ∷ changes) ∷ []
 unfoldable pub records : Rows → List Entry → List (List ℕ)
 records s [] = []
 records s (entry ∷ entries) = bodies_of (changes_of s entry.command) ++ records (state_after s entry) entries
+
+-- what is written of a command's changes is read back, and they lead to a sound state
+pub record IsFormed (s : Rows) (command : Command) : Type 0 where
+  pub form : changes_of s command ≢ [] → ∥ changes_form.holds (changes_of s command) ∥₁
+  pub sound : IsSound (next_state s command)
+
+-- so it is with each command of a history, from a state on
+unfoldable pub AreFormed : Rows → List Entry → Type 0
+AreFormed s [] = ⊤
+AreFormed s (entry ∷ entries) = IsFormed s entry.command × AreFormed (state_after s entry) entries
 
 -- the bytes that the records of bodies take
 abbrev pub size_of : List (List ℕ) → ℕ

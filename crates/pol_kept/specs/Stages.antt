@@ -1,14 +1,15 @@
 -- What the stages of a step tell.
-use Rattle.std.specs.Prelude.{ℕ, ◌≡◌, ◌+◌, ◌^◌, ◌≤◌, ◌⊎◌, List, [], ◌∷◌, ◌++◌, length, Option, Some, None}
+use Rattle.std.specs.Prelude.{ℕ, ◌≡◌, ◌+◌, ◌^◌, ◌≤◌, ◌⊎◌, List, [], ◌∷◌, ◌++◌, length, map, Option, Some, None}
 use Rattle.pol_commands.specs.declared.command.Command.{Command}
+use Rattle.pol_content.specs.declared.change.Change.{Change}
 use Rattle.pol_journal.specs.Journal.{HasFailed, JournalState}
-use Rattle.pol_records.specs.Holding.{Holds, Lost}
+use Rattle.pol_records.specs.Holding.{Holds, Lost, lost_behind}
 use Rattle.pol_records.specs.Unwritten.{IsUnwritten, lost_by}
 use Rattle.pol_records.specs.declared.unwritten.Unwritten.{Unwritten}
 use Rattle.pol_records.specs.declared.unwritten.Unwritten.TheVariants as unwritten
-use Rattle.pol_kept.specs.History.{Log, changes_of, end_with, opened_of, size_of, state_of}
+use Rattle.pol_kept.specs.History.{Log, bodies_of, changes_of, end_with, opened_of, size_of, state_of}
 use Rattle.pol_kept.specs.Images.{KeepsImages}
-use Rattle.pol_kept.specs.Stepped.{IsJournalFull, IsMarked}
+use Rattle.pol_kept.specs.Stepped.{IsJournalFull, IsMarked, IsUnknown}
 use Rattle.pol_kept.specs.declared.stepped.Stepped.{Stepped}
 use Rattle.pol_kept.specs.declared.stepped.Stepped.TheVariants as stepped
 use Rattle.pol_kept.specs.declared.undone.Undone.{Undone}
@@ -52,6 +53,13 @@ undone_by (unwritten.JournalFull end wanted) = JournalFull end wanted
 undone_by unwritten.Unknown = Unknown
 undone_by unwritten.DiskFault = DiskFault
 
+-- the appends that failed, where a command wasn't carried out: that of its changes is one more where its outcome is unknown
+abbrev pub lost_undone : Undone → List (List ℕ) → List Change → List Lost → List Lost
+lost_undone (JournalFull end wanted) written changes lost = lost
+lost_undone Unknown written changes lost = lost ++ map (lost_behind written) (bodies_of changes)
+lost_undone DiskFault written changes lost = lost
+lost_undone OutOfMemory written changes lost = lost
+
 -- what came of a command that wasn't carried out
 abbrev pub stepped_by : {Out : Type 0} → Undone → Stepped Out
 stepped_by (JournalFull end wanted) = stepped.JournalFull end wanted
@@ -68,7 +76,7 @@ pub record IsEntered {D : Type 0} (old new : Log D) (number : ℕ) (command : Co
 -- a command wasn't carried out
 abbrev pub IsUndone : {D : Type 0} → (D → ℕ) → Log D → Log D → ℕ → Command → Undone → Type 0
 IsUndone fault_count old new number command (JournalFull end wanted) = IsJournalFull old new command end wanted
-IsUndone fault_count old new number command Unknown = IsMarked fault_count old new number command
+IsUndone fault_count old new number command Unknown = IsUnknown fault_count old new number command
 IsUndone fault_count old new number command DiskFault = IsMarked fault_count old new number command × HasFailed old.journal
 IsUndone fault_count old new number command OutOfMemory = new ≡ old
 

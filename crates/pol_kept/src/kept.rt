@@ -1,11 +1,11 @@
-ghost use Rattle.std.specs.Prelude.{◌≡◌, ◌≤◌, ◌+◌, ◌^◌, ℕ, List, [], length, IfErr, IfOk};
+ghost use Rattle.std.specs.Prelude.{◌≡◌, ◌≤◌, ◌+◌, ◌^◌, ℕ, List, [], length, IfErr, IfOk, OnOk};
 ghost use Rattle.pol_journal.specs.Format.{StandsFor};
 ghost use Rattle.pol_journal.specs.Journal.{IsAtRest, SinceOpening};
-ghost use Rattle.pol_kept.specs.History.{changes_of, opened_of, state_of};
+ghost use Rattle.pol_kept.specs.History.{changes_of, opened_of, records, state_of};
 ghost use Rattle.pol_kept.specs.Images.{KeepsImages};
-ghost use Rattle.pol_kept.specs.Stages.{GoesOn, IsEntered, IsUndone};
-ghost use Rattle.pol_kept.specs.Stepped.{Steps};
-ghost use Rattle.pol_records.specs.Holding.{IsPastReading, RisesBy};
+ghost use Rattle.pol_kept.specs.Stages.{GoesOn, IsEntered, IsUndone, lost_undone};
+ghost use Rattle.pol_kept.specs.Stepped.{Steps, lost_after};
+ghost use Rattle.pol_records.specs.Holding.{Holds, IsPastReading, Lost, RisesBy};
 ghost use Rattle.pol_state.specs.Sound.{IsSound};
 
 use crate::stages::{answer, enter, full_run, make_ready, mark, write};
@@ -94,6 +94,14 @@ impl<D: Disk> Kept<D> {
             self.old.base self.old.history self.old.journal
             → KeepsImages D.seen D.may_leave D.clock D.left_since D.fault_count opening
             self.new.base self.new.history self.new.journal }
+        // An append that failed is that of this command's changes where its outcome is unknown, and there is no other.
+        ensures lost { (opening : List (List ℕ)) (lost : List Lost)
+            → Holds D.seen D.may_leave D.clock D.left_since D.fault_count opening
+            (records self.old.base self.old.history) lost self.old.journal
+            → Holds D.seen D.may_leave D.clock D.left_since D.fault_count opening
+            (records self.new.base self.new.history)
+            (lost_after result (records self.old.base self.old.history) (changes_of (state_of self.old) command) lost)
+            self.new.journal }
         ensures opened { opened_of self.new ≡ opened_of self.old }
         ensures opening { self.new.journal.opening ≡ self.old.journal.opening }
         ensures kept { D.fault_count self.old.journal.disk ≤ D.fault_count self.new.journal.disk }
@@ -140,6 +148,17 @@ impl<D: Disk> Kept<D> {
         ensures undone { IfErr result (IsUndone D.fault_count self.old self.new number command) }
         ensures goes_on { GoesOn D.seen D.may_leave D.clock D.left_since D.fault_count self.old self.new }
         ensures idle { changes.items ≡ [] → self.new.journal ≡ self.old.journal }
+        ensures holds { OnOk result ((opening : List (List ℕ)) (lost : List Lost)
+            → Holds D.seen D.may_leave D.clock D.left_since D.fault_count opening
+            (records self.old.base self.old.history) lost self.old.journal
+            → Holds D.seen D.may_leave D.clock D.left_since D.fault_count opening
+            (records self.new.base self.new.history) lost self.new.journal) }
+        ensures lost { IfErr result (λ why. (opening : List (List ℕ)) (lost : List Lost)
+            → Holds D.seen D.may_leave D.clock D.left_since D.fault_count opening
+            (records self.old.base self.old.history) lost self.old.journal
+            → Holds D.seen D.may_leave D.clock D.left_since D.fault_count opening
+            (records self.new.base self.new.history)
+            (lost_undone why (records self.old.base self.old.history) changes.items lost) self.new.journal) }
     {
         let Ok(body) = make_ready(
             alloc,

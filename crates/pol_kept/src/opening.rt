@@ -1,5 +1,5 @@
 //! A store is made on an empty disk, or opened over the journal that a disk has.
-ghost use Rattle.std.specs.Prelude.{◌≡◌, ◌≤◌, ◌<◌, ℕ, List, [], ◌∷◌, Some, IfErr, IfOk, length};
+ghost use Rattle.std.specs.Prelude.{◌≡◌, ◌≤◌, ◌<◌, ℕ, List, [], ◌∷◌, Some, IfErr, IfOk, IfSome, OnOk, length};
 ghost use Rattle.pol_disk.specs.Disk.{LeavesOnly};
 ghost use Rattle.pol_journal.specs.Crash.{IsUntouched};
 ghost use Rattle.pol_journal.specs.Format.{IsNoneOrStandsFor, area_of, extent};
@@ -41,6 +41,8 @@ impl<D: Disk> Kept<D> {
             → LeavesOnly D.clock D.left_since disk (disk_of result)
             (IsNoneOrStandsFor Catalogue (fresh_bodies root_secret.now)) }
         ensures opened { IfOk result (λ log. opened_of log ≡ extent (fresh_bodies root_secret.now)) }
+        // A disk with bytes is refused.
+        ensures empty { OnOk result (IfSome (D.size disk) (λ size. size ≡ 0)) }
         ensures refused { IfErr result (λ refused.
             FreshRefused (D.size disk) (D.fault_count disk) (D.fault_count refused.0) refused.1) }
         ensures opening { IfOk result (λ log. D.fault_count disk ≤ log.journal.opening.faults) }

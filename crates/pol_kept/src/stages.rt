@@ -1,5 +1,7 @@
 //! The stages of a step, over the state, the history, the marks and the journal themselves.
 ghost use Rattle.std.specs.Prelude.{ℕ, ◌≡◌, ◌≢◌, ◌<◌, ◌≤◌, ◌+◌, ◌^◌, [], ◌∷◌, ◌++◌, length, option_map, vec_len, vec_capacity, IfErr, IfOk, MatchOption, OnOk};
+ghost use Rattle.std.specs.List.{AllByRecursion};
+ghost use Rattle.pol_changecodec.specs.Change.{IsSoundChange, changes as changes_form};
 ghost use Rattle.pol_state.specs.Applied.{HasRoom};
 ghost use Rattle.pol_state.specs.Changes.{changes_between};
 ghost use Rattle.pol_machine.specs.Machine.{next_state, reply_of};
@@ -70,7 +72,10 @@ pub(crate) fn reserve(
 
 /// The body of the record of the changes, where there are any.
 pub(crate) fn body_of(alloc: Global, changes: &[Change]) -> Result<Option<Vec<u8>>, OutOfMemory>
-    ensures { IfOk result (λ body. bodies_in (option_map (λ body. body.items) body) ≡ bodies_of changes.now) }
+    ensures body { IfOk result (λ body. bodies_in (option_map (λ body. body.items) body) ≡ bodies_of changes.now) }
+    // What is written is their form, where each metadata is valid.
+    ensures form { OnOk result (changes.now ≢ [] → AllByRecursion IsSoundChange changes.now
+        → changes_form.holds changes.now) }
 {
     if changes.is_empty() {
         return Ok(None);
@@ -92,6 +97,8 @@ pub(crate) fn make_ready(
     ensures place { OnOk result (length history.now + 1 < 2 ^ 64) }
     ensures mark { OnOk result (vec_len marks.new < vec_capacity marks.new) }
     ensures body { IfOk result (λ body. bodies_in (option_map (λ body. body.items) body) ≡ bodies_of changes.now) }
+    ensures form { OnOk result (changes.now ≢ [] → AllByRecursion IsSoundChange changes.now
+        → changes_form.holds changes.now) }
 {
     reserve(state, history, marks, changes)?;
     body_of(alloc, changes)

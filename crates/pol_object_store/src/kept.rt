@@ -1,4 +1,4 @@
-ghost use Rattle.std.specs.Prelude.{◌≡◌, ◌≤◌, ◌≢◌, [], ℕ, IfErr, IfOk, IfSome, List, Some, length};
+ghost use Rattle.std.specs.Prelude.{◌≡◌, ◌≤◌, ◌≢◌, [], ℕ, IfErr, IfOk, IfSome, List, OnOk, Some, length};
 ghost use Rattle.pol_disk.specs.Disk.{LeavesOnly};
 ghost use Rattle.pol_journal.specs.Crash.{IsUntouched};
 ghost use Rattle.pol_journal.specs.Format.{IsNoneOrStandsFor, StandsFor};
@@ -6,12 +6,12 @@ ghost use Rattle.pol_journal.specs.Journal.{IsAtRest, IsBlank, SinceOpening};
 ghost use Rattle.pol_journal.specs.Refused.{CreateRefused};
 ghost use Rattle.pol_journal.specs.declared.kind.Kind.TheVariants.{Objects};
 ghost use Rattle.pol_objects.specs.Objects.{total_length};
-ghost use Rattle.pol_object_store.specs.Acted.{Acts};
+ghost use Rattle.pol_object_store.specs.Acted.{Acts, lost_after};
 ghost use Rattle.pol_object_store.specs.ObjectHistory.{no_objects, object_state_of};
 ghost use Rattle.pol_object_store.specs.ObjectImages.{KeepsObjectImages};
-ghost use Rattle.pol_object_store.specs.ObjectRecords.{AreFormed, object_changes, object_opened};
+ghost use Rattle.pol_object_store.specs.ObjectRecords.{AreFormed, object_changes, object_opened, object_records};
 ghost use Rattle.pol_object_store.specs.Reopened.{IsNewLog, OpenObjectsRefused, Reopens, disk_left};
-ghost use Rattle.pol_records.specs.Holding.{IsPastReading, RisesBy};
+ghost use Rattle.pol_records.specs.Holding.{Holds, IsPastReading, Lost, RisesBy};
 
 use crate::opening::read_state;
 use crate::stages::{perform, reserve, undone};
@@ -90,6 +90,8 @@ impl<D: Disk> KeptObjects<D> {
             → LeavesOnly D.clock D.left_since disk (disk_left result) (IsNoneOrStandsFor Objects []) }
         ensures opened { IfOk result (λ log. object_opened log ≡ 65) }
         ensures since { IfOk result (λ log. D.fault_count disk ≤ log.journal.opening.faults) }
+        // A disk with bytes is refused.
+        ensures empty { OnOk result (IfSome (D.size disk) (λ size. size ≡ 0)) }
         ensures refused { IfErr result (λ refused.
             CreateRefused (D.size disk) (D.fault_count disk) (D.fault_count refused.0) refused.1) }
         // A disk with bytes isn't touched.
@@ -138,6 +140,14 @@ impl<D: Disk> KeptObjects<D> {
             self.old.base self.old.history self.old.journal
             → KeepsObjectImages D.seen D.may_leave D.clock D.left_since D.fault_count opening
             self.new.base self.new.history self.new.journal }
+        // Where the outcome is unknown, the action's change is the one that may be left.
+        ensures lost { (opening : List (List ℕ)) (lost : List Lost)
+            → Holds D.seen D.may_leave D.clock D.left_since D.fault_count opening
+            (object_records self.old.base self.old.history) lost self.old.journal
+            → Holds D.seen D.may_leave D.clock D.left_since D.fault_count opening
+            (object_records self.new.base self.new.history)
+            (lost_after result (object_records self.old.base self.old.history)
+            (object_changes (object_state_of self.old) action) lost) self.new.journal }
         // What makes no change leaves the journal.
         ensures idle { object_changes (object_state_of self.old) action ≡ [] → self.new.journal ≡ self.old.journal }
         // What is recorded can be read back.

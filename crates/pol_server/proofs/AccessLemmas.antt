@@ -122,7 +122,7 @@ module _ (old new : Ends) (seen : SeenBoth) (message : Message) (plan : Planned)
         → Handles old new seen (record { catalogue = catalogue-with front; objects = objects }) message (Catalogue (length front)) (Some bytes)
     handles-unstored-by objects (JournalFull end wanted) bytes is text_is =
         handles-unstored objects (JournalFull end wanted) bytes is.stays.seen is.some (is.end_is, is.wanted_is, is.above) (omega (arith, is.stays.seen.kept)) text_is
-    handles-unstored-by objects Unknown bytes is text_is = handles-unstored objects Unknown bytes is.seen is.some tt (omega (arith, is.marked)) text_is
+    handles-unstored-by objects Unknown bytes is text_is = handles-unstored objects Unknown bytes is.0.seen is.0.some is.1 (omega (arith, is.0.marked)) text_is
     handles-unstored-by objects DiskFault bytes is text_is = handles-unstored objects DiskFault bytes is.seen is.some tt (omega (arith, is.marked)) text_is
 
     abbrev object-entry : ObjectEntry

@@ -346,7 +346,7 @@ module _ (old new : Ends) (seen : SeenBoth) (message : Message) (plan : Planned)
         → Handles old new seen (record seen { catalogue = after }) message NoEntry (Some bytes)
     handles-unwritten-by after (JournalFull end wanted) bytes is text_is =
         handles-unwritten after (JournalFull end wanted) bytes is.stays.seen is.some (is.end_is, is.wanted_is, is.above) (omega (arith, is.stays.seen.kept)) text_is
-    handles-unwritten-by after Unknown bytes is text_is = handles-unwritten after Unknown bytes is.seen is.some tt (omega (arith, is.marked)) text_is
+    handles-unwritten-by after Unknown bytes is text_is = handles-unwritten after Unknown bytes is.seen is.some is.within (omega (arith, is.marked)) text_is
     handles-unwritten-by after DiskFault bytes is text_is = handles-unwritten after DiskFault bytes is.seen is.some tt (omega (arith, is.marked)) text_is
 
     -- the text of a reply, framed as the message asks

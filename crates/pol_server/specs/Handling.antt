@@ -16,12 +16,13 @@ use Rattle.pol_records.specs.declared.unwritten.Unwritten.TheVariants.{JournalFu
 use Rattle.pol_requests.specs.declared.refused.Unplanned.{Unplanned}
 use Rattle.pol_requests.specs.declared.refused.Unplanned.TheVariants as unplanned
 use Rattle.pol_routes.specs.declared.verb.Verb.{Verb}
+use Rattle.pol_object_store.specs.ObjectRecords.{object_end_with}
 use Rattle.pol_shared_objects.specs.KeptStepped.{Stepped}
 use Rattle.pol_shared_objects.specs.KeptStepped.TheVariants as stepped
 use Rattle.pol_shared_objects.specs.Accessed.{IsAllowedIn, access_allowed}
 use Rattle.pol_shared_objects.specs.Permits.{Permitted}
 use Rattle.pol_shared_objects.specs.Seen.{HasSeen, Seen}
-use Rattle.pol_shared_objects.specs.Stepped.{IsDoneIn, IsFullIn, IsJournalFullIn, IsMarkedIn}
+use Rattle.pol_shared_objects.specs.Stepped.{IsDoneIn, IsFullIn, IsJournalFullIn, IsMarkedIn, IsUnknownIn}
 use Rattle.pol_shared_objects.specs.Acted.{IsActedIn, IsObjectJournalFullIn, IsObjectMarkedIn}
 use Rattle.pol_shared_objects.specs.SeenObjects.{HasSeenObjects, SeenObjects}
 use Rattle.pol_wire.specs.Streams.{IsShifted}
@@ -69,7 +70,7 @@ IsUnwrittenText close head_only why text = text ≡ answer_text (framed close he
 -- the changes of a command weren't written
 abbrev pub IsUnwrittenIn : Seen → Seen → Command → Unwritten → Type 0
 IsUnwrittenIn before after command (JournalFull end wanted) = IsJournalFullIn before after command end wanted
-IsUnwrittenIn before after command Unknown = IsMarkedIn before after command
+IsUnwrittenIn before after command Unknown = IsUnknownIn before after command
 IsUnwrittenIn before after command DiskFault = IsMarkedIn before after command
 
 -- how a command that came to this is answered. That it is unknown whether its changes were written is told whatever memory
@@ -137,7 +138,8 @@ IsAnsweredBy acted.OutOfMemory access close head_only place text = (place ≡ Ca
 -- the change of an action wasn't written
 abbrev pub IsUnstoredIn : SeenObjects → SeenObjects → ObjectAction → Unwritten → Type 0
 IsUnstoredIn before after action (JournalFull end wanted) = IsObjectJournalFullIn before after action end wanted
-IsUnstoredIn before after action Unknown = IsObjectMarkedIn before after action
+IsUnstoredIn before after action Unknown =
+    IsObjectMarkedIn before after action × (object_end_with after.opened after.base after.front action ≤ 2 ^ 40)
 IsUnstoredIn before after action DiskFault = IsObjectMarkedIn before after action
 
 -- what came of an action that an access allowed: it was done; or its change wasn't written; or memory was wanting

@@ -124,10 +124,11 @@ unwritten_answer (JournalFull end wanted) = error_answer 503 (codes "JournalFull
 unwritten_answer Unknown = error_answer 500 (codes "Unknown") (codes "CommitStateUnknownException")
 unwritten_answer DiskFault = error_answer 503 (codes "DiskFault") (codes "ServiceUnavailableException")
 
--- a journal is full where it ends here and with the change would reach beyond its bound; a disk may fail at any change
+-- a journal is full where it ends here and with the change would reach beyond its bound, and what was to be written is
+-- unknown only where it would not; a disk may fail at any change
 abbrev pub IsFullAs : Unwritten → ℕ → ℕ → Type 0
 IsFullAs (JournalFull end wanted) now reached = (end ≡ now) × (wanted ≡ min reached (2 ^ 64 - 1)) × (2 ^ 40 < reached)
-IsFullAs Unknown now reached = ⊤
+IsFullAs Unknown now reached = reached ≤ 2 ^ 40
 IsFullAs DiskFault now reached = ⊤
 
 -- the pass of the catalogue and that of the objects, with what they have seen

@@ -1,6 +1,6 @@
 -- What a step tells of what the pass has seen.
 use Rattle.std.specs.Prelude.{⊤, ◌≡◌, ◌≢◌, ◌<◌, ◌≤◌, ◌+◌, ◌-◌, ◌^◌, ◌⊎◌, ℕ, List, [], ◌∷◌, ◌++◌, length, min}
-use Rattle.pol_journal.specs.Journal.{HasFailed, JournalState}
+use Rattle.pol_journal.specs.Journal.{HasFailed, IsReady, JournalState}
 use Rattle.pol_kept.specs.Machine.{reply_of}
 use Rattle.pol_commands.specs.declared.command.Command.{Command}
 use Rattle.pol_commands.specs.declared.reply.Refusal.TheVariants as refusal
@@ -50,21 +50,29 @@ pub record IsMarkedIn (old new : Seen) (command : Command) : Type 0 where
   pub some : changes_of (state_at new.base new.front) command ≢ []
   pub marked : new.failed ≡ old.failed + 1
 
+-- the same, where the journal had room for the changes
+pub record IsUnknownIn (old new : Seen) (command : Command) : Type 0 where
+  pub seen : HasSeen old new []
+  pub some : changes_of (state_at new.base new.front) command ≢ []
+  pub marked : new.failed ≡ old.failed + 1
+  pub within : end_with new.opened new.base new.front command ≤ 2 ^ 40
+
 -- what each answer tells of what the pass had seen before and has seen after
 abbrev pub StepsIn : {Out : Type 0} → (Reply → Out → Type 0) → Seen → Seen → Command → Stepped Out → Type 0
 StepsIn Renders old new command (Done place out) = IsDoneIn Renders old new command place out
 StepsIn Renders old new command (RunFull charged charge out) = IsFullIn Renders old new command charged charge out
 StepsIn Renders old new command (JournalFull end wanted) = IsJournalFullIn old new command end wanted
-StepsIn Renders old new command Unknown = IsMarkedIn old new command
+StepsIn Renders old new command Unknown = IsUnknownIn old new command
 StepsIn Renders old new command DiskFault = IsMarkedIn old new command
 StepsIn Renders old new command OutOfMemory = Stays old new
 
--- what each answer tells of the journal before and after: nothing was written where the run is full or memory is wanting,
--- and a fault of the disk is told where an append had failed before
+-- what each answer tells of the journal before and after: nothing was written where the run is full or memory is wanting.
+-- Where it would reach too far, no append that failed is left unrepaired. A fault of the disk is told where an append had
+-- failed before
 abbrev pub WritesIn : {D Out : Type 0} → JournalState D → JournalState D → Stepped Out → Type 0
 WritesIn old new (Done place out) = ⊤
 WritesIn old new (RunFull charged charge out) = new ≡ old
-WritesIn old new (JournalFull end wanted) = ⊤
+WritesIn old new (JournalFull end wanted) = IsReady new
 WritesIn old new Unknown = ⊤
 WritesIn old new DiskFault = HasFailed old
 WritesIn old new OutOfMemory = new ≡ old

@@ -1,13 +1,14 @@
-ghost use Rattle.std.specs.Prelude.{◌≡◌, ◌<◌, ◌≤◌, ◌^◌, ℕ, List, [], Some, IfErr, IfOk};
+ghost use Rattle.std.specs.Prelude.{◌≡◌, ◌<◌, ◌≤◌, ◌^◌, ℕ, List, [], Some, IfErr, IfOk, IfSome, OnOk};
 ghost use Rattle.pol_disk.specs.Disk.{LeavesOnly};
 ghost use Rattle.pol_journal.specs.Crash.{IsUntouched};
 ghost use Rattle.pol_journal.specs.Format.{IsNoneOrStandsFor, extent};
 ghost use Rattle.pol_journal.specs.Journal.{IsBlank};
 ghost use Rattle.pol_journal.specs.declared.kind.Kind.TheVariants.{Catalogue};
-ghost use Rattle.pol_kept.specs.History.{changes_of, state_at};
+ghost use Rattle.pol_kept.specs.History.{changes_of, records, state_at};
 ghost use Rattle.pol_kept.specs.Opened.{FreshRefused, fresh_bodies};
 ghost use Rattle.pol_kept.specs.Opening.{OpeningRefused};
-ghost use Rattle.pol_records.specs.Holding.{RisesBy};
+ghost use Rattle.pol_kept.specs.Stepped.{lost_after};
+ghost use Rattle.pol_records.specs.Holding.{Holds, Lost, RisesBy};
 ghost use Rattle.pol_shared.specs.Held.{HoldsImages};
 ghost use Rattle.pol_shared.specs.Opened.{ReopensAs, held_disk, seen_new};
 ghost use Rattle.pol_shared.specs.Seen.{AreOfPasses};
@@ -74,6 +75,8 @@ impl<D: Disk> Shared<D> {
         ensures moments { IsBlank (D.seen disk) (D.may_leave disk)
             → LeavesOnly D.clock D.left_since disk (held_disk result)
             (IsNoneOrStandsFor Catalogue (fresh_bodies root_secret.now)) }
+        // A disk with bytes is refused.
+        ensures empty { OnOk result (IfSome (D.size disk) (λ size. size ≡ 0)) }
         ensures refused { IfErr result (λ refused.
             FreshRefused (D.size disk) (D.fault_count disk) (D.fault_count refused.0) refused.1) }
         ensures opening { IfOk result (λ held. D.fault_count disk ≤ held.journal.opening.faults) }
@@ -124,6 +127,14 @@ impl<D: Disk> Shared<D> {
         ensures images { (opening : List (List ℕ))
             → HoldsImages D.seen D.may_leave D.clock D.left_since D.fault_count opening self.old
             → HoldsImages D.seen D.may_leave D.clock D.left_since D.fault_count opening self.new }
+        // An append that failed is that of this command's changes where its outcome is unknown, and there is no other.
+        ensures lost { (opening : List (List ℕ)) (lost : List Lost)
+            → Holds D.seen D.may_leave D.clock D.left_since D.fault_count opening
+            (records self.old.seen.base self.old.seen.front) lost self.old.journal
+            → Holds D.seen D.may_leave D.clock D.left_since D.fault_count opening
+            (records self.new.seen.base self.new.seen.front)
+            (lost_after result (records self.old.seen.base self.old.seen.front)
+            (changes_of (state_at self.old.seen.base self.old.seen.front) command) lost) self.new.journal }
         ensures opening { self.new.journal.opening ≡ self.old.journal.opening }
         ensures kept { D.fault_count self.old.journal.disk ≤ D.fault_count self.new.journal.disk }
     {

@@ -1,6 +1,6 @@
 -- What an action on objects tells of what the pass has seen.
 use Rattle.std.specs.Prelude.{⊤, ◌≡◌, ◌≢◌, ◌<◌, ◌≤◌, ◌+◌, ◌-◌, ◌^◌, ◌⊎◌, ℕ, List, [], ◌∷◌, ◌++◌, length, min}
-use Rattle.pol_journal.specs.Journal.{HasFailed, JournalState}
+use Rattle.pol_journal.specs.Journal.{HasFailed, IsReady, JournalState}
 use Rattle.pol_objects.specs.Machine.{object_reply}
 use Rattle.pol_objects.specs.declared.action.ObjectAction.{ObjectAction}
 use Rattle.pol_objects.specs.declared.reply.ObjectReply.{ObjectReply}
@@ -41,11 +41,13 @@ pub record IsObjectMarkedIn (old new : SeenObjects) (action : ObjectAction) : Ty
   pub some : object_changes (object_state_at new.base new.front) action ≢ []
   pub marked : new.failed ≡ old.failed + 1
 
--- what each answer tells of what the pass had seen before and has seen after
+-- what each answer tells of what the pass had seen before and has seen after: where the disk failed while the change was
+-- written, the journal had room for it
 abbrev pub ActsIn : SeenObjects → SeenObjects → ℕ → ObjectAction → Acted → Type 0
 ActsIn old new access action (Done place reply) = IsActedIn old new access action place reply
 ActsIn old new access action (JournalFull end wanted) = IsObjectJournalFullIn old new action end wanted
-ActsIn old new access action Unknown = IsObjectMarkedIn old new action
+ActsIn old new access action Unknown =
+    IsObjectMarkedIn old new action × (object_end_with new.opened new.base new.front action ≤ 2 ^ 40)
 ActsIn old new access action DiskFault = IsObjectMarkedIn old new action
 ActsIn old new access action OutOfMemory = ObjectsStay old new
 
@@ -57,11 +59,11 @@ LooksIn old new access action Unknown = ⊥
 LooksIn old new access action DiskFault = ⊥
 LooksIn old new access action OutOfMemory = ObjectsStay old new
 
--- what each answer tells of the journal before and after: nothing was written where memory is wanting, and a fault of the
--- disk is told where an append had failed before
+-- what each answer tells of the journal before and after: nothing was written where memory is wanting, a fault of the
+-- disk is told where an append had failed before, and no append that failed is left unrepaired where the journal is full
 abbrev pub RecordsIn : {D : Type 0} → JournalState D → JournalState D → Acted → Type 0
 RecordsIn old new (Done place reply) = ⊤
-RecordsIn old new (JournalFull end wanted) = ⊤
+RecordsIn old new (JournalFull end wanted) = IsReady new
 RecordsIn old new Unknown = ⊤
 RecordsIn old new DiskFault = HasFailed old
 RecordsIn old new OutOfMemory = new ≡ old

@@ -1,4 +1,4 @@
-ghost use Rattle.std.specs.Prelude.{◌≡◌, ◌<◌, ◌≤◌, ℕ, List, [], Some, IfErr, IfOk};
+ghost use Rattle.std.specs.Prelude.{◌≡◌, ◌<◌, ◌≤◌, ℕ, List, [], Some, IfErr, IfOk, IfSome, OnOk};
 ghost use Rattle.pol_disk.specs.Disk.{LeavesOnly};
 ghost use Rattle.pol_journal.specs.Crash.{IsUntouched};
 ghost use Rattle.pol_journal.specs.Format.{IsNoneOrStandsFor, extent};
@@ -7,10 +7,11 @@ ghost use Rattle.pol_journal.specs.Refused.{CreateRefused};
 ghost use Rattle.pol_journal.specs.declared.kind.Kind.TheVariants as kind;
 ghost use Rattle.pol_objects.specs.declared.action.ObjectAction.TheVariants as action;
 ghost use Rattle.pol_objects.specs.Objects.{total_length};
+ghost use Rattle.pol_object_store.specs.Acted.{lost_after};
 ghost use Rattle.pol_object_store.specs.ObjectHistory.{no_objects, object_state_at};
-ghost use Rattle.pol_object_store.specs.ObjectRecords.{object_changes};
+ghost use Rattle.pol_object_store.specs.ObjectRecords.{object_changes, object_records};
 ghost use Rattle.pol_object_store.specs.Reopened.{OpenObjectsRefused};
-ghost use Rattle.pol_records.specs.Holding.{RisesBy};
+ghost use Rattle.pol_records.specs.Holding.{Holds, Lost, RisesBy};
 ghost use Rattle.pol_shared.specs.Opened.{seen_new};
 ghost use Rattle.pol_shared_objects.specs.Acted.{ActsIn, LooksIn, RecordsIn};
 ghost use Rattle.pol_shared_objects.specs.HeldObjects.{HoldsObjectImages};
@@ -75,6 +76,8 @@ impl<D: Disk> Objects<D> {
             → HoldsObjectImages D.seen D.may_leave D.clock D.left_since D.fault_count [] held) }
         ensures moments { IsBlank (D.seen disk) (D.may_leave disk)
             → LeavesOnly D.clock D.left_since disk (held_disk result) (IsNoneOrStandsFor kind.Objects []) }
+        // A disk with bytes is refused.
+        ensures empty { OnOk result (IfSome (D.size disk) (λ size. size ≡ 0)) }
         ensures refused { IfErr result (λ refused.
             CreateRefused (D.size disk) (D.fault_count disk) (D.fault_count refused.0) refused.1) }
         ensures opening { IfOk result (λ held. D.fault_count disk ≤ held.journal.opening.faults) }
@@ -146,6 +149,14 @@ impl<D: Disk> Objects<D> {
         ensures images { (opening : List (List ℕ))
             → HoldsObjectImages D.seen D.may_leave D.clock D.left_since D.fault_count opening self.old
             → HoldsObjectImages D.seen D.may_leave D.clock D.left_since D.fault_count opening self.new }
+        // Where the outcome is unknown, the action's change is the one that may be left.
+        ensures lost { (opening : List (List ℕ)) (lost : List Lost)
+            → Holds D.seen D.may_leave D.clock D.left_since D.fault_count opening
+            (object_records self.old.seen.base self.old.seen.front) lost self.old.journal
+            → Holds D.seen D.may_leave D.clock D.left_since D.fault_count opening
+            (object_records self.new.seen.base self.new.seen.front)
+            (lost_after result (object_records self.old.seen.base self.old.seen.front)
+            (object_changes (object_state_at self.old.seen.base self.old.seen.front) (action.Put permit.path bytes)) lost) self.new.journal }
         ensures opening { self.new.journal.opening ≡ self.old.journal.opening }
         ensures kept { D.fault_count self.old.journal.disk ≤ D.fault_count self.new.journal.disk }
     {
@@ -168,6 +179,14 @@ impl<D: Disk> Objects<D> {
         ensures images { (opening : List (List ℕ))
             → HoldsObjectImages D.seen D.may_leave D.clock D.left_since D.fault_count opening self.old
             → HoldsObjectImages D.seen D.may_leave D.clock D.left_since D.fault_count opening self.new }
+        // Where the outcome is unknown, the action's change is the one that may be left.
+        ensures lost { (opening : List (List ℕ)) (lost : List Lost)
+            → Holds D.seen D.may_leave D.clock D.left_since D.fault_count opening
+            (object_records self.old.seen.base self.old.seen.front) lost self.old.journal
+            → Holds D.seen D.may_leave D.clock D.left_since D.fault_count opening
+            (object_records self.new.seen.base self.new.seen.front)
+            (lost_after result (object_records self.old.seen.base self.old.seen.front)
+            (object_changes (object_state_at self.old.seen.base self.old.seen.front) (action.Delete permit.path)) lost) self.new.journal }
         ensures opening { self.new.journal.opening ≡ self.old.journal.opening }
         ensures kept { D.fault_count self.old.journal.disk ≤ D.fault_count self.new.journal.disk }
     {
@@ -203,6 +222,13 @@ impl<D: Disk> Objects<D> {
         ensures images { (opening : List (List ℕ))
             → HoldsObjectImages D.seen D.may_leave D.clock D.left_since D.fault_count opening self.old
             → HoldsObjectImages D.seen D.may_leave D.clock D.left_since D.fault_count opening self.new }
+        ensures lost { (opening : List (List ℕ)) (lost : List Lost)
+            → Holds D.seen D.may_leave D.clock D.left_since D.fault_count opening
+            (object_records self.old.seen.base self.old.seen.front) lost self.old.journal
+            → Holds D.seen D.may_leave D.clock D.left_since D.fault_count opening
+            (object_records self.new.seen.base self.new.seen.front)
+            (lost_after result (object_records self.old.seen.base self.old.seen.front)
+            (object_changes (object_state_at self.old.seen.base self.old.seen.front) action) lost) self.new.journal }
         ensures opening { self.new.journal.opening ≡ self.old.journal.opening }
         ensures kept { D.fault_count self.old.journal.disk ≤ D.fault_count self.new.journal.disk }
     {

@@ -1,7 +1,6 @@
 use Rattle.std.proofs.Common.{[], ◌∷◌, ◌++◌, inl, inr, refl, ap, ◌∙◌}
 use Rattle.pol_cli.specs.Reasons.{reason_of, report_of}
 use Rattle.pol_cli.specs.declared.reason.Reason.TheVariants.{NoMemory}
-use Rattle.pol_cli.proofs.ServingLemmas.{served-something}
 use Rattle.pol_cli.proofs.exec.exec.Goals as goal
 
 pub returns-in_default-clause-serves : goal.returns-in_default-clause-serves

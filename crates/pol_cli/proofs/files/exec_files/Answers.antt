@@ -18,7 +18,8 @@ returns-in-Ok g c =
     inr (serves-files d o c.args.catalogue c.close_both-catalogue.result.0 c.args.objects c.close_both-catalogue.result.1 before after report
     c.in-Ok.stores.catalogue stores.catalogue c.in-Ok.stores.objects stores.objects c.in-Ok.ensures.catalogue c.in-Ok.ensures.objects
     c.exec-report.ensures.serves c.exec-report.ensures.catalogue c.exec-report.ensures.objects c.close_both-catalogue.ensures.catalogue c.close_both-catalogue.ensures.objects
-    c.close_both-catalogue.ensures.passes c.close_both-catalogue.ensures.object_passes c.close_both-catalogue.ensures.marked c.close_both-catalogue.ensures.objects_marked) in
+    c.close_both-catalogue.ensures.passes c.close_both-catalogue.ensures.object_passes c.close_both-catalogue.ensures.marked c.close_both-catalogue.ensures.objects_marked
+    (λ none. ap (λ stores. stores.catalogue) (c.exec-report.ensures.unserved none)) (λ none. ap (λ stores. stores.objects) (c.exec-report.ensures.unserved none))) in
     record {
       runs = runs;
       untouched = c.exec-report.ensures.untouched;

@@ -1,7 +1,7 @@
 use Rattle.std.proofs.Common.{◌≡◌, length, refl, ap, arith}
 use Rattle.pol_journal.specs.Journal.{JournalState}
 use Rattle.pol_object_store.proofs.HistoryLemmas.{formed_push, goes_on, items_are, rises_still, size_push}
-use Rattle.pol_object_store.proofs.ImagesLemmas.{images_recorded, images_undone}
+use Rattle.pol_object_store.proofs.ImagesLemmas.{held_recorded, held_undone, images_recorded, images_undone}
 use Rattle.pol_object_store.proofs.kept.KeptObjects.act.Goals as goal
 
 pub invariant_of-self-in-Ok-perform : goal.invariant_of-self-in-Ok-perform
@@ -29,6 +29,14 @@ returns-in-Ok-perform-clause-images g c opening keeps =
     let i = c.self.inside in
     images_recorded d.seen d.may_leave d.clock d.left_since d.fault_count opening i.base.value i.state i.history c.push.new.self i.records c.perform.new.records c.self.invariant.0
     (rw (← c.self.view_is) at keeps) _ (items_are i.base.value i.state i.history i.history c.push.new.self c.args.number c.args.access c.args.action
+    c.self.invariant.0 refl c.push.ensures) c.in-Ok-perform.ensures.recorded c.in-Ok-perform.ensures.formed
+
+pub returns-in-Ok-perform-clause-lost : goal.returns-in-Ok-perform-clause-lost
+returns-in-Ok-perform-clause-lost g c opening lost held =
+    let d = g.D.Disk in
+    let i = c.self.inside in
+    held_recorded d.seen d.may_leave d.clock d.left_since d.fault_count opening i.base.value i.state i.history c.push.new.self lost i.records c.perform.new.records c.self.invariant.0
+    (rw (← c.self.view_is) at held) _ (items_are i.base.value i.state i.history i.history c.push.new.self c.args.number c.args.access c.args.action
     c.self.invariant.0 refl c.push.ensures) c.in-Ok-perform.ensures.recorded
 
 pub returns-in-Ok-perform-clause-formed : goal.returns-in-Ok-perform-clause-formed
@@ -51,3 +59,11 @@ returns-in-Err-clause-images g c opening keeps =
     let i = c.self.inside in
     images_undone d.seen d.may_leave d.clock d.left_since d.fault_count opening i.base.value i.state i.history i.history i.records c.perform.new.records c.self.invariant.0
     (rw (← c.self.view_is) at keeps) c.args.action c.in-Err.why refl c.in-Err.ensures.undone c.in-Err.ensures.formed
+
+pub returns-in-Err-clause-lost : goal.returns-in-Err-clause-lost
+returns-in-Err-clause-lost g c opening lost held =
+    let d = g.D.Disk in
+    let i = c.self.inside in
+    rw (← c.self.view_is, c.undone.ensures.told)
+    (held_undone d.seen d.may_leave d.clock d.left_since d.fault_count opening i.base.value i.state i.history i.history lost i.records c.perform.new.records c.self.invariant.0
+    (rw (← c.self.view_is) at held) c.args.action c.in-Err.why c.in-Err.ensures.undone)

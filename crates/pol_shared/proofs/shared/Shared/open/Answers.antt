@@ -1,4 +1,3 @@
-use Rattle.std.proofs.Common.{refl}
 use Rattle.pol_shared.proofs.OpenedLemmas.{opened-at}
 use Rattle.pol_shared.proofs.shared.Shared.open.Goals as goal
 

@@ -1,0 +1,4 @@
+use Rattle.pol_shared.proofs.shared.Shared.step.Goals as goal
+
+pub returns-clause-lost : goal.returns-clause-lost
+returns-clause-lost g c opening lost held = rw (← c.self.view_is) (c.step.ensures.lost opening lost (rw (← c.self.view_is) at held))
