@@ -1,4 +1,4 @@
-//! Locations of tables, as lists of segments, and sets of locations of which no two overlap.
+//! Locations, as lists of segments, sets of locations of which no two overlap, and a counter of steps.
 #![tactic(auto)]
 
 pub mod laws;

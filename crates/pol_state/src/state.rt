@@ -1,4 +1,4 @@
-ghost use Rattle.std.specs.Prelude.{◌≡◌, ◌≤◌, ◌+◌, [], ◌∷◌, count_by, IfOk, IsOk, OnOk};
+ghost use Rattle.std.specs.Prelude.{◌≡◌, ◌≤◌, ◌+◌, [], ◌∷◌, count_by, IfOk, IsOk, Ok, OnOk};
 ghost use Rattle.pol_content.specs.Change.{puts};
 ghost use Rattle.pol_content.specs.declared.change.RowKind.TheVariants as kind;
 ghost use Rattle.pol_state.specs.Applied.{applied, changed, HasRoom, KeepsRoom, TakesRoom};
@@ -10,7 +10,7 @@ use pol_access::{Access, AccessRoom, MemberRow, PrincipalRoleRow, PrincipalRow};
 use pol_content::{Change, Content, RowKind};
 use pol_tokens::Tokens;
 use pol_types::{OutOfMemory, Text};
-use std::alloc::Global;
+use std::alloc::{AllocError, Global};
 use std::marker::Model;
 
 /// How many rows of each kind a fresh state has.
@@ -214,6 +214,36 @@ impl State {
             Change::PutSession(row) => self.tokens.put_session(row.into_row()),
             Change::PutToken(row) => self.tokens.put_token(row.into_row()),
         }
+    }
+}
+
+impl Clone for State {
+    ghost is_clone = { λ source clone. clone.rows ≡ source.rows };
+
+    fn clone(&self) -> Result<Self, AllocError> {
+        let content = self.content.clone()?;
+        let (content, tokens) = beside(content, self.tokens.clone())?;
+        let ((content, tokens), access) = beside((content, tokens), self.access.clone())?;
+        Ok(State {
+            access,
+            content,
+            tokens,
+            time: self.time,
+            next_id: self.next_id,
+            next_serial: self.next_serial,
+            charged: self.charged,
+        })
+    }
+}
+
+/// What there is beside what was to be made, where that was.
+fn beside<A: Drop, B>(first: A, second: Result<B, AllocError>) -> Result<(A, B), AllocError>
+    ensures first { IfOk result (λ both. both.0 ≡ first) }
+    ensures second { IfOk result (λ both. second ≡ Ok both.1) }
+{
+    match second {
+        Ok(second) => Ok((first, second)),
+        Err(error) => Err(error),
     }
 }
 

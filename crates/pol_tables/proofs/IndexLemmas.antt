@@ -1,5 +1,5 @@
 -- An index once an id is noted or forgotten.
-use Rattle.std.proofs.Common.{◌≡◌, ℕ, Bool, true, false, not, ◌&&◌, ◌||◌, List, [], ◌∷◌, Option, Some, None, nat_eq, refl, sym, ap, subst, ◌∙◌, inl, inr, true≢false}
+use Rattle.std.proofs.Common.{◌≡◌, ℕ, Bool, true, false, not, cond, ◌&&◌, ◌||◌, List, [], ◌∷◌, Option, Some, None, nat_eq, refl, sym, ap, subst, ◌∙◌, inl, inr, true≢false}
 use Rattle.std.specs.Coded.{Coded}
 use Rattle.std.specs.List.{AllByRecursion}
 use Rattle.std.specs.Cmp.{nat_eq_equiv}
@@ -7,15 +7,14 @@ use Rattle.std.proofs.lemmas.Bool.{and_from, and_parts, cases_Bool, eq-eqb, eqb-
 use Rattle.pol_tables.specs.Facts.{holds, facts_with, facts_without}
 use Rattle.pol_tables.specs.Index.{entry_number, same_found, same_entry}
 use Rattle.pol_tables.specs.Same.{same}
-use Rattle.pol_tables.specs.Table.{has_id, knows, row_of, rows_with, rows_without, IdsDiffer}
+use Rattle.pol_tables.specs.Table.{has_id, row_of, IdsDiffer}
 use Rattle.pol_tables.specs.contracts.index.IndexEntry.{the_row}
 use Rattle.pol_tables.specs.declared.index.IndexEntry.{IndexEntry}
 use Rattle.pol_tables.proofs.ChangesLemmas.{holds-unknown}
-use Rattle.pol_tables.proofs.FactChangesLemmas.{holds-facts_with, holds-facts_without, holds-filter}
-use Rattle.pol_tables.proofs.FactsLemmas.{facts_with-new}
-use Rattle.pol_tables.proofs.ListLemmas.{and_false, or_swapped}
-use Rattle.pol_tables.proofs.SameLemmas.{same-refl, same-true, same-differ, same-exact}
-use Rattle.pol_tables.proofs.TableLemmas.{differ_head, differ_past, rows_with-new, some_is}
+use Rattle.pol_tables.proofs.FactChangesLemmas.{holds-facts_with, holds-facts_without}
+use Rattle.pol_tables.proofs.ListLemmas.{and_false, or_false, or_swapped}
+use Rattle.pol_tables.proofs.SameLemmas.{same-true, same-differ, same-exact, same-symmetric}
+use Rattle.pol_tables.proofs.TableLemmas.{differ_head, differ_past, knows-lacks, lacks_past}
 
 -- what holds of each fact of a list holds of one that the list has
 pub each_at : {T : Type 0} (code : Coded T) (P : T → Type 0) (fact : T) (facts : List T) → AllByRecursion P facts → holds code fact facts ≡ true → P fact
@@ -54,74 +53,93 @@ same_entry-is left right =
 pub same_entry-apart : (left right : IndexEntry) → (left.id ≡ right.id → ⊥) → same_entry left right ≡ false
 same_entry-apart left right differ = same-differ the_row.coded left right (λ is. differ (ap (λ noted. noted.id) is))
 
+-- ids of two numbers differ
+same_entry-numbers : (left right : IndexEntry) → nat_eq left.number right.number ≡ false → same_entry left right ≡ false
+same_entry-numbers left right apart =
+    same-differ the_row.coded left right (λ is. true≢false (sym (eq-eqb left.number right.number (ap entry_number is)) ∙ apart))
+
 abbrev held : IndexEntry → List IndexEntry → Bool
 held noted list = holds the_row.coded noted list
 
-module _ (noted : IndexEntry) (firsts others : List IndexEntry) where
-  pub noted-first : knows entry_number noted.number firsts ≡ false → (other : IndexEntry) → (held other (rows_with entry_number noted firsts) || held other others) ≡ (same_entry other noted || (held other firsts || held other others))
-  noted-first new other =
-      ap (λ list. held other list || held other others) (rows_with-new entry_number noted firsts new ∙ sym (facts_with-new the_row.coded noted firsts (holds-unknown the_row.coded entry_number noted firsts new)))
-      ∙ ap (λ b. b || held other others) (holds-facts_with the_row.coded other noted firsts)
+both_without : (s a b : Bool) → ((not s && a) || (not s && b)) ≡ (not s && (a || b))
+both_without true a b = refl
+both_without false a b = refl
+
+-- an id is held exactly where it is the first of its number
+held-first : (noted : IndexEntry) (firsts : List IndexEntry) → IdsDiffer entry_number firsts → held noted firsts ≡ same_found noted (row_of entry_number noted.number firsts)
+held-first noted [] differ = refl
+held-first noted (first ∷ firsts) differ = elim (cases_Bool (has_id entry_number noted.number first)) [
+  | inl here ↦
+      let none = holds-unknown the_row.coded entry_number noted firsts (knows-lacks entry_number noted.number firsts (lacks_past entry_number noted.number first firsts differ here)) in
+      rw here (ap (λ b. same_entry noted first || b) none ∙ or_false (same_entry noted first) ∙ same-symmetric the_row.coded noted first)
+  | inr apart ↦
+      rw apart (ap (λ b. b || held noted firsts) (same_entry-numbers noted first apart) ∙ held-first noted firsts (differ_past entry_number first firsts differ))
+]
+
+module _ (noted : IndexEntry) (firsts after others : List IndexEntry) (differ : IdsDiffer entry_number firsts) (differ_after : IdsDiffer entry_number after) where
+  -- what is the first of a number once that of the noted id's is another, or none
+  abbrev Puts : Option IndexEntry → Type 0
+  Puts put = (number : ℕ) → row_of entry_number number after ≡ cond (nat_eq noted.number number) put (row_of entry_number number firsts)
+
+  held-after : (put : Option IndexEntry) → Puts put → (other : IndexEntry) → held other after ≡ same_found other (cond (nat_eq noted.number other.number) put (row_of entry_number other.number firsts))
+  held-after put puts other = held-first other after differ_after ∙ ap (same_found other) (puts other.number)
+
+  -- where no first has the number, the noted id becomes it
+  first_put : row_of entry_number noted.number firsts ≡ None → Puts (Some noted) → (other : IndexEntry) → held other after ≡ (same_entry other noted || held other firsts)
+  first_put none puts other = held-after (Some noted) puts other ∙ elim (cases_Bool (nat_eq noted.number other.number)) [
+    | inl here ↦
+        let gone = held-first other firsts differ ∙ ap (λ number. same_found other (row_of entry_number number firsts)) (sym (eqb-true noted.number other.number here)) ∙ ap (same_found other) none in
+        rw here (same-symmetric the_row.coded noted other ∙ sym (ap (λ b. same_entry other noted || b) gone ∙ or_false (same_entry other noted)))
+    | inr apart ↦
+        rw apart (sym (held-first other firsts differ) ∙ sym (ap (λ b. b || held other firsts) (same-symmetric the_row.coded other noted ∙ same_entry-numbers noted other apart)))
+  ]
+
+  pub noted-first : row_of entry_number noted.number firsts ≡ None → Puts (Some noted) → (other : IndexEntry) → (held other after || held other others) ≡ (same_entry other noted || (held other firsts || held other others))
+  noted-first none puts other =
+      ap (λ b. b || held other others) (first_put none puts other)
       ∙ or_grouped (same_entry other noted) (held other firsts) (held other others)
     where
       or_grouped : (a b c : Bool) → ((a || b) || c) ≡ (a || (b || c))
       or_grouped true b c = refl
       or_grouped false b c = refl
 
+  -- the noted id is taken away as the first of its number
+  first_taken : same_found noted (row_of entry_number noted.number firsts) ≡ true → Puts None → (other : IndexEntry) → held other after ≡ (not (same_entry other noted) && held other firsts)
+  first_taken found puts other = held-after None puts other ∙ elim (cases_Bool (nat_eq noted.number other.number)) [
+    | inl here ↦ rw here (sym (elim (cases_Bool (same_entry other noted)) [
+      | inl is ↦ ap (λ b. not b && held other firsts) is
+      | inr differs ↦ elim (cases_Bool (held other firsts)) [
+        | inl there ↦
+            let first = held_row the_row.coded entry_number other firsts differ there in
+            let same_ : same_entry other noted ≡ true = sym (ap (same_found noted) first) ∙ ap (λ number. same_found noted (row_of entry_number number firsts)) (sym (eqb-true noted.number other.number here)) ∙ found in
+            absurd (true≢false (sym same_ ∙ differs))
+        | inr gone ↦ ap (λ b. not (same_entry other noted) && b) gone ∙ and_false (not (same_entry other noted))
+      ]
+    ]))
+    | inr apart ↦
+        rw apart (sym (held-first other firsts differ) ∙ sym (ap (λ b. not b && held other firsts) (same-symmetric the_row.coded other noted ∙ same_entry-numbers noted other apart)))
+  ]
+
+  pub forgotten-first : same_found noted (row_of entry_number noted.number firsts) ≡ true → Puts None → (other : IndexEntry) → (held other after || held other (facts_without the_row.coded noted others)) ≡ (not (same_entry other noted) && (held other firsts || held other others))
+  forgotten-first found puts other =
+      (λ i. first_taken found puts other i || holds-facts_without the_row.coded other noted others i)
+      ∙ both_without (same_entry other noted) (held other firsts) (held other others)
+
+module _ (noted : IndexEntry) (firsts others : List IndexEntry) where
   pub noted-other : (other : IndexEntry) → (held other firsts || held other (facts_with the_row.coded noted others)) ≡ (same_entry other noted || (held other firsts || held other others))
   noted-other other =
       ap (λ b. held other firsts || b) (holds-facts_with the_row.coded other noted others)
       ∙ or_swapped (held other firsts) (same_entry other noted) (held other others)
 
-  both_without : (s a b : Bool) → ((not s && a) || (not s && b)) ≡ (not s && (a || b))
-  both_without true a b = refl
-  both_without false a b = refl
-
-  module _ (differ : IdsDiffer entry_number firsts) where
-    -- the first of the number is taken away
-    first_gone : (first : IndexEntry) → row_of entry_number noted.number firsts ≡ Some first → same_entry first noted ≡ true → (other : IndexEntry) → held other (rows_without entry_number noted.number firsts) ≡ (not (same_entry other noted) && held other firsts)
-    unfolding rows_without
-    first_gone first found is other =
-        holds-filter the_row.coded other (λ kept. not (has_id entry_number noted.number kept)) firsts ∙ alike (held other firsts) refl
-      where
-        only : held other firsts ≡ true → has_id entry_number noted.number other ≡ same_entry other noted
-        only there = elim (cases_Bool (same_entry other noted)) [
-          | inl same_ ↦ eq-eqb noted.number other.number (sym (ap entry_number (same-true the_row.coded other noted same_))) ∙ sym same_
-          | inr apart ↦ elim (cases_Bool (has_id entry_number noted.number other)) [
-            | inl here ↦
-                let this : Some other ≡ Some first = sym (held_row the_row.coded entry_number other firsts differ there) ∙ ap (λ n. row_of entry_number n firsts) (sym (eqb-true noted.number other.number here)) ∙ found in
-                absurd (true≢false (sym (ap (λ row. same_entry row noted) (some_is other first this) ∙ is) ∙ apart))
-            | inr away ↦ away ∙ sym apart
-          ]
-        ]
-
-        alike : (b : Bool) → held other firsts ≡ b → (not (has_id entry_number noted.number other) && held other firsts) ≡ (not (same_entry other noted) && held other firsts)
-        alike true there = ap (λ b. not b && held other firsts) (only there)
-        alike false there = rw there (and_false (not (has_id entry_number noted.number other)) ∙ sym (and_false (not (same_entry other noted))))
-
-    -- no other first is forgotten
-    first_stays : same_found noted (row_of entry_number noted.number firsts) ≡ false → (other : IndexEntry) → held other firsts ≡ (not (same_entry other noted) && held other firsts)
-    first_stays unfound other = elim (cases_Bool (same_entry other noted)) [
-      | inl is ↦ rw is (elim (cases_Bool (held other firsts)) [
-        | inl there ↦
-            let itself = same-true the_row.coded other noted is in
-            let found = ap (λ row. row_of entry_number (entry_number row) firsts) (sym itself) ∙ held_row the_row.coded entry_number other firsts differ there ∙ ap Some itself in
-            absurd (true≢false (sym (same-refl the_row.coded noted) ∙ sym (ap (same_found noted) found) ∙ unfound))
-        | inr gone ↦ gone
-      ])
+  module _ (differ : IdsDiffer entry_number firsts) (unfound : same_found noted (row_of entry_number noted.number firsts) ≡ false) where
+    -- no first is forgotten
+    first_stays : (other : IndexEntry) → held other firsts ≡ (not (same_entry other noted) && held other firsts)
+    first_stays other = elim (cases_Bool (same_entry other noted)) [
+      | inl is ↦ rw is (ap (λ kept. held kept firsts) (same-true the_row.coded other noted is) ∙ held-first noted firsts differ ∙ unfound)
       | inr apart ↦ rw apart refl
     ]
 
-    pub forgotten-first : same_found noted (row_of entry_number noted.number firsts) ≡ true → (other : IndexEntry) → (held other (rows_without entry_number noted.number firsts) || held other (facts_without the_row.coded noted others)) ≡ (not (same_entry other noted) && (held other firsts || held other others))
-    forgotten-first found other = by (row_of entry_number noted.number firsts) refl found
-      where
-        by : (row : Option IndexEntry) → row_of entry_number noted.number firsts ≡ row → same_found noted row ≡ true → (held other (rows_without entry_number noted.number firsts) || held other (facts_without the_row.coded noted others)) ≡ (not (same_entry other noted) && (held other firsts || held other others))
-        by None is none = absurd (true≢false (sym none))
-        by (Some first) is same_ =
-            (λ i. first_gone first is same_ other i || holds-facts_without the_row.coded other noted others i)
-            ∙ both_without (same_entry other noted) (held other firsts) (held other others)
-
-    pub forgotten-other : same_found noted (row_of entry_number noted.number firsts) ≡ false → (other : IndexEntry) → (held other firsts || held other (facts_without the_row.coded noted others)) ≡ (not (same_entry other noted) && (held other firsts || held other others))
-    forgotten-other unfound other =
-        (λ i. first_stays unfound other i || holds-facts_without the_row.coded other noted others i)
+    pub forgotten-other : (other : IndexEntry) → (held other firsts || held other (facts_without the_row.coded noted others)) ≡ (not (same_entry other noted) && (held other firsts || held other others))
+    forgotten-other other =
+        (λ i. first_stays other i || holds-facts_without the_row.coded other noted others i)
         ∙ both_without (same_entry other noted) (held other firsts) (held other others)

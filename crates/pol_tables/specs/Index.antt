@@ -1,5 +1,6 @@
 -- Ids under the numbers of names: what contracts see of an index, and what it tells.
-use Rattle.std.specs.Prelude.{ℕ, Bool, false, ◌||◌, List, Option, Some, None}
+use Rattle.std.specs.Prelude.{◌≡◌, ℕ, nat_eq, Bool, false, ◌||◌, List, Option, Some, None}
+use Rattle.std.specs.Map.{lookup}
 use Rattle.pol_tables.specs.Facts.{holds}
 use Rattle.pol_tables.specs.Same.{same}
 use Rattle.pol_tables.specs.Table.{row_of}
@@ -14,6 +15,10 @@ pub record IndexValue : Type 0 where
 
 abbrev pub entry_number : IndexEntry → ℕ
 entry_number noted = noted.number
+
+-- what is found under a number has this number
+abbrev pub StandByNumber : List (ℕ × IndexEntry) → Type 0
+StandByNumber entries = (number : ℕ) (noted : IndexEntry) → lookup (nat_eq number) entries ≡ Some noted → number ≡ noted.number
 
 -- whether two ids under numbers are the same
 abbrev pub same_entry : IndexEntry → IndexEntry → Bool

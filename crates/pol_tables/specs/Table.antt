@@ -1,5 +1,5 @@
 -- Tables of rows by id: what contracts see of one, and the rows after each call.
-use Rattle.std.specs.Prelude.{ℕ, nat_eq, Bool, not, if◌then◌else◌, List, [], ◌∷◌, ◌++◌, map, filter, Option}
+use Rattle.std.specs.Prelude.{◌≡◌, ◌<◌, ℕ, nat_eq, Bool, true, false, not, if◌then◌else◌, List, [], ◌∷◌, ◌++◌, length, map, filter, Option, None, Some, HoldsAt}
 use Rattle.std.specs.List.{find, list_any, IsDistinct}
 
 -- the rows of a table in their order, and how many more of them need no memory
@@ -20,6 +20,11 @@ module _ {R : Type 0} (key : R → ℕ) where
   abbrev pub row_of : ℕ → List R → Option R
   row_of id rows = find (has_id id) rows
 
+  -- where the row of an id stands, if there is one
+  abbrev pub IsPlace : ℕ → List R → Option ℕ → Type 0
+  IsPlace id rows None = knows id rows ≡ false
+  IsPlace id rows (Some place) = (place < length rows) × HoldsAt (λ row. has_id id row ≡ true) rows place
+
   -- no two rows have one id
   abbrev pub IdsDiffer : List R → Type 0
   IdsDiffer rows = IsDistinct nat_eq (map key rows)
@@ -32,7 +37,3 @@ module _ {R : Type 0} (key : R → ℕ) where
   -- the rows without that of the id
   unfoldable pub rows_without : ℕ → List R → List R
   rows_without id rows = filter (λ row. not (has_id id row)) rows
-
-  -- the rows, each under its id
-  abbrev pub under_ids : List R → List (ℕ × R)
-  under_ids rows = map (λ row. (key row, row)) rows

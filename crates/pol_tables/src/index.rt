@@ -5,7 +5,8 @@ ghost use Rattle.pol_tables.specs.Index.{IndexValue, is_first, is_noted, entry_n
 ghost use Rattle.pol_tables.specs.Table.{row_of, IdsDiffer};
 ghost use Rattle.pol_tables.specs.declared.index.IndexEntry.{IndexEntry};
 
-use crate::{Fact, Facts, Keyed, Table};
+use crate::{Fact, Facts};
+use indexmap::IndexMap;
 use pol_types::{Exact, OutOfMemory};
 use std::alloc::{AllocError, Global};
 use std::marker::Model;
@@ -23,14 +24,6 @@ impl Exact for IndexEntry {
     ghost compares_exactly = { Prim.grind exactness };
 }
 
-impl Keyed for IndexEntry {
-    ghost key = { λ noted. noted.number };
-
-    fn key(&self) -> u64 {
-        self.number
-    }
-}
-
 impl Fact for IndexEntry {
     ghost use Rattle.pol_tables.specs.contracts.index.IndexEntry.{the_row};
 
@@ -38,25 +31,29 @@ impl Fact for IndexEntry {
 }
 
 /// Which ids may stand under the number of a name. Names with one number are told apart by whoever looks one up.
-/// The first id of each number is found by it, and the others, of which numbers of hashed names leave few, are
-/// listed. Contracts see both, and the room: how many more ids can be noted without taking memory.
+/// The first id of each number is found by it, and the order of these means nothing. The others, of which numbers of
+/// hashed names leave few, are listed. Contracts see both, and the room: how many more ids can be noted without taking
+/// memory.
 #[derive(Debug, Drop)]
 pub struct Index {
-    firsts: Table<IndexEntry>,
+    firsts: IndexMap<u64, IndexEntry>,
     others: Facts<IndexEntry>,
 }
 
 impl Model for Index {
-    ghost use Rattle.std.specs.Prelude.{min};
-    ghost use Rattle.pol_tables.specs.Index.{IndexValue};
+    ghost use Rattle.std.specs.Prelude.{min, nat_eq};
+    ghost use Rattle.indexmap.specs.IndexMap.{values, spare, IsUnique};
+    ghost use Rattle.pol_tables.specs.Index.{IndexValue, StandByNumber};
 
     ghost Value = { IndexValue };
 
     ghost view = { λ index. record {
-      firsts = index.firsts.rows;
+      firsts = values index.firsts;
       others = index.others.facts;
-      room = min index.firsts.room index.others.room;
+      room = min (spare index.firsts) index.others.room;
     } };
+
+    ghost invariant = { λ index. StandByNumber index.firsts.entries × IsUnique nat_eq index.firsts };
 }
 
 impl Index {
@@ -66,7 +63,7 @@ impl Index {
         ensures others { result.others ≡ [] }
     {
         Index {
-            firsts: Table::new(alloc),
+            firsts: IndexMap::new(alloc),
             others: Facts::new(alloc),
         }
     }
@@ -76,8 +73,7 @@ impl Index {
         ensures value { option_copied result ≡ row_of entry_number number self.now.firsts }
         ensures differ { IdsDiffer entry_number self.now.firsts }
     {
-        let _firsts = self.firsts.rows();
-        self.firsts.find(number)
+        self.firsts.get(&number)
     }
 
     /// The ids that are noted beside a first one, under any number.
@@ -107,10 +103,10 @@ impl Index {
             ≡ (same_entry other noted || is_noted other self.old) }
         ensures room { self.old.room ≤ self.new.room + 1 }
     {
-        if self.firsts.find(noted.number).is_none() {
-            self.firsts.put(noted);
-        } else {
+        if self.firsts.contains_key(&noted.number) {
             self.others.put(noted);
+        } else {
+            self.firsts.insert(noted.number, noted).unwrap();
         }
     }
 
@@ -122,7 +118,7 @@ impl Index {
     {
         self.others.take(noted);
         if self.has_first(noted) {
-            self.firsts.take(noted.number);
+            self.firsts.swap_remove(&noted.number);
         }
     }
 

@@ -1,33 +1,38 @@
 ghost use Rattle.std.specs.Prelude.{◌≡◌, ◌↔◌, ◌<◌, ◌≤◌, ◌+◌, [], length, true, false, IsTrue, IsOk, OnOk, option_copied};
 ghost use Rattle.std.specs.Cmp.Lexicographic.{pointwise, lists_per};
 ghost use Rattle.std.specs.Slice.Iter.{iter_rest};
-ghost use Rattle.pol_tables.specs.Table.{knows, row_of, rows_with, rows_without, IdsDiffer};
+ghost use Rattle.pol_tables.specs.Rising.{KeysBelow, KeysRise};
+ghost use Rattle.pol_tables.specs.Table.{knows, row_of, rows_with, rows_without, IdsDiffer, IsPlace};
 
 use crate::Keyed;
-use indexmap::IndexMap;
 use pol_types::OutOfMemory;
 use std::alloc::{AllocError, Global};
 use std::marker::Model;
 use std::slice;
 
-/// Rows in the order in which their ids came, each found by its id. Contracts see the rows, and the room: how many
-/// more rows can be put without taking memory.
+/// Rows in the order in which their ids came, each found by its id: by halves as long as ids rise, as those do that a
+/// counter gives out, and else by a scan. To take a row away moves those behind it, and looks at none of them. Contracts
+/// see the rows, and the room: how many more rows can be put without taking memory.
 #[derive(Debug, Drop)]
 pub struct Table<R: Keyed> {
-    by_id: IndexMap<u64, R>,
+    rows: Vec<R>,
+    rise: bool,
 }
 
 impl<R: Keyed> Model for Table<R> {
-    ghost use Rattle.std.specs.Prelude.{◌≡◌, nat_eq};
-    ghost use Rattle.pol_tables.specs.Table.{TableValue, under_ids};
-    ghost use Rattle.indexmap.specs.IndexMap.{values, spare, IsUnique};
+    ghost use Rattle.std.specs.Prelude.{◌≡◌, ◌-◌, true, vec_capacity, vec_len};
+    ghost use Rattle.pol_tables.specs.Rising.{KeysRise};
+    ghost use Rattle.pol_tables.specs.Table.{IdsDiffer, TableValue};
 
     ghost Value = { TableValue R };
 
-    ghost view = { λ table. record { rows = values table.by_id; room = spare table.by_id } };
+    ghost view = { λ table. record {
+      rows = table.rows.items;
+      room = vec_capacity table.rows - vec_len table.rows;
+    } };
 
     ghost invariant = { λ table.
-        (table.by_id.entries ≡ under_ids R.key (values table.by_id)) × IsUnique nat_eq table.by_id };
+        IdsDiffer R.key table.rows.items × (table.rise ≡ true → KeysRise R.key table.rows.items) };
 }
 
 impl<R: Keyed> Table<R> {
@@ -35,20 +40,21 @@ impl<R: Keyed> Table<R> {
         ensures { result.rows ≡ [] }
     {
         Table {
-            by_id: IndexMap::new(alloc),
+            rows: Vec::new(alloc),
+            rise: true,
         }
     }
 
     pub fn len(&self) -> usize
         ensures { result ≡ length self.now.rows }
     {
-        self.by_id.len()
+        self.rows.len()
     }
 
     pub fn is_empty(&self) -> bool
         ensures { IsTrue result ↔ (self.now.rows ≡ []) }
     {
-        self.by_id.is_empty()
+        self.rows.is_empty()
     }
 
     /// The rows, in their order.
@@ -56,14 +62,18 @@ impl<R: Keyed> Table<R> {
         ensures rows { iter_rest result ≡ self.now.rows }
         ensures differ { IdsDiffer R.key self.now.rows }
     {
-        self.by_id.values().as_slice().iter()
+        self.rows.as_slice().iter()
     }
 
     /// The row of this id.
     pub fn find(&self, id: u64) -> Option<&R>
         ensures { option_copied result ≡ row_of R.key id self.now.rows }
     {
-        self.by_id.get(&id)
+        let rows = self.rows.as_slice();
+        match place_of(rows, self.rise, id) {
+            Some(place) => Some(&rows[place]),
+            None => None,
+        }
     }
 
     /// Makes room for `more` rows, so that putting as many takes no memory. On an error the rows stay, and the room
@@ -74,7 +84,7 @@ impl<R: Keyed> Table<R> {
         ensures succeeds { more ≤ self.old.room → IsOk result }
         ensures room { self.old.room ≤ self.new.room }
     {
-        Ok(self.by_id.reserve(more)?)
+        Ok(self.rows.reserve(more)?)
     }
 
     /// Puts a row, and takes no memory: a new id goes last, and a known id's row is replaced in its place.
@@ -85,11 +95,12 @@ impl<R: Keyed> Table<R> {
         ensures known { knows R.key (R.key row) self.old.rows ≡ true → self.old.room ≤ self.new.room }
     {
         let id = row.key();
-        if let Some(place) = self.by_id.get_mut(&id) {
-            *place = row;
+        if let Some(place) = place_of(self.rows.as_slice(), self.rise, id) {
+            self.rows[place] = row;
             return;
         }
-        self.by_id.insert(id, row).unwrap();
+        self.rise = rise_with(self.rows.as_slice(), self.rise, id);
+        self.rows.push(row).unwrap();
     }
 
     /// Takes the row of this id away. The others keep their order.
@@ -98,7 +109,30 @@ impl<R: Keyed> Table<R> {
         ensures rows { self.new.rows ≡ rows_without R.key id self.old.rows }
         ensures room { self.old.room ≤ self.new.room }
     {
-        self.by_id.shift_remove(&id)
+        let place = place_of(self.rows.as_slice(), self.rise, id)?;
+        Some(self.rows.remove(place))
+    }
+}
+
+/// Where the row of this id stands.
+fn place_of<R: Keyed>(rows: &[R], rise: bool, id: u64) -> Option<usize>
+    requires { rise ≡ true → KeysRise R.key rows.now }
+    ensures { IsPlace R.key id rows.now result }
+{
+    if rise {
+        return rows.binary_search_by_key(&id, |row| row.key()).ok();
+    }
+    rows.iter().position(|row| id == row.key())
+}
+
+/// Whether ids still rise once this one is put last.
+fn rise_with<R: Keyed>(rows: &[R], rise: bool, id: u64) -> bool
+    requires { rise ≡ true → KeysRise R.key rows.now }
+    ensures { result ≡ true → KeysRise R.key rows.now × KeysBelow R.key id rows.now }
+{
+    match rows.last() {
+        Some(last) => rise && last.key() < id,
+        None => true,
     }
 }
 
@@ -106,8 +140,11 @@ impl<R: Keyed> Clone for Table<R> {
     ghost is_clone = { λ source clone. clone.rows ≡ source.rows };
 
     fn clone(&self) -> Result<Self, AllocError> {
-        let by_id = self.by_id.clone()?;
-        Ok(Table { by_id })
+        let rows = self.rows.clone()?;
+        Ok(Table {
+            rows,
+            rise: self.rise,
+        })
     }
 }
 

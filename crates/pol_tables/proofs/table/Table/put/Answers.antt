@@ -1,44 +1,41 @@
-use Rattle.std.proofs.Common.{ap, sym, ◌∙◌, arith, nat_eq, true≢false}
-use Rattle.indexmap.specs.IndexMap.{insert_entry, values}
-use Rattle.indexmap.proofs.CallerLemmas.{insert_entry-new}
-use Rattle.pol_tables.specs.Table.{rows_with}
-use Rattle.pol_tables.proofs.TableLemmas.{Holds, Holds-set, Holds-push, known, unknown}
+use Rattle.std.proofs.Common.{◌≡◌, false, Some, sym, ◌∙◌, true≢false}
+use Rattle.pol_tables.specs.Table.{knows, rows_with, IsPlace}
+use Rattle.pol_tables.proofs.PlaceLemmas.{IdsDiffer-rows_with, known-at, set-at}
+use Rattle.pol_tables.proofs.RisingLemmas.{KeysRise-rows_with}
+use Rattle.pol_tables.proofs.TableLemmas.{rows_with-new}
 use Rattle.pol_tables.proofs.table.Table.put.Given as given
 use Rattle.pol_tables.proofs.table.Table.put.Goals as goal
 
--- a known id's row is written in its place
-written : (g : given.Over) (c : goal.After-drop-place g) → Holds g.R.Keyed.key (c.get_mut.follows.lender c.args.row).entries (rows_with g.R.Keyed.key c.args.row (values c.self.inside.by_id))
-written g c =
-    let found = known g.R.Keyed.key c.key-id.result _ c.self.invariant.0 _ c.in-Some.ensures.value in
-    Holds-set g.R.Keyed.key _ _ c.self.invariant.0 c.self.invariant.1 c.key-id.result c.args.row c.key-id.ensures found (c.get_mut.follows.holds c.args.row).0
+-- the place of the row's own id, and the rows once it is set there
+placed : (g : given.Over) (c : goal.After-drop-index_mut g) → IsPlace g.R.Keyed.key (g.R.Keyed.key c.args.row) c.self.inside.rows.items (Some c.in-Some.place)
+placed g c = rw (← c.key-id.ensures, ← c.as_slice.ensures.value) c.in-Some.ensures
 
 pub invariant_of-self : goal.invariant_of-self
-invariant_of-self g c = ((written g c).stands, (c.get_mut.follows.holds c.args.row).4)
+invariant_of-self g c =
+    let rows = c.self.inside.rows.items in
+    let set = set-at g.R.Keyed.key c.args.row rows c.in-Some.place c.self.invariant.0 (placed g c) in
+    let known = known-at g.R.Keyed.key _ rows c.in-Some.place (placed g c) in
+    rw set (IdsDiffer-rows_with g.R.Keyed.key c.args.row rows c.self.invariant.0, λ rise. KeysRise-rows_with g.R.Keyed.key c.args.row rows (c.self.invariant.1 rise) (λ new. absurd (true≢false (sym known ∙ new))))
 
 pub returns-in-Some-clause-rows : goal.returns-in-Some-clause-rows
-returns-in-Some-clause-rows g c = rw (← c.self.view_is) (written g c).values
-
-pub unwrap-requires : goal.unwrap-requires
-unwrap-requires g c =
-    let new = unknown g.R.Keyed.key c.key-id.result _ c.self.invariant.0 c.in_default.ensures.value in
-    let room = c.requires (rw (← c.self.view_is, ← c.key-id.ensures) new) in
-    c.insert.ensures.succeeds (rw (c.get_mut.follows.holds-at-none) (omega (arith, room, ap (λ t. t.room) c.self.view_is)))
+returns-in-Some-clause-rows g c =
+    rw (← c.self.view_is) (set-at g.R.Keyed.key c.args.row c.self.inside.rows.items c.in-Some.place c.self.invariant.0 (placed g c))
 
 -- a new id's row is pushed
-pushed : (g : given.Over) (c : goal.Joined-unwrap g) → Holds g.R.Keyed.key c.insert.new.self.entries (rows_with g.R.Keyed.key c.args.row (values c.self.inside.by_id))
+new_id : (g : given.Over) (c : goal.After-unwrap g) → knows g.R.Keyed.key (g.R.Keyed.key c.args.row) c.self.inside.rows.items ≡ false
+new_id g c = rw (← c.key-id.ensures, ← c.as_slice.ensures.value) c.in_default.ensures
+
+pushed : (g : given.Over) (c : goal.After-unwrap g) → c.push.new.self.items ≡ rows_with g.R.Keyed.key c.args.row c.self.inside.rows.items
 pushed g c =
-    let new = unknown g.R.Keyed.key c.key-id.result _ c.self.invariant.0 c.in_default.ensures.value in
-    let inserted = rw c.unwrap.ensures at c.insert.ensures.entries in
-    let entries = inserted ∙ ap (λ m. insert_entry nat_eq m.entries c.key-id.result c.args.row) c.get_mut.follows.holds-at-none ∙ insert_entry-new nat_eq c.self.inside.by_id c.key-id.result c.args.row (sym c.in_default.ensures.value) in
-    Holds-push g.R.Keyed.key _ _ c.self.invariant.0 c.self.invariant.1 c.key-id.result c.args.row c.key-id.ensures new entries
+    (rw c.unwrap.ensures at c.push.ensures.items) ∙ sym (rows_with-new g.R.Keyed.key c.args.row c.self.inside.rows.items (new_id g c))
 
 pub invariant_of-self-2 : goal.invariant_of-self-2
-invariant_of-self-2 g c = ((pushed g c).stands, c.insert.ensures.unique)
+invariant_of-self-2 g c = rw (pushed g c) (
+  IdsDiffer-rows_with g.R.Keyed.key c.args.row c.self.inside.rows.items c.self.invariant.0,
+  λ rise.
+      let last = rw (c.key-id.ensures, c.as_slice-2.ensures.value) at c.rise_with-self-inside.ensures rise in
+      KeysRise-rows_with g.R.Keyed.key c.args.row c.self.inside.rows.items last.0 (λ new. last.1),
+)
 
 pub returns-clause-rows : goal.returns-clause-rows
-returns-clause-rows g c = rw (← c.self.view_is) (pushed g c).values
-
-pub returns-clause-known : goal.returns-clause-known
-returns-clause-known g c there =
-    let new = unknown g.R.Keyed.key c.key-id.result _ c.self.invariant.0 c.in_default.ensures.value in
-    absurd (true≢false (sym there ∙ rw (← c.self.view_is, ← c.key-id.ensures) new))
+returns-clause-rows g c = rw (← c.self.view_is) (pushed g c)

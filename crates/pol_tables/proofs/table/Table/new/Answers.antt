@@ -1,0 +1,7 @@
+use Rattle.std.specs.List.{IsDistinct}
+use Rattle.pol_tables.specs.Rising.{KeysRise}
+use Rattle.pol_tables.proofs.table.Table.new.Goals as goal
+
+pub invariant_of-result : goal.invariant_of-result
+unfolding KeysRise IsDistinct
+invariant_of-result g c = rw c.new.ensures.items (tt, λ rise. tt)
