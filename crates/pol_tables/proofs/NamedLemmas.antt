@@ -2,17 +2,17 @@
 use Rattle.std.proofs.Common.{◌≡◌, ◌≢◌, ℕ, Bool, true, false, not, ◌||◌, cond, List, [], ◌∷◌, filter, Option, Some, None, refl, sym, ap, subst, ◌∙◌, inl, inr, true≢false}
 use Rattle.std.specs.Cmp.{nat_eq_equiv}
 use Rattle.std.specs.List.{find, AllByRecursion}
-use Rattle.std.proofs.lemmas.Bool.{cases_Bool, eq-eqb, eqb-true}
+use Rattle.std.proofs.lemmas.Bool.{cases_Bool, eq-eqb}
 use Rattle.pol_tables.specs.Facts.{holds}
 use Rattle.pol_tables.specs.Index.{IndexValue, is_noted, entry_number, same_entry}
 use Rattle.pol_tables.specs.Named.{entry_of, AreNoted, FindsOr, IsMissed, IsMissedFirst, named_row, passing}
 use Rattle.pol_tables.specs.Table.{has_id, knows, row_of, rows_with, rows_without, IdsDiffer}
 use Rattle.pol_tables.specs.contracts.index.IndexEntry.{the_row}
 use Rattle.pol_tables.specs.declared.index.IndexEntry.{IndexEntry}
-use Rattle.pol_tables.proofs.IndexLemmas.{each_at, held_row, same_entry-apart}
-use Rattle.pol_tables.proofs.ListLemmas.{each-join, each-map, each-push, each-weaken}
+use Rattle.pol_tables.proofs.IndexLemmas.{each_at, held_row}
+use Rattle.pol_tables.proofs.ListLemmas.{each-join, each-map, each-push, each-weaken, or_true}
 use Rattle.pol_tables.proofs.SameLemmas.{same-refl}
-use Rattle.pol_tables.proofs.TableLemmas.{differ_head, differ_past, key-row_of, lacks-unknown, rows_with-known, rows_with-new, some_is}
+use Rattle.pol_tables.proofs.TableLemmas.{differ_head, differ_past, key-row_of, lacks-unknown, rows_with-known, rows_with-new}
 
 -- where each item fails a test, none is found
 pub find-none : {X : Type 0} (test : X → Bool) (xs : List X) → AllByRecursion (λ x. test x ≡ false) xs → find test xs ≡ None
@@ -54,17 +54,6 @@ pub FindsOr-weaken : {R : Type 0} (key : R → ℕ) (test : R → Bool) (P Q : T
 FindsOr-weaken key test P Q rows None so holds = so holds
 FindsOr-weaken key test P Q rows (Some row) so holds = holds
 
--- an entry that is forgotten is noted again, while those of other ids stay
-module _ (noted : IndexEntry) (index forgotten later : IndexValue) where
-  pub noted_apart : ((other : IndexEntry) → other.id ≢ noted.id → is_noted other forgotten ≡ is_noted other index)
-      → ((other : IndexEntry) → is_noted other later ≡ (same_entry other noted || is_noted other forgotten))
-      → (other : IndexEntry) → other.id ≢ noted.id → is_noted other later ≡ is_noted other index
-  noted_apart forgets notes other differs =
-      notes other ∙ ap (λ b. b || is_noted other forgotten) (same_entry-apart other noted differs) ∙ forgets other differs
-
-pub noted_itself : (noted : IndexEntry) (forgotten later : IndexValue) → ((other : IndexEntry) → is_noted other later ≡ (same_entry other noted || is_noted other forgotten)) → is_noted noted later ≡ true
-noted_itself noted forgotten later notes = notes noted ∙ ap (λ b. b || is_noted noted forgotten) (same-refl the_row.coded noted)
-
 module _ {R : Type 0} (key number : R → ℕ) where
   apart_ids : (id : ℕ) (row : R) → has_id key id row ≡ false → (entry_of key number row).id ≢ id
   apart_ids id row apart is = true≢false (sym (eq-eqb id (key row) (sym is)) ∙ apart)
@@ -79,38 +68,16 @@ module _ {R : Type 0} (key number : R → ℕ) where
   AreNoted-alike index later rows alike noted =
       each-weaken (λ row. is_noted (entry_of key number row) index ≡ true) (λ row. is_noted (entry_of key number row) later ≡ true) rows (λ row there. alike (entry_of key number row) ∙ there) noted
 
-  -- a row is put once its own name is noted, while those of other ids stay
-  pub AreNoted-again : (row : R) (rows : List R) (index later : IndexValue) → AreNoted key number index rows
-      → ((noted : IndexEntry) → noted.id ≢ key row → is_noted noted later ≡ is_noted noted index)
-      → is_noted (entry_of key number row) later ≡ true
-      → AreNoted key number later (rows_with key row rows)
-  unfolding AreNoted
-  AreNoted-again row rows index later noted keeps own =
-      each-rows_with key (λ kept. is_noted (entry_of key number kept) index ≡ true) (λ kept. is_noted (entry_of key number kept) later ≡ true) row rows noted
-      (λ kept there apart. keeps (entry_of key number kept) (apart_ids (key row) kept apart) ∙ there)
-      own
-
-  -- so once the name of its id is forgotten and its own is noted
+  -- a row is put once the name of its id is forgotten and its own is noted
   pub AreNoted-put : (row : R) (rows : List R) (index forgotten later : IndexValue) → AreNoted key number index rows
       → ((noted : IndexEntry) → noted.id ≢ key row → is_noted noted forgotten ≡ is_noted noted index)
       → ((other : IndexEntry) → is_noted other later ≡ (same_entry other (entry_of key number row) || is_noted other forgotten))
       → AreNoted key number later (rows_with key row rows)
-  AreNoted-put row rows index forgotten later noted forgets notes =
-      AreNoted-again row rows index later noted
-      (noted_apart (entry_of key number row) index forgotten later forgets notes)
-      (noted_itself (entry_of key number row) forgotten later notes)
-
-  -- the row of an id is noted under its number
-  pub AreNoted-found : (id : ℕ) (row : R) (rows : List R) (index : IndexValue) → row_of key id rows ≡ Some row → AreNoted key number index rows → is_noted (record { number = number row; id = id }) index ≡ true
   unfolding AreNoted
-  AreNoted-found id row [] index found noted = cc
-  AreNoted-found id row (first ∷ rows) index found noted = elim (cases_Bool (has_id key id first)) [
-    | inl here ↦
-        let is : first ≡ row = some_is first row (sym (ap (λ b. cond b (Some first) (row_of key id rows)) here) ∙ found) in
-        let itself : id ≡ key first = eqb-true id (key first) here in
-        (λ i. is_noted (record { number = number (sym is i); id = itself i }) index) ∙ noted.0
-    | inr apart ↦ AreNoted-found id row rows index (sym (ap (λ b. cond b (Some first) (row_of key id rows)) apart) ∙ found) noted.1
-  ]
+  AreNoted-put row rows index forgotten later noted forgets notes =
+      each-rows_with key (λ kept. is_noted (entry_of key number kept) index ≡ true) (λ kept. is_noted (entry_of key number kept) later ≡ true) row rows noted
+      (λ kept there apart. notes (entry_of key number kept) ∙ ap (λ b. same_entry (entry_of key number kept) (entry_of key number row) || b) (forgets (entry_of key number kept) (apart_ids (key row) kept apart) ∙ there) ∙ or_true (same_entry (entry_of key number kept) (entry_of key number row)))
+      (notes (entry_of key number row) ∙ ap (λ b. b || is_noted (entry_of key number row) forgotten) (same-refl the_row.coded (entry_of key number row)))
 
   -- a row is taken away once the name of its id is forgotten
   pub AreNoted-take : (id : ℕ) (rows : List R) (index forgotten : IndexValue) → AreNoted key number index rows

@@ -1,8 +1,8 @@
-ghost use Rattle.std.specs.Prelude.{◌≡◌, ◌↔◌, ◌<◌, ◌≤◌, ◌+◌, ◌≢◌, [], length, None, IsTrue, true, IsOk, OnOk, option_copied};
+ghost use Rattle.std.specs.Prelude.{◌≡◌, ◌↔◌, ◌<◌, ◌≤◌, ◌+◌, ◌≢◌, [], length, None, IsTrue, IsOk, OnOk, option_copied};
 ghost use Rattle.std.specs.Slice.Iter.{iter_rest};
 ghost use Rattle.std.specs.List.{AllByRecursion};
-ghost use Rattle.pol_tables.specs.Index.{IndexValue, is_noted, entry_number};
-ghost use Rattle.pol_tables.specs.Named.{AreNoted, Finds, FindsOr, IsMissed, IsMissedFirst, named_row};
+ghost use Rattle.pol_tables.specs.Index.{is_noted, entry_number};
+ghost use Rattle.pol_tables.specs.Named.{Finds, FindsOr, IsMissed, IsMissedFirst, named_row};
 ghost use Rattle.pol_tables.specs.Table.{row_of, rows_with, rows_without, IdsDiffer};
 ghost use Rattle.pol_tables.specs.declared.index.IndexEntry.{IndexEntry};
 
@@ -93,16 +93,18 @@ impl<R: Named> NamedTable<R> {
         self.index.reserve(more)
     }
 
-    /// Puts a row, and takes no memory: a new id goes last, and a known id's row is replaced in its place. Where that
-    /// row stays under its name, no other row is looked at.
+    /// Puts a row, and takes no memory: a new id goes last, and a known id's row is replaced in its place.
     pub fn put(&mut self, row: R)
         requires { 0 < self.old.room }
         ensures rows { self.new.rows ≡ rows_with R.key row self.old.rows }
         ensures room { self.old.room ≤ self.new.room + 1 }
     {
         let id = row.key();
-        let number = row.number();
-        note_again(&self.table, &mut self.index, IndexEntry { number, id });
+        forget(&self.table, &mut self.index, id);
+        self.index.note(IndexEntry {
+            number: row.number(),
+            id,
+        });
         self.table.put(row);
     }
 
@@ -172,32 +174,6 @@ fn named_by<'a, R: Named, N: NameOf<R>>(table: &'a Table<R>, name: &N, id: u64) 
         return Some(row);
     }
     None
-}
-
-/// Notes the name of a row in place of the one that its id is noted under. Where that is the same, nothing changes.
-fn note_again<R: Named>(table: &Table<R>, index: &mut Index, noted: IndexEntry)
-    requires noted { AreNoted R.key R.number index.old table.now.rows }
-    requires room { 0 < index.old.room }
-    ensures others { (other : IndexEntry) → other.id ≢ noted.id → is_noted other index.new ≡ is_noted other index.old }
-    ensures own { is_noted noted index.new ≡ true }
-    ensures room { index.old.room ≤ index.new.room + 1 }
-{
-    if is_under(table, &noted) {
-        return;
-    }
-    forget(table, index, noted.id);
-    index.note(noted);
-}
-
-/// Whether the row of the entry's id has a name of the entry's number.
-fn is_under<R: Named>(table: &Table<R>, noted: &IndexEntry) -> bool
-    ensures { IsTrue result → (index : IndexValue) → AreNoted R.key R.number index table.now.rows
-        → is_noted noted.now index ≡ true }
-{
-    match table.find(noted.id) {
-        Some(row) => row.number() == noted.number,
-        None => false,
-    }
 }
 
 /// Forgets the name of the row of this id.
