@@ -55,7 +55,7 @@ impl ObjectMap {
         ensures added { OnOk result (self.new ≡ with_object (object_with path.now bytes) self.old) }
         ensures error { OnErr result (self.new ≡ self.old) }
     {
-        let text = text_of(alloc, path)?;
+        let text = exact_text_of(alloc, path)?;
         self.by_text.insert(text, bytes)?;
         Ok(())
     }
@@ -118,15 +118,23 @@ impl ObjectMap {
     }
 }
 
-/// The text of a path, in no more memory than it needs.
+/// The text of a path.
 fn text_of(alloc: Global, path: &Location) -> Result<Text, OutOfMemory>
     ensures text { IfOk result (λ text. text ≡ location_text path.now) }
     ensures located { IsLocation path.now }
 {
     path.segments();
-    let mut text = path.text(alloc)?;
-    text.shrink_to_fit();
-    Ok(Text::from(text))
+    Ok(Text::from(path.text(alloc)?))
+}
+
+/// The text of a path, in a block of memory of its length. A block that is shrunk would leave a hole that nothing
+/// fills.
+fn exact_text_of(alloc: Global, path: &Location) -> Result<Text, OutOfMemory>
+    ensures text { IfOk result (λ text. text ≡ location_text path.now) }
+    ensures located { IsLocation path.now }
+{
+    let text = text_of(alloc, path)?;
+    Ok(text.clone()?)
 }
 
 /// The sum of the lengths of the objects.
