@@ -1,11 +1,11 @@
--- A sound state without a row that nothing else names is sound.
-use Rattle.std.proofs.Common.{◌≡◌, ◌≢◌, ℕ, ◌≤◌, Bool, true, false, not, cond, ◌&&◌, nat_le, codes, List, [], ◌∷◌, filter, length, Option, None, Some, option_map, refl, sym, ap, subst, ◌∙◌, arith, true≢false}
+-- A sound state without a row, and without what names it, is sound.
+use Rattle.std.proofs.Common.{◌≡◌, ◌≢◌, ℕ, Bool, true, false, not, ◌&&◌, nat_le, codes, List, length, Option, None, Some, option_map, refl, sym, ap, subst, ◌∙◌, true≢false}
 use Rattle.std.specs.Prelude.{Decides}
-use Rattle.std.specs.List.{list_all, AllByRecursion}
+use Rattle.std.specs.List.{fold, list_all, AllByRecursion}
 use Rattle.std.specs.Str.{bytes_eq}
-use Rattle.std.proofs.lemmas.Bool.{and_from, and_parts, le-leb, leb-true}
-use Rattle.pol_access.specs.Access.{AccessRows, catalog_role_dropped, catalog_role_id, catalog_role_name, grants_on_dropped, principal_dropped, principal_id, principal_name, principal_role_dropped, principal_role_id, principal_role_name, unnamed}
-use Rattle.pol_access.specs.Referent.{grant_names, join_names, member_names}
+use Rattle.std.proofs.lemmas.Bool.{and_from, and_parts}
+use Rattle.pol_access.specs.Access.{AccessRows, catalog_role_dropped, catalog_role_id, catalog_role_name, grants_on_dropped, principal_dropped, principal_id, principal_name, principal_role_dropped, principal_role_id, principal_role_name}
+use Rattle.pol_access.specs.declared.referent.Referent.{Referent}
 use Rattle.pol_access.specs.declared.referent.Referent.TheVariants as referent
 use Rattle.pol_access.specs.declared.rows.CatalogRoleRow.{CatalogRoleRow}
 use Rattle.pol_access.specs.declared.rows.PrincipalRoleRow.{PrincipalRoleRow}
@@ -15,7 +15,8 @@ use Rattle.pol_access.specs.declared.securable.Securable.TheVariants as securabl
 use Rattle.pol_access.proofs.KeptLemmas.{not-true}
 use Rattle.pol_access.proofs.SoundLemmas as access
 use Rattle.pol_commands.specs.declared.reply.Quantity.TheVariants as quantity
-use Rattle.pol_content.specs.Content.{ContentRows, is_empty, namespace_id}
+use Rattle.pol_content.specs.Content.{is_empty, namespace_id}
+use Rattle.pol_content.specs.declared.change.Change.{Change}
 use Rattle.pol_content.specs.declared.change.Change.TheVariants.{DropCatalogRole, DropNamespace, DropPrincipal, DropPrincipalRole, DropTable, DropView}
 use Rattle.pol_content.proofs.SoundLemmas as content
 use Rattle.pol_content.proofs.SoundLemmas.{no-parts}
@@ -27,7 +28,9 @@ use Rattle.pol_rules.proofs.FitLemmas.{fit-dropped}
 use Rattle.pol_rules.proofs.FoundLemmas.{text-same}
 use Rattle.pol_sound_access.proofs.DecidedLemmas.{each, passes}
 use Rattle.pol_sound_bounds.specs.Judged.{fits, namespace_fits, table_fits, view_fits}
-use Rattle.pol_content_steps.specs.Drops.{has_other_name, lacks_grants, lacks_joins, lacks_members, may_drop_catalog_role, may_drop_namespace, may_drop_principal, may_drop_principal_role, may_drop_table, may_drop_view, none_names}
+use Rattle.pol_content_steps.specs.Drops.{has_other_name, may_drop_catalog_role, may_drop_namespace, may_drop_principal, may_drop_principal_role, may_drop_table, may_drop_view}
+use Rattle.pol_content_steps.specs.Taken.{takes_along}
+use Rattle.pol_content_steps.proofs.TakenLemmas.{all_unnamed, few-kept, taken-along, unnamed-fit, whole}
 use Rattle.pol_access_steps.specs.Counters.{counted, may_follow}
 use Rattle.pol_access_steps.specs.declared.counters.Counters.{Counters}
 use Rattle.pol_access_steps.proofs.BoundsLemmas.{fits-of, namespaces-fit, tables-fit, views-fit, within-of, Fits}
@@ -35,7 +38,7 @@ use Rattle.pol_access_steps.proofs.CountersLemmas.{counted-sound}
 use Rattle.pol_state.specs.Applied.{changed}
 use Rattle.pol_state.specs.Bounds.{bound_of}
 use Rattle.pol_state.specs.Rows.{Rows}
-use Rattle.pol_state.specs.Sound.{AreTied, IsSound, IsSoundAccess}
+use Rattle.pol_state.specs.Sound.{AreTied, IsOrderly, IsSound, IsSoundAccess}
 use Rattle.pol_table_rows.specs.Tables.{table_id}
 use Rattle.pol_tables.specs.Table.{has_id, row_of, rows_without}
 use Rattle.pol_tables.proofs.ListLemmas.{each-filter}
@@ -43,26 +46,11 @@ use Rattle.pol_tables.proofs.RisingLemmas.{IdsDiffer-rising}
 use Rattle.pol_tables.proofs.TableLemmas.{key-row_of}
 use Rattle.pol_view_rows.specs.Views.{view_id}
 
--- facts of which none is named are all unnamed
-all-unnamed : {T : Type 0} (names : T → Bool) (facts : List T) → none_names names facts ≡ true → unnamed names facts ≡ facts
-all-unnamed names [] free = refl
-all-unnamed names (fact ∷ facts) free =
-    let parts = and_parts (not (names fact)) (none_names names facts) free in
-    λ i. cond (parts.0 i) (fact ∷ all-unnamed names facts parts.1 i) (unnamed names facts)
-
--- rows of which some are left out: they are no more, and pass each test that all passed
-module _ {R : Type 0} (keep : R → Bool) where
-  fewer : (rows : List R) → length (filter keep rows) ≤ length rows
-  fewer [] = omega arith
-  fewer (row ∷ rows) =
-      let rest = fewer rows in
-      elim (keep row) as (λ b. length (cond b (row ∷ filter keep rows) (filter keep rows)) ≤ length (row ∷ rows)) [ true ↦ omega (arith, rest) | false ↦ omega (arith, rest) ]
-
+-- rows without one are no more, and pass each test that all passed
 module _ {R : Type 0} (key : R → ℕ) (id : ℕ) (rows : List R) where
   few-without : (bound : ℕ) → nat_le (length rows) bound ≡ true → nat_le (length (rows_without key id rows)) bound ≡ true
   unfolding rows_without
-  few-without bound few =
-      le-leb (length (rows_without key id rows)) bound (omega (arith, fewer (λ row. not (has_id key id row)) rows, leb-true (length rows) bound few))
+  few-without bound few = few-kept (λ row. not (has_id key id row)) bound rows few
 
   all-without : (test : R → Bool) → list_all test rows ≡ true → list_all test (rows_without key id rows) ≡ true
   unfolding rows_without
@@ -149,145 +137,148 @@ module _ {R : Type 0} (key : R → ℕ) (name : R → List ℕ) (reserved : List
             other = other-named reserved (name row) apart;
           }
 
+-- changes that take along what names a referent lead to a sound state where the state without that is orderly
+closed : (one : Referent) (s : Rows) (rest : List Change) (after : AccessRows) → takes_along one s.access rest ≡ true → all_unnamed one s.access ≡ after
+    → Fits s → IsOrderly (record s { access = after }) → IsSound (fold changed s rest)
+closed one s rest after takes is f orderly =
+    let with : AccessRows → Rows = λ rows. record s { access = rows } in
+    subst IsSound (sym (taken-along one s rest takes ∙ ap with is)) (record {
+      orderly = orderly;
+      within = within-of (with after) (subst (λ rows. Fits (with rows)) is (unnamed-fit one s f));
+    })
+
+-- no member and no join names a securable
+on-securable : (one : Securable) (rows : AccessRows) → all_unnamed (referent.Securable one) rows ≡ grants_on_dropped one rows
+on-securable one rows =
+    λ i. record (grants_on_dropped one rows) { members = whole rows.members i; joins = whole rows.joins i }
+
 module _ (s : Rows) (sound : IsSound s) where
   f : Fits s
   f = fits-of s sound
 
-  -- where no grant is on a securable, the grants on it may be dropped
-  none-on : (one : Securable) (content : ContentRows) → lacks_grants (referent.Securable one) s.access ≡ true → AreTied (grants_on_dropped one s.access) content → AreTied s.access content
-  none-on one content free are =
-      subst (λ grants. AreTied (record s.access { grants = grants }) content) (all-unnamed (grant_names s.access.catalog_roles (referent.Securable one)) s.access.grants free) are
-
-  table-dropped : (id : ℕ) → may_drop_table s id ≡ true → IsSound (changed s (DropTable id))
-  table-dropped id may =
+  table-dropped : (id : ℕ) (rest : List Change) → may_drop_table s id rest ≡ true → IsSound (fold changed (changed s (DropTable id)) rest)
+  table-dropped id rest may =
+      let one : Securable = securable.Table id in
       let rows = s.content.tables in
       let few = few-without table_id id rows (bound_of quantity.Tables) f.parts.1.1.0 in
-      record {
-        orderly = record {
-          access = sound.orderly.access;
-          content = content.dropped_table s.next_id id s.content sound.orderly.content;
-          ties = none-on (securable.Table id) (record s.content { tables = rows_without table_id id rows }) may (tied.dropped_table s.access s.content sound.orderly.ties id);
-          tokens = sound.orderly.tokens;
-          tokens_fit = fit-dropped s sound id;
-          time_bound = sound.orderly.time_bound;
-          charged_bound = sound.orderly.charged_bound;
-        };
-        within = within-of (changed s (DropTable id)) (tables-fit s (rows_without table_id id rows) f few (all-without table_id id rows table_fits f.numbers.1.1.0));
-      }
+      closed (referent.Securable one) (changed s (DropTable id)) rest (grants_on_dropped one s.access) may (on-securable one s.access)
+      (tables-fit s (rows_without table_id id rows) f few (all-without table_id id rows table_fits f.numbers.1.1.0)) (record {
+        access = (access.dropped_grants s.next_id s.access sound.orderly.access).1 one;
+        content = content.dropped_table s.next_id id s.content sound.orderly.content;
+        ties = tied.dropped_table s.access s.content sound.orderly.ties id;
+        tokens = sound.orderly.tokens;
+        tokens_fit = fit-dropped s sound id;
+        time_bound = sound.orderly.time_bound;
+        charged_bound = sound.orderly.charged_bound;
+      })
 
-  view-dropped : (id : ℕ) → may_drop_view s id ≡ true → IsSound (changed s (DropView id))
-  view-dropped id may =
+  view-dropped : (id : ℕ) (rest : List Change) → may_drop_view s id rest ≡ true → IsSound (fold changed (changed s (DropView id)) rest)
+  view-dropped id rest may =
+      let one : Securable = securable.View id in
       let rows = s.content.views in
       let few = few-without view_id id rows (bound_of quantity.Views) f.parts.1.1.1 in
-      record {
-        orderly = record {
-          access = sound.orderly.access;
-          content = views.dropped_view s.next_id s.content sound.orderly.content id;
-          ties = none-on (securable.View id) (record s.content { views = rows_without view_id id rows }) may (tied_views.dropped_view s.access s.content sound.orderly.ties id);
-          tokens = sound.orderly.tokens;
-          tokens_fit = sound.orderly.tokens_fit;
-          time_bound = sound.orderly.time_bound;
-          charged_bound = sound.orderly.charged_bound;
-        };
-        within = within-of (changed s (DropView id)) (views-fit s (rows_without view_id id rows) f few (all-without view_id id rows view_fits f.numbers.1.1.1));
-      }
+      closed (referent.Securable one) (changed s (DropView id)) rest (grants_on_dropped one s.access) may (on-securable one s.access)
+      (views-fit s (rows_without view_id id rows) f few (all-without view_id id rows view_fits f.numbers.1.1.1)) (record {
+        access = (access.dropped_grants s.next_id s.access sound.orderly.access).1 one;
+        content = views.dropped_view s.next_id s.content sound.orderly.content id;
+        ties = tied_views.dropped_view s.access s.content sound.orderly.ties id;
+        tokens = sound.orderly.tokens;
+        tokens_fit = sound.orderly.tokens_fit;
+        time_bound = sound.orderly.time_bound;
+        charged_bound = sound.orderly.charged_bound;
+      })
 
-  namespace-dropped : (id : ℕ) → may_drop_namespace s id ≡ true → IsSound (changed s (DropNamespace id))
-  namespace-dropped id may =
+  namespace-dropped : (id : ℕ) (rest : List Change) → may_drop_namespace s id rest ≡ true → IsSound (fold changed (changed s (DropNamespace id)) rest)
+  namespace-dropped id rest may =
+      let one : Securable = securable.Namespace id in
       let rows = s.content.namespaces in
-      let after = rows_without namespace_id id rows in
       let few = few-without namespace_id id rows (bound_of quantity.Namespaces) f.parts.1.0 in
-      let both = and_parts (is_empty id s.content) (lacks_grants (referent.Securable (securable.Namespace id)) s.access) may in
+      let both = and_parts (is_empty id s.content) (takes_along (referent.Securable one) s.access rest) may in
       let parts = no-parts id s.content both.0 in
-      record {
-        orderly = record {
-          access = sound.orderly.access;
-          content = content.dropped_namespace s.next_id id s.content sound.orderly.content both.0;
-          ties = none-on (securable.Namespace id) (record s.content { namespaces = after }) both.1 (tied.dropped_namespace s.access s.content sound.orderly.ties id parts.1 parts.2);
-          tokens = sound.orderly.tokens;
-          tokens_fit = sound.orderly.tokens_fit;
-          time_bound = sound.orderly.time_bound;
-          charged_bound = sound.orderly.charged_bound;
-        };
-        within = within-of (changed s (DropNamespace id)) (namespaces-fit s after f few (all-without namespace_id id rows namespace_fits f.numbers.1.0));
-      }
+      closed (referent.Securable one) (changed s (DropNamespace id)) rest (grants_on_dropped one s.access) both.1 (on-securable one s.access)
+      (namespaces-fit s (rows_without namespace_id id rows) f few (all-without namespace_id id rows namespace_fits f.numbers.1.0)) (record {
+        access = (access.dropped_grants s.next_id s.access sound.orderly.access).1 one;
+        content = content.dropped_namespace s.next_id id s.content sound.orderly.content both.0;
+        ties = tied.dropped_namespace s.access s.content sound.orderly.ties id parts.1 parts.2;
+        tokens = sound.orderly.tokens;
+        tokens_fit = sound.orderly.tokens_fit;
+        time_bound = sound.orderly.time_bound;
+        charged_bound = sound.orderly.charged_bound;
+      })
 
-  -- a sound state with other principals and roles
-  with-access : (after : AccessRows) → IsSoundAccess s.next_id after → AreTied after s.content → Fits (record s { access = after }) → IsSound (record s { access = after })
-  with-access after itself are fit = record {
-    orderly = record {
-      access = itself;
-      content = sound.orderly.content;
-      ties = are;
-      tokens = sound.orderly.tokens;
-      tokens_fit = sound.orderly.tokens_fit;
-      time_bound = sound.orderly.time_bound;
-      charged_bound = sound.orderly.charged_bound;
-    };
-    within = within-of (record s { access = after }) fit;
+  -- an orderly state with other principals and roles
+  with-access : (after : AccessRows) → IsSoundAccess s.next_id after → AreTied after s.content → IsOrderly (record s { access = after })
+  with-access after itself are = record {
+    access = itself;
+    content = sound.orderly.content;
+    ties = are;
+    tokens = sound.orderly.tokens;
+    tokens_fit = sound.orderly.tokens_fit;
+    time_bound = sound.orderly.time_bound;
+    charged_bound = sound.orderly.charged_bound;
   }
 
-  principal-dropped : (id : ℕ) → may_drop_principal s id ≡ true → IsSound (changed s (DropPrincipal id))
-  principal-dropped id may =
+  principal-dropped : (id : ℕ) (rest : List Change) → may_drop_principal s id rest ≡ true → IsSound (fold changed (changed s (DropPrincipal id)) rest)
+  principal-dropped id rest may =
       let rows = s.access.principals in
-      let parts = and_parts (has_other_name (codes "root") (option_map principal_name (row_of principal_id id rows))) (lacks_members (referent.Principal id) s.access) may in
+      let parts = and_parts (has_other_name (codes "root") (option_map principal_name (row_of principal_id id rows))) (takes_along (referent.Principal id) s.access rest) may in
       let gone = other-found principal_id principal_name (codes "root") id rows parts.0 in
-      let after : AccessRows = record s.access { principals = rows_without principal_id id rows } in
-      let members = all-unnamed (member_names (referent.Principal id)) s.access.members parts.1 in
-      let is : principal_dropped id s.access ≡ after = λ i. record after { members = members i } in
-      let itself = subst (λ n. IsSoundAccess s.next_id (principal_dropped n s.access)) gone.id_is (access.dropped_principal s.next_id s.access gone.row sound.orderly.access gone.found gone.other) in
-      with-access after (subst (IsSoundAccess s.next_id) is itself) (subst (λ one. AreTied one s.content) is (ties.dropped_principal s.access s.content sound.orderly.ties id))
+      let after : AccessRows = principal_dropped id s.access in
+      let is : all_unnamed (referent.Principal id) (changed s (DropPrincipal id)).access ≡ after = λ i. record after { joins = whole s.access.joins i; grants = whole s.access.grants i } in
+      let itself = access.dropped_principal s.next_id s.access gone.row sound.orderly.access gone.found gone.other in
+      closed (referent.Principal id) (changed s (DropPrincipal id)) rest after parts.1 is
       (principals-fit s f (rows_without principal_id id rows) (few-without principal_id id rows (bound_of quantity.Principals) (few-holders s f).principals))
+      (with-access after (subst (λ n. IsSoundAccess s.next_id (principal_dropped n s.access)) gone.id_is itself) (ties.dropped_principal s.access s.content sound.orderly.ties id))
 
-  principal_role-dropped : (id : ℕ) → may_drop_principal_role s id ≡ true → IsSound (changed s (DropPrincipalRole id))
-  principal_role-dropped id may =
+  principal_role-dropped : (id : ℕ) (rest : List Change) → may_drop_principal_role s id rest ≡ true → IsSound (fold changed (changed s (DropPrincipalRole id)) rest)
+  principal_role-dropped id rest may =
       let rows = s.access.principal_roles in
-      let free = lacks_members (referent.PrincipalRole id) s.access && lacks_joins (referent.PrincipalRole id) s.access in
-      let first = and_parts (has_other_name (codes "service_admin") (option_map principal_role_name (row_of principal_role_id id rows))) free may in
-      let last = and_parts (lacks_members (referent.PrincipalRole id) s.access) (lacks_joins (referent.PrincipalRole id) s.access) first.1 in
-      let gone = other-found principal_role_id principal_role_name (codes "service_admin") id rows first.0 in
-      let after : AccessRows = record s.access { principal_roles = rows_without principal_role_id id rows } in
-      let members = all-unnamed (member_names (referent.PrincipalRole id)) s.access.members last.0 in
-      let joins = all-unnamed (join_names s.access.catalog_roles (referent.PrincipalRole id)) s.access.joins last.1 in
-      let is : principal_role_dropped id s.access ≡ after = λ i. record after { members = members i; joins = joins i } in
+      let parts = and_parts (has_other_name (codes "service_admin") (option_map principal_role_name (row_of principal_role_id id rows))) (takes_along (referent.PrincipalRole id) s.access rest) may in
+      let gone = other-found principal_role_id principal_role_name (codes "service_admin") id rows parts.0 in
+      let after : AccessRows = principal_role_dropped id s.access in
+      let is : all_unnamed (referent.PrincipalRole id) (changed s (DropPrincipalRole id)).access ≡ after = λ i. record after { grants = whole s.access.grants i } in
       let itself = access.dropped_principal_role s.next_id s.access gone.row sound.orderly.access gone.found gone.other in
       let are = ties.dropped_principal_role s.access s.content sound.orderly.ties gone.row (IdsDiffer-rising principal_role_id rows sound.orderly.access.principal_roles.rise) gone.found gone.other in
-      with-access after (subst (IsSoundAccess s.next_id) is (subst (λ n. IsSoundAccess s.next_id (principal_role_dropped n s.access)) gone.id_is itself))
-      (subst (λ one. AreTied one s.content) is (subst (λ n. AreTied (principal_role_dropped n s.access) s.content) gone.id_is are))
+      closed (referent.PrincipalRole id) (changed s (DropPrincipalRole id)) rest after parts.1 is
       (principal_roles-fit s f (rows_without principal_role_id id rows) (few-without principal_role_id id rows (bound_of quantity.PrincipalRoles) (few-holders s f).roles))
+      (with-access after (subst (λ n. IsSoundAccess s.next_id (principal_role_dropped n s.access)) gone.id_is itself) (subst (λ n. AreTied (principal_role_dropped n s.access) s.content) gone.id_is are))
 
-  catalog_role-dropped : (id : ℕ) → may_drop_catalog_role s id ≡ true → IsSound (changed s (DropCatalogRole id))
-  catalog_role-dropped id may =
+  catalog_role-dropped : (id : ℕ) (rest : List Change) → may_drop_catalog_role s id rest ≡ true → IsSound (fold changed (changed s (DropCatalogRole id)) rest)
+  catalog_role-dropped id rest may =
       let rows = s.access.catalog_roles in
-      let free = lacks_joins (referent.CatalogRole id) s.access && lacks_grants (referent.CatalogRole id) s.access in
-      let first = and_parts (has_other_name (codes "catalog_admin") (option_map catalog_role_name (row_of catalog_role_id id rows))) free may in
-      let last = and_parts (lacks_joins (referent.CatalogRole id) s.access) (lacks_grants (referent.CatalogRole id) s.access) first.1 in
-      let gone = other-found catalog_role_id catalog_role_name (codes "catalog_admin") id rows first.0 in
-      let after : AccessRows = record s.access { catalog_roles = rows_without catalog_role_id id rows } in
-      let joins = all-unnamed (join_names rows (referent.CatalogRole id)) s.access.joins last.0 in
-      let grants = all-unnamed (grant_names rows (referent.CatalogRole id)) s.access.grants last.1 in
-      let is : catalog_role_dropped id s.access ≡ after = λ i. record after { joins = joins i; grants = grants i } in
+      let parts = and_parts (has_other_name (codes "catalog_admin") (option_map catalog_role_name (row_of catalog_role_id id rows))) (takes_along (referent.CatalogRole id) s.access rest) may in
+      let gone = other-found catalog_role_id catalog_role_name (codes "catalog_admin") id rows parts.0 in
+      let after : AccessRows = catalog_role_dropped id s.access in
+      let is : all_unnamed (referent.CatalogRole id) (changed s (DropCatalogRole id)).access ≡ after = λ i. record after { members = whole s.access.members i } in
       let itself = (access.dropped_catalog_roles s.next_id id s.access sound.orderly.access).0 in
       let are = tied.dropped_catalog_role s.access s.content sound.orderly.ties gone.row (IdsDiffer-rising catalog_role_id rows sound.orderly.access.catalog_roles.rise) gone.found gone.other in
-      with-access after (subst (IsSoundAccess s.next_id) is itself) (subst (λ one. AreTied one s.content) is (subst (λ n. AreTied (catalog_role_dropped n s.access) s.content) gone.id_is are))
+      closed (referent.CatalogRole id) (changed s (DropCatalogRole id)) rest after parts.1 is
       (catalog_roles-fit s f (rows_without catalog_role_id id rows) (few-without catalog_role_id id rows (bound_of quantity.CatalogRoles) (few-holders s f).catalog_roles))
+      (with-access after itself (subst (λ n. AreTied (catalog_role_dropped n s.access) s.content) gone.id_is are))
+
+-- the state is sound with these counters, and once a change is made and then the others
+abbrev pub SoundWithout : Rows → Counters → List Change → Change → Type 0
+SoundWithout s counters rest first = IsSound (fold changed (changed (counted s counters) first) rest)
 
 -- and so it is with the counters that were set before
-module _ (s : Rows) (sound : IsSound s) (counters : Counters) (follows : may_follow s counters ≡ true) (id : ℕ) where
-  pub dropped_table-sound : may_drop_table s id ≡ true → IsSound (changed (counted s counters) (DropTable id))
-  dropped_table-sound = table-dropped (counted s counters) (counted-sound s sound counters follows) id
+module _ (s : Rows) (sound : IsSound s) (counters : Counters) (follows : may_follow s counters ≡ true) (id : ℕ) (rest : List Change) where
+  base : IsSound (counted s counters)
+  base = counted-sound s sound counters follows
 
-  pub dropped_view-sound : may_drop_view s id ≡ true → IsSound (changed (counted s counters) (DropView id))
-  dropped_view-sound = view-dropped (counted s counters) (counted-sound s sound counters follows) id
+  pub dropped_table-sound : may_drop_table s id rest ≡ true → SoundWithout s counters rest (DropTable id)
+  dropped_table-sound = table-dropped (counted s counters) base id rest
 
-  pub dropped_namespace-sound : may_drop_namespace s id ≡ true → IsSound (changed (counted s counters) (DropNamespace id))
-  dropped_namespace-sound = namespace-dropped (counted s counters) (counted-sound s sound counters follows) id
+  pub dropped_view-sound : may_drop_view s id rest ≡ true → SoundWithout s counters rest (DropView id)
+  dropped_view-sound = view-dropped (counted s counters) base id rest
 
-  pub dropped_principal-sound : may_drop_principal s id ≡ true → IsSound (changed (counted s counters) (DropPrincipal id))
-  dropped_principal-sound = principal-dropped (counted s counters) (counted-sound s sound counters follows) id
+  pub dropped_namespace-sound : may_drop_namespace s id rest ≡ true → SoundWithout s counters rest (DropNamespace id)
+  dropped_namespace-sound = namespace-dropped (counted s counters) base id rest
 
-  pub dropped_principal_role-sound : may_drop_principal_role s id ≡ true → IsSound (changed (counted s counters) (DropPrincipalRole id))
-  dropped_principal_role-sound = principal_role-dropped (counted s counters) (counted-sound s sound counters follows) id
+  pub dropped_principal-sound : may_drop_principal s id rest ≡ true → SoundWithout s counters rest (DropPrincipal id)
+  dropped_principal-sound = principal-dropped (counted s counters) base id rest
 
-  pub dropped_catalog_role-sound : may_drop_catalog_role s id ≡ true → IsSound (changed (counted s counters) (DropCatalogRole id))
-  dropped_catalog_role-sound = catalog_role-dropped (counted s counters) (counted-sound s sound counters follows) id
+  pub dropped_principal_role-sound : may_drop_principal_role s id rest ≡ true → SoundWithout s counters rest (DropPrincipalRole id)
+  dropped_principal_role-sound = principal_role-dropped (counted s counters) base id rest
+
+  pub dropped_catalog_role-sound : may_drop_catalog_role s id rest ≡ true → SoundWithout s counters rest (DropCatalogRole id)
+  dropped_catalog_role-sound = catalog_role-dropped (counted s counters) base id rest

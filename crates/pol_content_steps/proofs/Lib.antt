@@ -2,4 +2,5 @@ pub mod DropLemmas
 pub mod NameLemmas
 pub mod NamespaceLemmas
 pub mod PropertyLemmas
+pub mod TakenLemmas
 pub mod ViewLemmas

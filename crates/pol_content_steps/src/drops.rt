@@ -1,97 +1,112 @@
-//! Rows that one change takes away.
+//! Rows that changes take away, with what names them.
 ghost use Rattle.std.specs.Prelude.{◌≡◌, true, codes};
+ghost use Rattle.std.specs.List.{fold};
 ghost use Rattle.std.specs.Option.{option_map};
 ghost use Rattle.pol_access.specs.Access.{catalog_role_id, catalog_role_name, principal_id, principal_name, principal_role_id, principal_role_name};
-ghost use Rattle.pol_access.specs.contracts.securable.Securable.{the_row};
-ghost use Rattle.pol_access.specs.declared.referent.Referent.TheVariants as referent;
-ghost use Rattle.pol_content_steps.specs.Drops.{has_other_name, lacks_grants, lacks_joins, lacks_members, may_drop_catalog_role, may_drop_namespace, may_drop_principal, may_drop_principal_role, may_drop_table, may_drop_view};
+ghost use Rattle.pol_content_steps.specs.Drops.{has_other_name, may_drop_catalog_role, may_drop_namespace, may_drop_principal, may_drop_principal_role, may_drop_table, may_drop_view};
 ghost use Rattle.pol_access_steps.specs.Counters.{counted, may_follow};
 ghost use Rattle.pol_state.specs.Applied.{changed};
 ghost use Rattle.pol_state.specs.Sound.{IsSound};
-ghost use Rattle.pol_tables.specs.Same.{same};
 ghost use Rattle.pol_tables.specs.Table.{row_of};
 
-use pol_access::{Access, GrantRow, Securable};
+use crate::taken::takes_along;
+use pol_access::{Access, Referent, Securable};
 use pol_access_steps::Counters;
 use pol_content::Change;
 use pol_state::State;
 
-/// Whether the change takes a row away that nothing else names.
-pub fn is_sound_drop(state: &State, counters: Counters, change: &Change) -> bool
+/// The most changes that are judged as a drop. Each fact that names the row is sought among all of them, so that for
+/// more it is as well to judge the whole state.
+const MOST_CHANGES: usize = 256;
+
+/// Whether the first change takes a row away, and the others, which are few, the members, joins and grants that name it.
+pub fn is_sound_drop(state: &State, counters: Counters, changes: &[Change]) -> bool
     requires sound { IsSound state.now.rows }
     requires follows { may_follow state.now.rows counters ≡ true }
-    ensures { result ≡ true → IsSound (changed (counted state.now.rows counters) change.now) }
+    ensures { result ≡ true → IsSound (fold changed (counted state.now.rows counters) changes.now) }
 {
-    match change {
-        Change::DropTable(id) => may_drop_table(state, *id),
-        Change::DropView(id) => may_drop_view(state, *id),
-        Change::DropNamespace(id) => may_drop_namespace(state, *id),
-        Change::DropPrincipal(id) => may_drop_principal(state, *id),
-        Change::DropPrincipalRole(id) => may_drop_principal_role(state, *id),
-        Change::DropCatalogRole(id) => may_drop_catalog_role(state, *id),
+    if changes.len() > MOST_CHANGES {
+        return false;
+    }
+    match changes.split_first() {
+        Some((first, rest)) => may_drop(state, counters, first, rest),
+        None => false,
+    }
+}
+
+fn may_drop(state: &State, counters: Counters, first: &Change, rest: &[Change]) -> bool
+    requires sound { IsSound state.now.rows }
+    requires follows { may_follow state.now.rows counters ≡ true }
+    ensures { result ≡ true
+        → IsSound (fold changed (changed (counted state.now.rows counters) first.now) rest.now) }
+{
+    match first {
+        Change::DropTable(id) => may_drop_table(state, *id, rest),
+        Change::DropView(id) => may_drop_view(state, *id, rest),
+        Change::DropNamespace(id) => may_drop_namespace(state, *id, rest),
+        Change::DropPrincipal(id) => may_drop_principal(state, *id, rest),
+        Change::DropPrincipalRole(id) => may_drop_principal_role(state, *id, rest),
+        Change::DropCatalogRole(id) => may_drop_catalog_role(state, *id, rest),
         _ => false,
     }
 }
 
-/// Whether no grant is on the table. It goes over the grants.
-fn may_drop_table(state: &State, id: u64) -> bool
-    ensures { result ≡ may_drop_table state.now.rows id }
+/// Whether the changes drop what names the table.
+fn may_drop_table(state: &State, id: u64, rest: &[Change]) -> bool
+    ensures { result ≡ may_drop_table state.now.rows id rest.now }
 {
-    lacks_grants(state.access(), Securable::Table(id))
+    takes_along(
+        state.access(),
+        Referent::Securable(Securable::Table(id)),
+        rest,
+    )
 }
 
-/// Whether no grant is on the view. It goes over the grants.
-fn may_drop_view(state: &State, id: u64) -> bool
-    ensures { result ≡ may_drop_view state.now.rows id }
+/// Whether the changes drop what names the view.
+fn may_drop_view(state: &State, id: u64, rest: &[Change]) -> bool
+    ensures { result ≡ may_drop_view state.now.rows id rest.now }
 {
-    lacks_grants(state.access(), Securable::View(id))
+    takes_along(
+        state.access(),
+        Referent::Securable(Securable::View(id)),
+        rest,
+    )
 }
 
-/// Whether the namespace holds nothing and no grant is on it. It goes over namespaces, tables, views and grants.
-fn may_drop_namespace(state: &State, id: u64) -> bool
-    ensures { result ≡ may_drop_namespace state.now.rows id }
+/// Whether the namespace holds nothing, and the changes drop what names it. It goes over namespaces, tables and views.
+fn may_drop_namespace(state: &State, id: u64, rest: &[Change]) -> bool
+    ensures { result ≡ may_drop_namespace state.now.rows id rest.now }
 {
-    state.content().is_empty(id) && lacks_grants(state.access(), Securable::Namespace(id))
+    state.content().is_empty(id)
+        && takes_along(
+            state.access(),
+            Referent::Securable(Securable::Namespace(id)),
+            rest,
+        )
 }
 
-/// Whether the principal is there, isn't `root` and is no member. It goes over the members.
-fn may_drop_principal(state: &State, id: u64) -> bool
-    ensures { result ≡ may_drop_principal state.now.rows id }
+/// Whether the principal is there, isn't `root`, and the changes drop what names it.
+fn may_drop_principal(state: &State, id: u64, rest: &[Change]) -> bool
+    ensures { result ≡ may_drop_principal state.now.rows id rest.now }
 {
-    is_other_than_root(state.access(), id) && lacks_memberships(state.access(), id)
+    is_other_than_root(state.access(), id)
+        && takes_along(state.access(), Referent::Principal(id), rest)
 }
 
-/// Whether the principal role is there, isn't `service_admin`, and no member and no join names it. It goes over members
-/// and joins.
-fn may_drop_principal_role(state: &State, id: u64) -> bool
-    ensures { result ≡ may_drop_principal_role state.now.rows id }
+/// Whether the principal role is there, isn't `service_admin`, and the changes drop what names it.
+fn may_drop_principal_role(state: &State, id: u64, rest: &[Change]) -> bool
+    ensures { result ≡ may_drop_principal_role state.now.rows id rest.now }
 {
     is_other_than_service_admin(state.access(), id)
-        && lacks_members(state.access(), id)
-        && lacks_joins(state.access(), id)
+        && takes_along(state.access(), Referent::PrincipalRole(id), rest)
 }
 
-/// Whether the catalogue role is there, isn't a `catalog_admin`, and no join and no grant names it. It goes over joins
-/// and grants.
-fn may_drop_catalog_role(state: &State, id: u64) -> bool
-    ensures { result ≡ may_drop_catalog_role state.now.rows id }
+/// Whether the catalogue role is there, isn't a `catalog_admin`, and the changes drop what names it.
+fn may_drop_catalog_role(state: &State, id: u64, rest: &[Change]) -> bool
+    ensures { result ≡ may_drop_catalog_role state.now.rows id rest.now }
 {
     is_other_than_catalog_admin(state.access(), id)
-        && lacks_joins_to(state.access(), id)
-        && lacks_own_grants(state.access(), id)
-}
-
-/// Whether no grant is on the securable.
-fn lacks_grants(access: &Access, securable: Securable) -> bool
-    ensures { result ≡ lacks_grants (referent.Securable securable) access.now.rows }
-{
-    access.grants().all(|row| !is_on(row, securable))
-}
-
-fn is_on(row: &GrantRow, securable: Securable) -> bool
-    ensures { result ≡ same the_row.coded row.now.securable securable }
-{
-    row.securable == securable
+        && takes_along(state.access(), Referent::CatalogRole(id), rest)
 }
 
 /// Whether there is a principal of this id, which isn't `root`.
@@ -125,39 +140,4 @@ fn is_other_than_catalog_admin(access: &Access, id: u64) -> bool
         Some(row) => "catalog_admin" != row.name.as_str(),
         None => false,
     }
-}
-
-/// Whether the principal is a member of no role.
-fn lacks_memberships(access: &Access, id: u64) -> bool
-    ensures { result ≡ lacks_members (referent.Principal id) access.now.rows }
-{
-    access.members().all(|row| row.principal != id)
-}
-
-/// Whether the principal role has no member.
-fn lacks_members(access: &Access, id: u64) -> bool
-    ensures { result ≡ lacks_members (referent.PrincipalRole id) access.now.rows }
-{
-    access.members().all(|row| row.role != id)
-}
-
-/// Whether the principal role is joined to no catalogue role.
-fn lacks_joins(access: &Access, id: u64) -> bool
-    ensures { result ≡ lacks_joins (referent.PrincipalRole id) access.now.rows }
-{
-    access.joins().all(|row| row.principal_role != id)
-}
-
-/// Whether no principal role is joined to the catalogue role.
-fn lacks_joins_to(access: &Access, id: u64) -> bool
-    ensures { result ≡ lacks_joins (referent.CatalogRole id) access.now.rows }
-{
-    access.joins().all(|row| row.catalog_role != id)
-}
-
-/// Whether the catalogue role has no grant.
-fn lacks_own_grants(access: &Access, id: u64) -> bool
-    ensures { result ≡ lacks_grants (referent.CatalogRole id) access.now.rows }
-{
-    access.grants().all(|row| row.catalog_role != id)
 }

@@ -5,6 +5,7 @@ mod drops;
 mod names;
 mod namespaces;
 mod properties;
+mod taken;
 mod views;
 
 pub use drops::is_sound_drop;

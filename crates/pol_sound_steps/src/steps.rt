@@ -46,7 +46,8 @@ fn is_sound_step(alloc: Global, state: &State, changes: &[Change]) -> Result<boo
     are_sound_puts(alloc, state, counters, puts)
 }
 
-/// Whether changes of rows are of a known shape: one change, a new table with its storage token, or commits.
+/// Whether changes of rows are of a known shape: a drop with what it takes along, one put, a new table with its storage
+/// token, or commits.
 fn are_sound_puts(
     alloc: Global,
     state: &State,
@@ -59,6 +60,9 @@ fn are_sound_puts(
     ensures { IfOk result (λ sound. sound ≡ true
         → IsSound (rows_after puts.now (counted state.now.rows counters))) }
 {
+    if is_sound_drop(state, counters, puts) {
+        return Ok(true);
+    }
     match puts {
         [only] => is_sound_put(alloc, state, counters, only),
         [first, second] => {
@@ -71,7 +75,7 @@ fn are_sound_puts(
     }
 }
 
-/// Whether one row may be put, or taken away.
+/// Whether one row may be put, or a member, a join or a grant taken away.
 fn is_sound_put(
     alloc: Global,
     state: &State,
@@ -90,11 +94,7 @@ fn is_sound_put(
         Change::PutNamespace(row) => may_put_namespace(alloc, state, counters, row.row()),
         Change::PutTable(table) => may_put_table(alloc, state, counters, table.row().row()),
         Change::PutView(row) => may_put_view(alloc, state, counters, row.row()),
-        _ => Ok(
-            is_sound_holder(state, counters, put)
-                || is_sound_fact(state, counters, put)
-                || is_sound_drop(state, counters, put),
-        ),
+        _ => Ok(is_sound_holder(state, counters, put) || is_sound_fact(state, counters, put)),
     }
 }
 

@@ -1,43 +1,12 @@
-use Rattle.std.proofs.Common.{sym, subst, ◌∙◌}
+use Rattle.std.proofs.Common.{List, sym, subst}
+use Rattle.std.specs.List.{fold}
 use Rattle.pol_content.specs.declared.change.Change.{Change}
 use Rattle.pol_access_steps.specs.Counters.{counted}
-use Rattle.pol_content_steps.proofs.DropLemmas.{dropped_catalog_role-sound, dropped_namespace-sound, dropped_principal-sound, dropped_principal_role-sound, dropped_table-sound, dropped_view-sound}
 use Rattle.pol_state.specs.Applied.{changed}
 use Rattle.pol_state.specs.Sound.{IsSound}
 use Rattle.pol_content_steps.proofs.drops.is_sound_drop.Goals as goal
 
-pub returns-in-DropTable : goal.returns-in-DropTable
-returns-in-DropTable c =
-    let s = c.args.state.now.rows in
-    λ passes. subst (λ (change : Change). IsSound (changed (counted s c.args.counters) change)) (sym c.in-DropTable.is)
-    (dropped_table-sound s c.requires.sound c.args.counters c.requires.follows c.in-DropTable.id (sym c.may_drop_table.ensures ∙ passes))
-
-pub returns-in-DropView : goal.returns-in-DropView
-returns-in-DropView c =
-    let s = c.args.state.now.rows in
-    λ passes. subst (λ (change : Change). IsSound (changed (counted s c.args.counters) change)) (sym c.in-DropView.is)
-    (dropped_view-sound s c.requires.sound c.args.counters c.requires.follows c.in-DropView.id (sym c.may_drop_view.ensures ∙ passes))
-
-pub returns-in-DropNamespace : goal.returns-in-DropNamespace
-returns-in-DropNamespace c =
-    let s = c.args.state.now.rows in
-    λ passes. subst (λ (change : Change). IsSound (changed (counted s c.args.counters) change)) (sym c.in-DropNamespace.is)
-    (dropped_namespace-sound s c.requires.sound c.args.counters c.requires.follows c.in-DropNamespace.id (sym c.may_drop_namespace.ensures ∙ passes))
-
-pub returns-in-DropPrincipal : goal.returns-in-DropPrincipal
-returns-in-DropPrincipal c =
-    let s = c.args.state.now.rows in
-    λ passes. subst (λ (change : Change). IsSound (changed (counted s c.args.counters) change)) (sym c.in-DropPrincipal.is)
-    (dropped_principal-sound s c.requires.sound c.args.counters c.requires.follows c.in-DropPrincipal.id (sym c.may_drop_principal.ensures ∙ passes))
-
-pub returns-in-DropPrincipalRole : goal.returns-in-DropPrincipalRole
-returns-in-DropPrincipalRole c =
-    let s = c.args.state.now.rows in
-    λ passes. subst (λ (change : Change). IsSound (changed (counted s c.args.counters) change)) (sym c.in-DropPrincipalRole.is)
-    (dropped_principal_role-sound s c.requires.sound c.args.counters c.requires.follows c.in-DropPrincipalRole.id (sym c.may_drop_principal_role.ensures ∙ passes))
-
-pub returns-in-DropCatalogRole : goal.returns-in-DropCatalogRole
-returns-in-DropCatalogRole c =
-    let s = c.args.state.now.rows in
-    λ passes. subst (λ (change : Change). IsSound (changed (counted s c.args.counters) change)) (sym c.in-DropCatalogRole.is)
-    (dropped_catalog_role-sound s c.requires.sound c.args.counters c.requires.follows c.in-DropCatalogRole.id (sym c.may_drop_catalog_role.ensures ∙ passes))
+pub returns-in-Some : goal.returns-in-Some
+returns-in-Some c =
+    let at = counted c.args.state.now.rows c.args.counters in
+    λ passes. subst (λ (changes : List Change). IsSound (fold changed at changes)) (sym c.in-Some.ensures.cases.0) (c.may_drop.ensures passes)

@@ -6,6 +6,10 @@ use Rattle.pol_soundness.specs.Base.{rows_after}
 use Rattle.pol_state.specs.Sound.{IsSound}
 use Rattle.pol_sound_steps.proofs.steps.are_sound_puts.Goals as goal
 
+pub returns-then-is_sound_drop : goal.returns-then-is_sound_drop
+unfolding rows_after
+returns-then-is_sound_drop c = λ is. c.is_sound_drop.ensures c.if-is_sound_drop.true
+
 pub returns-in-len1 : goal.returns-in-len1
 unfolding rows_after
 returns-in-len1 c =

@@ -1,0 +1,249 @@
+//! What a row that is dropped takes along: the members, joins and grants that name it.
+ghost use Rattle.std.specs.Prelude.{◌≡◌};
+ghost use Rattle.std.specs.List.{list_all, list_any};
+ghost use Rattle.pol_access.specs.Referent.{grant_names, is_role_of, join_names, member_names};
+ghost use Rattle.pol_access.specs.contracts.securable.Securable.{the_row};
+ghost use Rattle.pol_content_steps.specs.Taken.{drops_grant, drops_join, drops_member, drops_named, fact_dropped, goes_along, takes_along};
+ghost use Rattle.pol_tables.specs.Same.{same};
+
+use pol_access::{Access, GrantRow, JoinRow, MemberRow, Referent, Securable};
+use pol_content::Change;
+use pol_tables::Fact;
+
+/// A fact that a change drops.
+#[derive(Clone, Copy)]
+enum Dropped {
+    Member(MemberRow),
+    Join(JoinRow),
+    Grant(GrantRow),
+}
+
+/// Whether the changes drop the members, joins and grants that name the referent, and no other rows. It goes over all
+/// members, joins and grants, and for each that names the referent over the changes.
+pub(crate) fn takes_along(access: &Access, one: Referent, changes: &[Change]) -> bool
+    ensures { result ≡ takes_along one access.now.rows changes.now }
+{
+    drop_named(access, one, changes)
+        && members_go_along(access, one, changes)
+        && joins_go_along(access, one, changes)
+        && grants_go_along(access, one, changes)
+}
+
+/// Whether each of the changes drops a fact that names the referent.
+fn drop_named(access: &Access, one: Referent, changes: &[Change]) -> bool
+    ensures { result ≡ list_all (drops_named access.now.rows.catalog_roles one) changes.now }
+{
+    changes
+        .iter()
+        .all(|change| drops_named(access, one, change))
+}
+
+/// Whether the changes drop each member that names the referent.
+fn members_go_along(access: &Access, one: Referent, changes: &[Change]) -> bool
+    ensures { result
+        ≡ list_all (goes_along (member_names one) drops_member changes.now) access.now.rows.members }
+{
+    access
+        .members()
+        .all(|row| member_goes_along(one, changes, row))
+}
+
+/// Whether the changes drop each join that names the referent.
+fn joins_go_along(access: &Access, one: Referent, changes: &[Change]) -> bool
+    ensures { result
+        ≡ list_all (goes_along (join_names access.now.rows.catalog_roles one) drops_join changes.now)
+        access.now.rows.joins }
+{
+    access
+        .joins()
+        .all(|row| join_goes_along(access, one, changes, row))
+}
+
+/// Whether the changes drop each grant that names the referent.
+fn grants_go_along(access: &Access, one: Referent, changes: &[Change]) -> bool
+    ensures { result
+        ≡ list_all (goes_along (grant_names access.now.rows.catalog_roles one) drops_grant changes.now)
+        access.now.rows.grants }
+{
+    access
+        .grants()
+        .all(|row| grant_goes_along(access, one, changes, row))
+}
+
+/// Whether the change drops a fact that names the referent.
+fn drops_named(access: &Access, one: Referent, change: &Change) -> bool
+    ensures { result ≡ drops_named access.now.rows.catalog_roles one change.now }
+{
+    match fact_dropped(change) {
+        Some(Dropped::Member(row)) => member_names(one, &row),
+        Some(Dropped::Join(row)) => join_names(access, one, &row),
+        Some(Dropped::Grant(row)) => grant_names(access, one, &row),
+        None => false,
+    }
+}
+
+/// The fact that the change drops, where it drops one.
+#[tactic(auto, unfolding(crate::specs::Taken::fact_dropped))]
+fn fact_dropped(change: &Change) -> Option<Dropped>
+    ensures { result ≡ fact_dropped change.now }
+{
+    match change {
+        Change::DropMember(row) => Some(Dropped::Member(*row)),
+        Change::DropJoin(row) => Some(Dropped::Join(*row)),
+        Change::DropGrant(row) => Some(Dropped::Grant(*row)),
+        Change::Time(_)
+        | Change::NextId(_)
+        | Change::NextSerial(_)
+        | Change::PutPrincipal(_)
+        | Change::DropPrincipal(_)
+        | Change::PutPrincipalRole(_)
+        | Change::DropPrincipalRole(_)
+        | Change::PutCatalog(_)
+        | Change::DropCatalog(_)
+        | Change::PutCatalogRole(_)
+        | Change::DropCatalogRole(_)
+        | Change::PutNamespace(_)
+        | Change::DropNamespace(_)
+        | Change::PutTable(_)
+        | Change::DropTable(_)
+        | Change::PutView(_)
+        | Change::DropView(_)
+        | Change::PutMember(_)
+        | Change::PutJoin(_)
+        | Change::PutGrant(_)
+        | Change::PutSession(_)
+        | Change::PutToken(_) => None,
+    }
+}
+
+fn member_goes_along(one: Referent, changes: &[Change], row: &MemberRow) -> bool
+    ensures { result ≡ goes_along (member_names one) drops_member changes.now row.now }
+{
+    !member_names(one, row) || drop_member(changes, row)
+}
+
+fn join_goes_along(access: &Access, one: Referent, changes: &[Change], row: &JoinRow) -> bool
+    ensures { result
+        ≡ goes_along (join_names access.now.rows.catalog_roles one) drops_join changes.now row.now }
+{
+    !join_names(access, one, row) || drop_join(changes, row)
+}
+
+fn grant_goes_along(access: &Access, one: Referent, changes: &[Change], row: &GrantRow) -> bool
+    ensures { result
+        ≡ goes_along (grant_names access.now.rows.catalog_roles one) drops_grant changes.now row.now }
+{
+    !grant_names(access, one, row) || drop_grant(changes, row)
+}
+
+/// Whether the member names the referent.
+fn member_names(one: Referent, row: &MemberRow) -> bool
+    ensures { result ≡ member_names one row.now }
+{
+    match one {
+        Referent::Principal(id) => row.principal == id,
+        Referent::PrincipalRole(id) => row.role == id,
+        Referent::CatalogRole(_) | Referent::RoleOfCatalog(_) | Referent::Securable(_) => false,
+    }
+}
+
+/// Whether the join, one of these rows, names the referent.
+fn join_names(access: &Access, one: Referent, row: &JoinRow) -> bool
+    ensures { result ≡ join_names access.now.rows.catalog_roles one row.now }
+{
+    match one {
+        Referent::PrincipalRole(id) => row.principal_role == id,
+        Referent::CatalogRole(id) => row.catalog_role == id,
+        Referent::RoleOfCatalog(id) => is_role_of(access, id, row.catalog_role),
+        Referent::Principal(_) | Referent::Securable(_) => false,
+    }
+}
+
+/// Whether the grant, one of these rows, names the referent.
+fn grant_names(access: &Access, one: Referent, row: &GrantRow) -> bool
+    ensures { result ≡ grant_names access.now.rows.catalog_roles one row.now }
+{
+    match one {
+        Referent::CatalogRole(id) => row.catalog_role == id,
+        Referent::RoleOfCatalog(id) => is_role_of(access, id, row.catalog_role),
+        Referent::Securable(securable) => is_on(row, securable),
+        Referent::Principal(_) | Referent::PrincipalRole(_) => false,
+    }
+}
+
+/// Whether the role of this id is the catalogue's.
+fn is_role_of(access: &Access, catalog: u64, role: u64) -> bool
+    ensures { result ≡ is_role_of access.now.rows.catalog_roles catalog role }
+{
+    match access.catalog_role(role) {
+        Some(row) => row.catalog == catalog,
+        None => false,
+    }
+}
+
+fn is_on(row: &GrantRow, securable: Securable) -> bool
+    ensures { result ≡ same the_row.coded row.now.securable securable }
+{
+    row.securable == securable
+}
+
+/// Whether one of the changes drops the member.
+fn drop_member(changes: &[Change], row: &MemberRow) -> bool
+    ensures { result ≡ list_any (drops_member row.now) changes.now }
+{
+    changes.iter().any(|change| drops_member(change, row))
+}
+
+fn drops_member(change: &Change, row: &MemberRow) -> bool
+    ensures { result ≡ drops_member row.now change.now }
+{
+    match fact_dropped(change) {
+        Some(Dropped::Member(gone)) => is_same(&gone, row),
+        Some(Dropped::Join(_)) => false,
+        Some(Dropped::Grant(_)) => false,
+        None => false,
+    }
+}
+
+/// Whether one of the changes drops the join.
+fn drop_join(changes: &[Change], row: &JoinRow) -> bool
+    ensures { result ≡ list_any (drops_join row.now) changes.now }
+{
+    changes.iter().any(|change| drops_join(change, row))
+}
+
+fn drops_join(change: &Change, row: &JoinRow) -> bool
+    ensures { result ≡ drops_join row.now change.now }
+{
+    match fact_dropped(change) {
+        Some(Dropped::Join(gone)) => is_same(&gone, row),
+        Some(Dropped::Member(_)) => false,
+        Some(Dropped::Grant(_)) => false,
+        None => false,
+    }
+}
+
+/// Whether one of the changes drops the grant.
+fn drop_grant(changes: &[Change], row: &GrantRow) -> bool
+    ensures { result ≡ list_any (drops_grant row.now) changes.now }
+{
+    changes.iter().any(|change| drops_grant(change, row))
+}
+
+fn drops_grant(change: &Change, row: &GrantRow) -> bool
+    ensures { result ≡ drops_grant row.now change.now }
+{
+    match fact_dropped(change) {
+        Some(Dropped::Grant(gone)) => is_same(&gone, row),
+        Some(Dropped::Member(_)) => false,
+        Some(Dropped::Join(_)) => false,
+        None => false,
+    }
+}
+
+/// Whether the facts are the same one.
+fn is_same<T: Fact>(left: &T, right: &T) -> bool
+    ensures { result ≡ same T.coded left.now right.now }
+{
+    *left == *right
+}
