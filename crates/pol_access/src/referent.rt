@@ -16,7 +16,7 @@ pub enum Referent {
 
 impl Referent {
     /// Whether the member names this.
-    pub(crate) fn is_named_by_member(self, row: &MemberRow) -> bool
+    pub fn is_named_by_member(self, row: &MemberRow) -> bool
         ensures { result ≡ member_names self row.now }
     {
         match self {
@@ -27,7 +27,7 @@ impl Referent {
     }
 
     /// Whether the join, one of these rows, names this.
-    pub(crate) fn is_named_by_join(self, access: &Access, row: &JoinRow) -> bool
+    pub fn is_named_by_join(self, access: &Access, row: &JoinRow) -> bool
         ensures { result ≡ join_names access.now.rows.catalog_roles self row.now }
     {
         match self {
@@ -39,7 +39,7 @@ impl Referent {
     }
 
     /// Whether the grant, one of these rows, names this.
-    pub(crate) fn is_named_by_grant(self, access: &Access, row: &GrantRow) -> bool
+    pub fn is_named_by_grant(self, access: &Access, row: &GrantRow) -> bool
         ensures { result ≡ grant_names access.now.rows.catalog_roles self row.now }
     {
         match self {

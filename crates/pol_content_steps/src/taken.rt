@@ -1,12 +1,11 @@
 //! What a row that is dropped takes along: the members, joins and grants that name it.
 ghost use Rattle.std.specs.Prelude.{◌≡◌};
 ghost use Rattle.std.specs.List.{list_all, list_any};
-ghost use Rattle.pol_access.specs.Referent.{grant_names, is_role_of, join_names, member_names};
-ghost use Rattle.pol_access.specs.contracts.securable.Securable.{the_row};
+ghost use Rattle.pol_access.specs.Referent.{grant_names, join_names, member_names};
 ghost use Rattle.pol_content_steps.specs.Taken.{drops_grant, drops_join, drops_member, drops_named, fact_dropped, goes_along, takes_along};
 ghost use Rattle.pol_tables.specs.Same.{same};
 
-use pol_access::{Access, GrantRow, JoinRow, MemberRow, Referent, Securable};
+use pol_access::{Access, GrantRow, JoinRow, MemberRow, Referent};
 use pol_content::Change;
 use pol_tables::Fact;
 
@@ -75,9 +74,9 @@ fn drops_named(access: &Access, one: Referent, change: &Change) -> bool
     ensures { result ≡ drops_named access.now.rows.catalog_roles one change.now }
 {
     match fact_dropped(change) {
-        Some(Dropped::Member(row)) => member_names(one, &row),
-        Some(Dropped::Join(row)) => join_names(access, one, &row),
-        Some(Dropped::Grant(row)) => grant_names(access, one, &row),
+        Some(Dropped::Member(row)) => one.is_named_by_member(&row),
+        Some(Dropped::Join(row)) => one.is_named_by_join(access, &row),
+        Some(Dropped::Grant(row)) => one.is_named_by_grant(access, &row),
         None => false,
     }
 }
@@ -119,72 +118,21 @@ fn fact_dropped(change: &Change) -> Option<Dropped>
 fn member_goes_along(one: Referent, changes: &[Change], row: &MemberRow) -> bool
     ensures { result ≡ goes_along (member_names one) drops_member changes.now row.now }
 {
-    !member_names(one, row) || drop_member(changes, row)
+    !one.is_named_by_member(row) || drop_member(changes, row)
 }
 
 fn join_goes_along(access: &Access, one: Referent, changes: &[Change], row: &JoinRow) -> bool
     ensures { result
         ≡ goes_along (join_names access.now.rows.catalog_roles one) drops_join changes.now row.now }
 {
-    !join_names(access, one, row) || drop_join(changes, row)
+    !one.is_named_by_join(access, row) || drop_join(changes, row)
 }
 
 fn grant_goes_along(access: &Access, one: Referent, changes: &[Change], row: &GrantRow) -> bool
     ensures { result
         ≡ goes_along (grant_names access.now.rows.catalog_roles one) drops_grant changes.now row.now }
 {
-    !grant_names(access, one, row) || drop_grant(changes, row)
-}
-
-/// Whether the member names the referent.
-fn member_names(one: Referent, row: &MemberRow) -> bool
-    ensures { result ≡ member_names one row.now }
-{
-    match one {
-        Referent::Principal(id) => row.principal == id,
-        Referent::PrincipalRole(id) => row.role == id,
-        Referent::CatalogRole(_) | Referent::RoleOfCatalog(_) | Referent::Securable(_) => false,
-    }
-}
-
-/// Whether the join, one of these rows, names the referent.
-fn join_names(access: &Access, one: Referent, row: &JoinRow) -> bool
-    ensures { result ≡ join_names access.now.rows.catalog_roles one row.now }
-{
-    match one {
-        Referent::PrincipalRole(id) => row.principal_role == id,
-        Referent::CatalogRole(id) => row.catalog_role == id,
-        Referent::RoleOfCatalog(id) => is_role_of(access, id, row.catalog_role),
-        Referent::Principal(_) | Referent::Securable(_) => false,
-    }
-}
-
-/// Whether the grant, one of these rows, names the referent.
-fn grant_names(access: &Access, one: Referent, row: &GrantRow) -> bool
-    ensures { result ≡ grant_names access.now.rows.catalog_roles one row.now }
-{
-    match one {
-        Referent::CatalogRole(id) => row.catalog_role == id,
-        Referent::RoleOfCatalog(id) => is_role_of(access, id, row.catalog_role),
-        Referent::Securable(securable) => is_on(row, securable),
-        Referent::Principal(_) | Referent::PrincipalRole(_) => false,
-    }
-}
-
-/// Whether the role of this id is the catalogue's.
-fn is_role_of(access: &Access, catalog: u64, role: u64) -> bool
-    ensures { result ≡ is_role_of access.now.rows.catalog_roles catalog role }
-{
-    match access.catalog_role(role) {
-        Some(row) => row.catalog == catalog,
-        None => false,
-    }
-}
-
-fn is_on(row: &GrantRow, securable: Securable) -> bool
-    ensures { result ≡ same the_row.coded row.now.securable securable }
-{
-    row.securable == securable
+    !one.is_named_by_grant(access, row) || drop_grant(changes, row)
 }
 
 /// Whether one of the changes drops the member.
@@ -242,7 +190,7 @@ fn drops_grant(change: &Change, row: &GrantRow) -> bool
 }
 
 /// Whether the facts are the same one.
-fn is_same<T: Fact>(left: &T, right: &T) -> bool
+pub(crate) fn is_same<T: Fact>(left: &T, right: &T) -> bool
     ensures { result ≡ same T.coded left.now right.now }
 {
     *left == *right

@@ -11,8 +11,8 @@ use std::marker::Model;
 use std::slice;
 
 /// Rows in the order in which their ids came, each found by its id: by halves as long as ids rise, as those do that a
-/// counter gives out, and else by a scan. To take a row away moves those behind it, and looks at none of them. Contracts
-/// see the rows, and the room: how many more rows can be put without taking memory.
+/// counter gives out, and else by a scan. To take a row away moves those behind it, and looks at none of them.
+/// Contracts see the rows, and the room: how many more rows can be put without taking memory.
 #[derive(Debug, Drop)]
 pub struct Table<R: Keyed> {
     rows: Vec<R>,
