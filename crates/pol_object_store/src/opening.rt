@@ -79,8 +79,8 @@ fn is_fitting(
     ensures { IfOk result (λ fits. IsTrue fits ↔ IsFitting objects.now change.now) }
 {
     match change {
-        ObjectChange::Put { path, .. } => Ok(objects.find(alloc, path)?.is_none()),
-        ObjectChange::Delete { path } => Ok(objects.find(alloc, path)?.is_some()),
+        ObjectChange::Put { path, .. } => Ok(!objects.contains(alloc, path)?),
+        ObjectChange::Delete { path } => objects.contains(alloc, path),
     }
 }
 

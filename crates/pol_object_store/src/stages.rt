@@ -111,7 +111,7 @@ fn delete<D: Disk>(
     ensures formed { AreFormedBy (object_changes state.old (action.Delete path.now)) result }
     ensures kept { D.fault_count records.old.disk ≤ D.fault_count records.new.disk }
 {
-    if state.objects.find(alloc, path)?.is_none() {
+    if !state.objects.contains(alloc, path)? {
         return Ok(ObjectReply::Refused {
             rule: ObjectRule::NoObject,
         });

@@ -1,11 +1,11 @@
 -- The objects that a path covers: the one at it, and those whose texts go on behind its text with a `/`.
-use Rattle.std.proofs.Common.{◌≡◌, ◌≢◌, ◌⊎◌, ◌<◌, ℕ, Bool, true, false, not, cond, ◌&&◌, ◌||◌, List, [], ◌∷◌, ◌++◌, map, filter, drop, None, Some, refl, ap, sym, subst, ◌∙◌, inl, inr, true≢false, arith, append_assoc, append-nil}
+use Rattle.std.proofs.Common.{◌≡◌, ◌≢◌, ◌⊎◌, ◌<◌, ◌+◌, ℕ, zero, suc, take, Bool, true, false, not, cond, ◌&&◌, ◌||◌, List, [], ◌∷◌, ◌++◌, map, filter, drop, None, Some, refl, ap, sym, subst, ◌∙◌, inl, inr, true≢false, arith, append_assoc, append-nil}
 use Rattle.std.specs.Cmp.{both_ways, nat_cmp_total}
 use Rattle.std.specs.Cmp.Lexicographic.{nat_list_cmp_total}
-use Rattle.std.specs.List.{AllByRecursion, find, join_with_byte, slice_split}
+use Rattle.std.specs.List.{AllByRecursion, find, join_with_byte, prefix_len, slice_split, take_while}
 use Rattle.std.specs.List.Sorted.{IsStrictlySortedBy}
 use Rattle.std.specs.Map.{keys_of, lookup}
-use Rattle.std.specs.Ordering.{is_eq, is_gt, is_le, nat_cmp, ordering_then}
+use Rattle.std.specs.Ordering.{is_eq, is_le, is_lt, nat_cmp, ordering_reverse, ordering_then}
 use Rattle.std.specs.Prelude.{All, Option, ◌==◌, option_map}
 use Rattle.std.specs.declared.cmp.Ordering.{Ordering}
 use Rattle.std.specs.declared.cmp.Ordering.TheVariants.{Less, Equal, Greater}
@@ -18,7 +18,13 @@ use Rattle.pol_locations.proofs.Prefixes.{Covers-from_test, test-from_Covers}
 use Rattle.pol_locations.specs.Location.{Covers, IsLocation, IsSegment, is_cover, is_segment_byte, location_text, scheme, segments_of}
 use Rattle.pol_locations.proofs.Texts.{segments_of-location_text}
 use Rattle.pol_types.proofs.Joins.{slice_split-join_with_byte}
+use Rattle.pol_blocks.specs.Blocks.{flat, number_of}
+use Rattle.pol_blocks.specs.declared.place.Place.{Place}
+use Rattle.pol_blocks.proofs.Points.{place-within}
 use Rattle.pol_objects.proofs.Kept.{found, same_text, texts_tell}
+use Rattle.pol_objects.proofs.Places.{between-at}
+use Rattle.pol_objects.proofs.Searches.{below-parted}
+use Rattle.pol_objects.specs.Entries.{IsParting, IsRising, is_below}
 use Rattle.pol_objects.specs.Objects.{IsKept, Object, byte_order, has_text, is_at, is_between, kept_objects, keyed, object_with, path_of, paths_behind, paths_under}
 
 -- a byte that is at least `/` and below `0`
@@ -258,10 +264,48 @@ listed entries text path kept own location =
     ∙ ap (λ text. filter (λ object. has_text text object || behind text object) objects) own
     ∙ sym (covers-filter path objects location kept.located))
 
--- the range between the two runs forward
-pub forward : (text first end : List ℕ) → first ≡ text ++ 0x2F ∷ [] → end ≡ text ++ 0x30 ∷ [] → is_gt (byte_order first end) ≡ false
-forward text first end from to = ap (λ own. is_gt (byte_order own end)) from ∙ ap (λ other. is_gt (byte_order (text ++ 0x2F ∷ []) other)) to ∙ by_text text
-  where
-    by_text : (text : List ℕ) → is_gt (byte_order (text ++ 0x2F ∷ []) (text ++ 0x30 ∷ [])) ≡ false
-    by_text [] = refl
-    by_text (x ∷ text) = subst (λ order. is_gt (ordering_then order (byte_order (text ++ 0x2F ∷ []) (text ++ 0x30 ∷ []))) ≡ false) (sym (tied_itself nat_cmp_total x)) (by_text text)
+-- an entry in front of the end of the range
+abbrev pub is_early : List ℕ → List ℕ × List ℕ → Bool
+is_early text entry = is_below (text ++ 0x30 ∷ []) entry
+
+le_not_lt : (order : Ordering) → is_le (ordering_reverse order) ≡ not (is_lt order)
+le_not_lt Less = refl
+le_not_lt Equal = refl
+le_not_lt Greater = refl
+
+not_le_lt : (order : Ordering) → not (is_le (ordering_reverse order)) ≡ is_lt order
+not_le_lt Less = refl
+not_le_lt Equal = refl
+not_le_lt Greater = refl
+
+-- the range is what isn't in front of its first text and is in front of its end
+between-tests : (text : List ℕ) (entry : List ℕ × List ℕ) → is_between text entry.0 ≡ (not (is_below (text ++ 0x2F ∷ []) entry) && is_early text entry)
+between-tests text entry =
+    let first : is_le (byte_order (text ++ 0x2F ∷ []) entry.0) ≡ not (is_lt (byte_order entry.0 (text ++ 0x2F ∷ []))) =
+    ap is_le (nat_list_cmp_total.antisymm (text ++ 0x2F ∷ []) entry.0) ∙ le_not_lt (byte_order entry.0 (text ++ 0x2F ∷ [])) in
+    let end : not (is_le (byte_order (text ++ 0x30 ∷ []) entry.0)) ≡ is_lt (byte_order entry.0 (text ++ 0x30 ∷ [])) =
+    ap (λ order. not (is_le order)) (nat_list_cmp_total.antisymm (text ++ 0x30 ∷ []) entry.0) ∙ not_le_lt (byte_order entry.0 (text ++ 0x30 ∷ [])) in
+    λ i. first i && end i
+
+filter-same : {A : Type 0} (one other : A → Bool) (items : List A) → ((item : A) → one item ≡ other item) → filter one items ≡ filter other items
+filter-same one other [] same = refl
+filter-same one other (x ∷ items) same = λ i. cond (same x i) (x ∷ filter-same one other items same i) (filter-same one other items same i)
+
+-- the entries of the range are those from its first place on that are in front of its end
+pub range-at : (text first : List ℕ) (blocks : List (List (List ℕ × List ℕ))) (place : Place) → first ≡ text ++ 0x2F ∷ [] → IsRising (flat blocks) → IsParting first blocks place →
+    take_while (is_early text) (drop (number_of blocks place) (flat blocks)) ≡ filter (λ entry. is_between text entry.0) (flat blocks)
+range-at text first blocks place is rising parting =
+    let own = subst (λ some. IsParting some blocks place) is parting in
+    sym (between-at (is_early text) (is_below (text ++ 0x2F ∷ [])) (flat blocks) (number_of blocks place) own.front own.behind (place-within blocks place own.within) (below-parted (text ++ 0x30 ∷ []) (flat blocks) rising))
+    ∙ sym (filter-same (λ entry. is_between text entry.0) (λ entry. not (is_below (text ++ 0x2F ∷ []) entry) && is_early text entry) (flat blocks) (between-tests text))
+
+pub each-drop : {A : Type 0} (P : A → Type 0) (n : ℕ) (items : List A) → AllByRecursion P items → AllByRecursion P (drop n items)
+each-drop P zero items each = each
+each-drop P (suc n) [] each = tt
+each-drop P (suc n) (x ∷ items) each = each-drop P n items each.1
+
+-- the first of the items that are left
+pub early-first : {A : Type 0} (test : A → Bool) (x : A) (items : List A) → test x ≡ true → take_while test (x ∷ items) ≡ x ∷ take_while test items
+early-first test x items is =
+    ap (λ b. take (cond b (1 + prefix_len test items) 0) (x ∷ items)) is
+    ∙ ap (λ n. take n (x ∷ items)) (let e : 1 + prefix_len test items ≡ suc (prefix_len test items) = omega arith in e)

@@ -1,12 +1,12 @@
 -- How objects are kept under their texts, found, added and taken away.
-use Rattle.std.proofs.Common.{◌≡◌, ℕ, Bool, true, false, not, cond, List, [], ◌∷◌, map, filter, None, Some, refl, ap, sym, subst, ◌∙◌}
+use Rattle.std.proofs.Common.{◌≡◌, ℕ, Bool, true, false, not, cond, List, [], ◌∷◌, map, filter, None, Some, Ok, Err, Result, refl, ap, sym, subst, ◌∙◌}
 use Rattle.std.specs.BTreeMap.{insert_entry}
 use Rattle.std.specs.Cmp.Lexicographic.{bytes_decides, texts_ties}
 use Rattle.std.specs.List.{AllByRecursion, find}
 use Rattle.std.specs.List.Sorted.{IsStrictlySortedBy}
 use Rattle.std.specs.Map.{keys_of, lookup, remove_entry}
 use Rattle.std.specs.Ordering.{is_eq, is_lt, match_ordering}
-use Rattle.std.specs.Prelude.{Option, if◌then◌else◌, option_map}
+use Rattle.std.specs.Prelude.{IfOk, Option, if◌then◌else◌, is_some, length, option_map}
 use Rattle.std.specs.declared.cmp.Ordering.{Ordering}
 use Rattle.std.specs.declared.cmp.Ordering.TheVariants.{Less, Equal, Greater}
 use Rattle.std.proofs.lemmas.Map.Keys.{sorted_head, sorted_tail}
@@ -168,3 +168,43 @@ removed entries after text path kept own is rising =
 pub unchanged : (entries after : List (List ℕ × List ℕ)) → IsKept entries → after ≡ entries → Keeps after (kept_objects entries)
 unchanged entries after kept same =
     record { kept = subst IsKept (sym same) kept; holds = ap kept_objects same }
+
+-- nothing is kept
+pub none-kept : IsKept []
+unfolding IsStrictlySortedBy
+none-kept = record { under = refl; rising = tt; located = tt }
+
+-- whether there is an object, and how many bytes it has, by the bytes that are kept under its text
+option-there : (path : List (List ℕ)) (bytes : Option (List ℕ)) → is_some bytes ≡ is_some (option_map (object_with path) bytes)
+option-there path None = refl
+option-there path (Some bytes) = refl
+
+pub there : (entries : List (List ℕ × List ℕ)) (text : List ℕ) (path : List (List ℕ)) → IsKept entries → IsLocation path → text ≡ location_text path →
+    is_some (lookup (λ key. is_eq (byte_order text key)) entries) ≡ is_some (object_at (kept_objects entries) path)
+there entries text path kept location own =
+    option-there path (lookup (λ key. is_eq (byte_order text key)) entries) ∙ ap is_some (found entries text path kept location own)
+
+option-long : (path : List (List ℕ)) (bytes : Option (List ℕ)) → option_map length bytes ≡ option_map (λ object. length object.bytes) (option_map (object_with path) bytes)
+option-long path None = refl
+option-long path (Some bytes) = refl
+
+pub long : (entries : List (List ℕ × List ℕ)) (text : List ℕ) (path : List (List ℕ)) → IsKept entries → IsLocation path → text ≡ location_text path →
+    option_map length (lookup (λ key. is_eq (byte_order text key)) entries) ≡ option_map (λ object. length object.bytes) (object_at (kept_objects entries) path)
+long entries text path kept location own =
+    option-long path (lookup (λ key. is_eq (byte_order text key)) entries) ∙ ap (option_map (λ object. length object.bytes)) (found entries text path kept location own)
+
+-- bytes that were found are those of the object
+pub if-found : {E : Type 0} (path : List (List ℕ)) (bytes : Option (List ℕ)) (object : Option Object) (result : Result (Option (List ℕ)) E) → option_map (object_with path) bytes ≡ object →
+    IfOk result (λ found. found ≡ bytes) → IfOk result (λ found. option_map (object_with path) found ≡ object)
+if-found path bytes object (Ok found) is own = ap (option_map (object_with path)) own ∙ is
+if-found path bytes object (Err e) is own = tt
+
+-- no object is there, so nothing is kept under its text
+no-bytes : (path : List (List ℕ)) (bytes : Option (List ℕ)) → option_map (object_with path) bytes ≡ None → bytes ≡ None
+no-bytes path None none = refl
+no-bytes path (Some bytes) none = cc
+
+pub new-text : (entries : List (List ℕ × List ℕ)) (text : List ℕ) (path : List (List ℕ)) → IsKept entries → IsLocation path → text ≡ location_text path →
+    object_at (kept_objects entries) path ≡ None → lookup (λ key. is_eq (byte_order text key)) entries ≡ None
+new-text entries text path kept location own none =
+    no-bytes path (lookup (λ key. is_eq (byte_order text key)) entries) (found entries text path kept location own ∙ none)

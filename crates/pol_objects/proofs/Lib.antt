@@ -1,4 +1,7 @@
 pub mod Covered
+pub mod Searches
 pub mod Kept
 pub mod Machines
+pub mod Places
 pub mod Sizes
+pub mod Texts

@@ -1,10 +1,9 @@
 -- What the rules of a put answer.
-use Rattle.std.proofs.Common.{◌≡◌, ◌≤◌, ◌<◌, ◌+◌, ◌-◌, ◌^◌, ℕ, true, false, List, length, min, None, Some, is_some, refl, ap, sym, ◌∙◌, arith}
-use Rattle.std.specs.Borrow.{Bor}
-use Rattle.std.specs.Prelude.{Option, nat_lt, option_copied, option_map}
+use Rattle.std.proofs.Common.{◌≡◌, ◌≤◌, ◌<◌, ◌+◌, ◌-◌, ◌^◌, ℕ, true, false, List, length, min, None, Some, is_some, refl, ap, arith}
+use Rattle.std.specs.Prelude.{nat_lt}
 use Rattle.std.proofs.lemmas.Grind.{common_steps}
 use Rattle.pol_objects.specs.Machine.{put_refusal}
-use Rattle.pol_objects.specs.Objects.{Object, object_at, object_with}
+use Rattle.pol_objects.specs.Objects.{object_at}
 use Rattle.pol_objects.specs.Rules.{size_refusal}
 use Rattle.pol_objects.specs.declared.object_state.ObjectState.{ObjectState}
 use Rattle.pol_objects.specs.declared.rule.ObjectRule.TheVariants.{ObjectThere, TooLong, SpaceFull}
@@ -31,21 +30,10 @@ fits counted length sum within is below =
     let room : nat_lt 268435456 (counted + length) ≡ false = grind (arith, common_steps) in
     rw (short, room) refl
 
--- an object is found where it is lent
-pub lent : (path : List (List ℕ)) (found : Option (Bor (List ℕ))) → is_some (option_map (object_with path) (option_copied found)) ≡ is_some found
-lent path None = refl
-lent path (Some bytes) = refl
-
-pub there : (state : ObjectState) (path : List (List ℕ)) (bytes : List ℕ) (found : Option Object) → found ≡ object_at state.objects path → is_some found ≡ true →
-    Some ObjectThere ≡ put_refusal state path bytes
+pub there : (state : ObjectState) (path : List (List ℕ)) (bytes : List ℕ) → is_some (object_at state.objects path) ≡ true → Some ObjectThere ≡ put_refusal state path bytes
 unfolding put_refusal
-there state path bytes found is some =
-    let test : is_some (object_at state.objects path) ≡ true = ap is_some (sym is) ∙ some in
-    rw test refl
+there state path bytes some = rw some refl
 
-pub new : (state : ObjectState) (path : List (List ℕ)) (bytes : List ℕ) (found : Option Object) → found ≡ object_at state.objects path → is_some found ≡ false →
-    size_refusal state.counted (length bytes) ≡ put_refusal state path bytes
+pub new : (state : ObjectState) (path : List (List ℕ)) (bytes : List ℕ) → is_some (object_at state.objects path) ≡ false → size_refusal state.counted (length bytes) ≡ put_refusal state path bytes
 unfolding put_refusal
-new state path bytes found is none =
-    let test : is_some (object_at state.objects path) ≡ false = ap is_some (sym is) ∙ none in
-    rw test refl
+new state path bytes none = rw none refl

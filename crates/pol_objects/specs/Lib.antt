@@ -1,3 +1,5 @@
+pub mod Contents
+pub mod Entries
 pub mod Laws
 pub mod Machine
 pub mod Objects

@@ -2,6 +2,9 @@
 #![tactic(auto)]
 
 mod action;
+mod content;
+mod entries;
+mod entry;
 pub mod laws;
 mod object_map;
 mod object_state;

@@ -41,27 +41,26 @@ impl ObjectState {
         }
     }
 
-    /// The bytes of the object at this path.
-    pub fn get(&self, alloc: Global, path: &Location) -> Result<ObjectReply, OutOfMemory>
-        ensures { IfOk result (λ reply. reply ≡ object_reply self.now (action.Get path.now)) }
+    /// The bytes of the object at this path. They have one owner more, and the state stays.
+    pub fn get(&mut self, alloc: Global, path: &Location) -> Result<ObjectReply, OutOfMemory>
+        ensures reply { IfOk result (λ reply. reply ≡ object_reply self.old (action.Get path.now)) }
+        ensures kept { self.new ≡ self.old }
     {
-        let Some(bytes) = self.objects.find(alloc, path)? else {
+        let Some(bytes) = self.objects.get(alloc, path)? else {
             return Ok(no_object());
         };
-        Ok(ObjectReply::Bytes {
-            bytes: bytes.clone()?,
-        })
+        Ok(ObjectReply::Bytes { bytes })
     }
 
     /// How many bytes the object at this path has.
     pub fn head(&self, alloc: Global, path: &Location) -> Result<ObjectReply, OutOfMemory>
         ensures { IfOk result (λ reply. reply ≡ object_reply self.now (action.Head path.now)) }
     {
-        let Some(bytes) = self.objects.find(alloc, path)? else {
+        let Some(length) = self.objects.length(alloc, path)? else {
             return Ok(no_object());
         };
         Ok(ObjectReply::Length {
-            length: bytes.len() as u64,
+            length: length as u64,
         })
     }
 
@@ -89,10 +88,10 @@ impl ObjectState {
         ensures next { OnOk result (self.new ≡ object_next self.old (action.Delete path.now)) }
         ensures error { OnErr result (self.new ≡ self.old) }
     {
-        match self.objects.remove(alloc, path)? {
-            Some(_) => Ok(ObjectReply::Deleted),
-            None => Ok(no_object()),
+        if !self.objects.remove(alloc, path)? {
+            return Ok(no_object());
         }
+        Ok(ObjectReply::Deleted)
     }
 
     /// The paths of the objects that this path covers, in byte order of their texts.
@@ -113,7 +112,7 @@ impl ObjectState {
     ) -> Result<Option<ObjectRule>, OutOfMemory>
         ensures { IfOk result (λ refusal. refusal ≡ put_refusal self.now path.now bytes.now) }
     {
-        if self.objects.find(alloc, path)?.is_some() {
+        if self.objects.contains(alloc, path)? {
             return Ok(Some(ObjectRule::ObjectThere));
         }
         Ok(size_refusal(self.counted, bytes.len()))

@@ -1,4 +1,4 @@
-ghost use Rattle.std.specs.Prelude.{◌≡◌, ◌↔◌, IfOk, IsTrue, List, ℕ, [], length};
+ghost use Rattle.std.specs.Prelude.{◌≡◌, ◌↔◌, ◌≤◌, IfOk, IsTrue, [], drop, length};
 ghost use Rattle.std.specs.Arc.{arc_value};
 
 use pol_types::{Bytes, OutOfMemory};
@@ -7,17 +7,23 @@ use std::fmt;
 use std::marker::Model;
 use std::sync::Arc;
 
-/// Bytes that have several owners, in any threads: a copy is one owner more, and copies no byte. Contracts see the
-/// list of the bytes.
+/// Bytes that have several owners, in any threads: a copy is one owner more, and copies no byte. They may be the last
+/// ones of what the owners have. Contracts see the list of the bytes.
 #[derive(Drop)]
 pub struct SharedBytes {
     bytes: Arc<Bytes, Global>,
+    start: usize,
 }
 
 impl Model for SharedBytes {
+    ghost use Rattle.std.specs.Prelude.{◌≤◌, List, ℕ, drop, length};
+    ghost use Rattle.std.specs.Arc.{arc_value};
+
     ghost Value = { List ℕ };
 
-    ghost view = { λ shared. arc_value shared.bytes };
+    ghost view = { λ shared. drop shared.start (arc_value shared.bytes) };
+
+    ghost invariant = { λ shared. shared.start ≤ length (arc_value shared.bytes) };
 }
 
 impl SharedBytes {
@@ -27,6 +33,18 @@ impl SharedBytes {
     {
         Ok(SharedBytes {
             bytes: Arc::new(alloc, bytes)?,
+            start: 0,
+        })
+    }
+
+    /// One owner more of bytes that others have, seen from a place on.
+    pub fn behind(bytes: &Arc<Bytes, Global>, start: usize) -> Result<Self, OutOfMemory>
+        requires { start ≤ length (arc_value bytes.now) }
+        ensures { IfOk result (λ shared. shared ≡ drop start (arc_value bytes.now)) }
+    {
+        Ok(SharedBytes {
+            bytes: Arc::try_clone(bytes)?,
+            start,
         })
     }
 
@@ -34,7 +52,7 @@ impl SharedBytes {
         ensures { result.now ≡ self.now }
     {
         let bytes = &*self.bytes;
-        bytes.as_slice()
+        &bytes.as_slice()[self.start..]
     }
 
     pub fn len(&self) -> usize
@@ -56,6 +74,7 @@ impl Clone for SharedBytes {
     fn clone(&self) -> Result<Self, AllocError> {
         Ok(SharedBytes {
             bytes: Arc::try_clone(&self.bytes)?,
+            start: self.start,
         })
     }
 }

@@ -4,7 +4,6 @@ use Rattle.pol_codec.specs.declared.objects.ObjectChange.TheVariants as change
 use Rattle.pol_objects.specs.Objects.{Object, object_at}
 use Rattle.pol_objects.specs.declared.object_state.ObjectState.{ObjectState}
 use Rattle.pol_objects.proofs.Machines.{all_kept}
-use Rattle.pol_objects.proofs.Sizes.{lent}
 use Rattle.pol_object_store.specs.ObjectRecords.{change_of_delete}
 use Rattle.pol_object_store.proofs.stages.delete.Goals as goal
 
@@ -16,15 +15,15 @@ made_there : (found : Option Object) (made : ObjectChange) → is_some found ≡
 made_there None made some = cc
 made_there (Some object) made some = refl
 
-pub returns-then-is_none-clause-next : goal.returns-then-is_none-clause-next
-returns-then-is_none-clause-next g c =
+pub returns-then-not-branch-clause-next : goal.returns-then-not-branch-clause-next
+returns-then-not-branch-clause-next g c =
     let state = c.args.state.now in
-    let none = none_there (object_at state.objects c.args.path.now) (ap is_some (sym c.in_ok-find.ensures) ∙ lent c.args.path.now c.in_ok-find.field-0 ∙ c.if-is_none.ensures) in
+    let none = none_there (object_at state.objects c.args.path.now) (sym c.in_ok-contains.ensures ∙ c.if-not-branch.true) in
     let put_back : List Object → ObjectState = λ objects. record { objects = objects; counted = state.counted } in
     ap put_back (sym (all_kept c.args.path.now state.objects none))
 
 pub returns-clause-recorded : goal.returns-clause-recorded
 returns-clause-recorded g c =
-    let there = ap is_some (sym c.in_ok-find.ensures) ∙ lent c.args.path.now c.in_ok-find.field-0 ∙ c.if-is_none.ensures in
+    let there = sym c.in_ok-contains.ensures ∙ c.if-not-branch.false in
     rw (made_there (object_at c.args.state.now.objects c.args.path.now) (change.Delete c.args.path.now) there, c.in_ok-body.ensures.1, ← c.as_slice.ensures.value)
     c.in_ok-write.ensures.recorded

@@ -1,0 +1,4 @@
+pub mod Exchanged
+pub mod Flats
+pub mod Points
+pub mod Replaced
