@@ -159,7 +159,7 @@ fn lacks_catalog_role(state: &State, row: &CatalogRoleRow) -> bool
 }
 
 /// Whether there may be one more catalogue role.
-fn may_have_catalog_role(access: &Access) -> bool
+pub fn may_have_catalog_role(access: &Access) -> bool
     ensures { result ≡ nat_lt (length access.now.rows.catalog_roles)
         (bound_of quantity.CatalogRoles) }
 {

@@ -8,4 +8,4 @@ mod holders;
 
 pub use counters::{Counters, counters_of, is_new_id, is_new_serial, may_follow};
 pub use facts::is_sound_fact;
-pub use holders::is_sound_holder;
+pub use holders::{is_sound_holder, may_have_catalog_role};

@@ -1,13 +1,14 @@
 -- A sound state without a row, and without what names it, is sound.
-use Rattle.std.proofs.Common.{◌≡◌, ◌≢◌, ℕ, Bool, true, false, not, ◌&&◌, nat_le, codes, List, length, Option, None, Some, option_map, refl, sym, ap, subst, ◌∙◌, true≢false}
+use Rattle.std.proofs.Common.{◌≡◌, ◌≢◌, ℕ, Bool, true, false, not, ◌&&◌, nat_le, codes, nat_eq, cond, List, [], ◌∷◌, filter, length, Option, None, Some, option_map, refl, sym, ap, subst, ◌∙◌, true≢false}
 use Rattle.std.specs.Prelude.{Decides}
 use Rattle.std.specs.List.{fold, list_all, AllByRecursion}
 use Rattle.std.specs.Str.{bytes_eq}
 use Rattle.std.proofs.lemmas.Bool.{and_from, and_parts}
-use Rattle.pol_access.specs.Access.{AccessRows, catalog_role_dropped, catalog_role_id, catalog_role_name, grants_on_dropped, principal_dropped, principal_id, principal_name, principal_role_dropped, principal_role_id, principal_role_name}
+use Rattle.pol_access.specs.Access.{AccessRows, catalog_role_dropped, catalog_roles_dropped, catalog_role_id, catalog_role_name, grants_on_dropped, principal_dropped, principal_id, principal_name, principal_role_dropped, principal_role_id, principal_role_name}
 use Rattle.pol_access.specs.declared.referent.Referent.{Referent}
 use Rattle.pol_access.specs.declared.referent.Referent.TheVariants as referent
 use Rattle.pol_access.specs.declared.rows.CatalogRoleRow.{CatalogRoleRow}
+use Rattle.pol_access.specs.declared.rows.MemberRow.{MemberRow}
 use Rattle.pol_access.specs.declared.rows.PrincipalRoleRow.{PrincipalRoleRow}
 use Rattle.pol_access.specs.declared.rows.PrincipalRow.{PrincipalRow}
 use Rattle.pol_access.specs.declared.securable.Securable.{Securable}
@@ -15,9 +16,9 @@ use Rattle.pol_access.specs.declared.securable.Securable.TheVariants as securabl
 use Rattle.pol_access.proofs.KeptLemmas.{not-true}
 use Rattle.pol_access.proofs.SoundLemmas as access
 use Rattle.pol_commands.specs.declared.reply.Quantity.TheVariants as quantity
-use Rattle.pol_content.specs.Content.{is_empty, namespace_id}
+use Rattle.pol_content.specs.Content.{catalog_id, catalog_is_empty, is_empty, namespace_id}
 use Rattle.pol_content.specs.declared.change.Change.{Change}
-use Rattle.pol_content.specs.declared.change.Change.TheVariants.{DropCatalogRole, DropNamespace, DropPrincipal, DropPrincipalRole, DropTable, DropView}
+use Rattle.pol_content.specs.declared.change.Change.TheVariants.{DropCatalog, DropCatalogRole, DropNamespace, DropPrincipal, DropPrincipalRole, DropTable, DropView}
 use Rattle.pol_content.proofs.SoundLemmas as content
 use Rattle.pol_content.proofs.SoundLemmas.{no-parts}
 use Rattle.pol_content.proofs.SoundViewsLemmas as views
@@ -27,10 +28,10 @@ use Rattle.pol_content.proofs.TiesLemmas as ties
 use Rattle.pol_rules.proofs.FitLemmas.{fit-dropped}
 use Rattle.pol_rules.proofs.FoundLemmas.{text-same}
 use Rattle.pol_sound_access.proofs.DecidedLemmas.{each, passes}
-use Rattle.pol_sound_bounds.specs.Judged.{fits, namespace_fits, table_fits, view_fits}
-use Rattle.pol_content_steps.specs.Drops.{has_other_name, may_drop_catalog_role, may_drop_namespace, may_drop_principal, may_drop_principal_role, may_drop_table, may_drop_view}
+use Rattle.pol_sound_bounds.specs.Judged.{catalog_fits, fits, namespace_fits, table_fits, view_fits}
+use Rattle.pol_content_steps.specs.Drops.{has_other_name, is_alone, may_drop_catalog, may_drop_catalog_role, may_drop_namespace, may_drop_principal, may_drop_principal_role, may_drop_table, may_drop_view}
 use Rattle.pol_content_steps.specs.Taken.{takes_along}
-use Rattle.pol_content_steps.proofs.TakenLemmas.{all_unnamed, few-kept, taken-along, unnamed-fit, whole}
+use Rattle.pol_content_steps.proofs.TakenLemmas.{all_unnamed, few-kept, taken-along, taken-among, unnamed-fit, whole}
 use Rattle.pol_access_steps.specs.Counters.{counted, may_follow}
 use Rattle.pol_access_steps.specs.declared.counters.Counters.{Counters}
 use Rattle.pol_access_steps.proofs.BoundsLemmas.{fits-of, namespaces-fit, tables-fit, views-fit, within-of, Fits}
@@ -147,6 +148,22 @@ closed one s rest after takes is f orderly =
       within = within-of (with after) (subst (λ rows. Fits (with rows)) is (unnamed-fit one s f));
     })
 
+-- two tests that pass together are the same
+same-test : (left right : Bool) → cond left right (not right) ≡ true → left ≡ right
+same-test true true both = refl
+same-test true false both = absurd (true≢false (sym both))
+same-test false true both = absurd (true≢false (sym both))
+same-test false false both = refl
+
+-- roles without the only one of a catalogue are those that are not the catalogue's
+only-left : (id only : ℕ) (roles : List CatalogRoleRow) → list_all (is_alone id only) roles ≡ true → rows_without catalog_role_id only roles ≡ filter (λ role. not (nat_eq role.catalog id)) roles
+unfolding rows_without
+only-left id only [] all = refl
+only-left id only (role ∷ roles) all =
+    let parts = and_parts (is_alone id only role) (list_all (is_alone id only) roles) all in
+    let rest = only-left id only roles parts.1 in
+    λ i. cond (not (same-test (nat_eq only role.id) (nat_eq role.catalog id) parts.0 i)) (role ∷ rest i) (rest i)
+
 -- no member and no join names a securable
 on-securable : (one : Securable) (rows : AccessRows) → all_unnamed (referent.Securable one) rows ≡ grants_on_dropped one rows
 on-securable one rows =
@@ -256,6 +273,51 @@ module _ (s : Rows) (sound : IsSound s) where
       (catalog_roles-fit s f (rows_without catalog_role_id id rows) (few-without catalog_role_id id rows (bound_of quantity.CatalogRoles) (few-holders s f).catalog_roles))
       (with-access after itself (subst (λ n. AreTied (catalog_role_dropped n s.access) s.content) gone.id_is are))
 
+  -- the bounds without a catalogue, its roles, and what names these
+  few-left : (id : ℕ) → Fits (record (changed s (DropCatalog id)) { access = catalog_roles_dropped id s.access })
+  few-left id =
+      let one : Referent = referent.RoleOfCatalog id in
+      let roles = s.access.catalog_roles in
+      let catalogs = s.content.catalogs in
+      let kept = filter (λ role. not (nat_eq role.catalog id)) roles in
+      let facts = unnamed-fit one s f in
+      let facts_left : Rows = record s { access = all_unnamed one s.access } in
+      let few = catalog_roles-fit facts_left facts kept (few-kept (λ role. not (nat_eq role.catalog id)) (bound_of quantity.CatalogRoles) roles (few-holders s f).catalog_roles) in
+      let left : List MemberRow → Rows = λ members. record (changed s (DropCatalog id)) { access = record (catalog_roles_dropped id s.access) { members = members } } in
+      subst (λ members. Fits (left members)) (whole s.access.members) (record {
+        parts = (few-without catalog_id id catalogs (bound_of quantity.Catalogs) f.parts.0, f.parts.1);
+        holders = few.holders;
+        facts = few.facts;
+        counters = f.counters;
+        numbers = (all-without catalog_id id catalogs catalog_fits f.numbers.0, f.numbers.1);
+      })
+
+  catalog-dropped : (id only : ℕ) (rest : List Change) → may_drop_catalog s id only rest ≡ true → IsSound (fold changed (changed (changed s (DropCatalog id)) (DropCatalogRole only)) rest)
+  catalog-dropped id only rest may =
+      let roles = s.access.catalog_roles in
+      let empty = catalog_is_empty id s.content in
+      let alone = list_all (is_alone id only) roles in
+      let takes = takes_along (referent.RoleOfCatalog id) s.access rest in
+      let first = and_parts empty (alone && takes) may in
+      let last = and_parts alone takes first.1 in
+      let gone : Rows = changed (changed s (DropCatalog id)) (DropCatalogRole only) in
+      let after : Rows = record (changed s (DropCatalog id)) { access = catalog_roles_dropped id s.access } in
+      let is : fold changed gone rest ≡ after =
+      taken-among (referent.RoleOfCatalog id) roles gone rest last.1
+      ∙ (λ i. record after { access = record (catalog_roles_dropped id s.access) { catalog_roles = only-left id only roles last.0 i; members = whole s.access.members i } }) in
+      subst IsSound (sym is) (record {
+        orderly = record {
+          access = (access.dropped_catalog_roles s.next_id id s.access sound.orderly.access).1;
+          content = content.dropped_catalog s.next_id id s.content sound.orderly.content first.0;
+          ties = tied.dropped_catalog s.access s.content sound.orderly.ties id (IdsDiffer-rising catalog_role_id roles sound.orderly.access.catalog_roles.rise);
+          tokens = sound.orderly.tokens;
+          tokens_fit = sound.orderly.tokens_fit;
+          time_bound = sound.orderly.time_bound;
+          charged_bound = sound.orderly.charged_bound;
+        };
+        within = within-of after (few-left id);
+      })
+
 -- the state is sound with these counters, and once a change is made and then the others
 abbrev pub SoundWithout : Rows → Counters → List Change → Change → Type 0
 SoundWithout s counters rest first = IsSound (fold changed (changed (counted s counters) first) rest)
@@ -282,3 +344,6 @@ module _ (s : Rows) (sound : IsSound s) (counters : Counters) (follows : may_fol
 
   pub dropped_catalog_role-sound : may_drop_catalog_role s id rest ≡ true → SoundWithout s counters rest (DropCatalogRole id)
   dropped_catalog_role-sound = catalog_role-dropped (counted s counters) base id rest
+
+  pub dropped_catalog-sound : (only : ℕ) → may_drop_catalog s id only rest ≡ true → SoundWithout s counters (DropCatalogRole only ∷ rest) (DropCatalog id)
+  dropped_catalog-sound only = catalog-dropped (counted s counters) base id only rest

@@ -1,3 +1,4 @@
+pub mod CatalogLemmas
 pub mod DropLemmas
 pub mod NameLemmas
 pub mod NamespaceLemmas

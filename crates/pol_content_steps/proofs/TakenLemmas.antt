@@ -178,11 +178,19 @@ module _ (one : Referent) where
     grants = unnamed (grant_names access.catalog_roles one) access.grants;
   }
 
+  -- the rows without the facts that name a referent, where the catalogue roles were these
+  abbrev pub unnamed_among : List CatalogRoleRow → AccessRows → AccessRows
+  unnamed_among roles access = record access {
+    members = unnamed (member_names one) access.members;
+    joins = unnamed (join_names roles one) access.joins;
+    grants = unnamed (grant_names roles one) access.grants;
+  }
+
   -- changes that drop exactly these facts lead to them
-  pub taken-along : (s : Rows) (changes : List Change) → takes_along one s.access changes ≡ true → fold changed s changes ≡ record s { access = all_unnamed s.access }
-  taken-along s changes takes =
+  pub taken-among : (roles : List CatalogRoleRow) (s : Rows) (changes : List Change) → takes_along one (record s.access { catalog_roles = roles }) changes ≡ true
+      → fold changed s changes ≡ record s { access = unnamed_among roles s.access }
+  taken-among roles s changes takes =
       let access = s.access in
-      let roles = access.catalog_roles in
       let each = list_all (drops_named roles one) changes in
       let members = list_all (goes_along (member_names one) drops_member changes) access.members in
       let joins = list_all (goes_along (join_names roles one) drops_join changes) access.joins in
@@ -201,6 +209,10 @@ module _ (one : Referent) where
       access.grants last.1 in
       all-left roles one changes s first.0
       ∙ (λ i. record s { access = record access { members = members_left i; joins = joins_left i; grants = grants_left i } })
+
+  -- and where the catalogue roles are those that were
+  pub taken-along : (s : Rows) (changes : List Change) → takes_along one s.access changes ≡ true → fold changed s changes ≡ record s { access = all_unnamed s.access }
+  taken-along s = taken-among s.access.catalog_roles s
 
   -- and they are within the bounds that all of them were
   pub unnamed-fit : (s : Rows) → Fits s → Fits (record s { access = all_unnamed s.access })

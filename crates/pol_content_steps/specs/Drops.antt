@@ -1,11 +1,13 @@
 -- The tests that rows pass which changes may take from a sound state: the first takes the row, and the rest what names it.
-use Rattle.std.specs.Prelude.{ℕ, Bool, false, not, ◌&&◌, List, Option, None, Some, codes}
+use Rattle.std.specs.Prelude.{ℕ, Bool, false, not, ◌&&◌, nat_eq, if◌then◌else◌, List, Option, None, Some, codes}
+use Rattle.std.specs.List.{list_all}
 use Rattle.std.specs.Option.{option_map}
 use Rattle.std.specs.Str.{bytes_eq}
 use Rattle.pol_access.specs.Access.{catalog_role_id, catalog_role_name, principal_id, principal_name, principal_role_id, principal_role_name}
 use Rattle.pol_access.specs.declared.referent.Referent.TheVariants as referent
+use Rattle.pol_access.specs.declared.rows.CatalogRoleRow.{CatalogRoleRow}
 use Rattle.pol_access.specs.declared.securable.Securable.TheVariants as securable
-use Rattle.pol_content.specs.Content.{is_empty}
+use Rattle.pol_content.specs.Content.{catalog_is_empty, is_empty}
 use Rattle.pol_content.specs.declared.change.Change.{Change}
 use Rattle.pol_content_steps.specs.Taken.{takes_along}
 use Rattle.pol_state.specs.Rows.{Rows}
@@ -45,3 +47,14 @@ abbrev pub may_drop_catalog_role : Rows → ℕ → List Change → Bool
 may_drop_catalog_role s id rest =
     has_other_name (codes "catalog_admin") (option_map catalog_role_name (row_of catalog_role_id id s.access.catalog_roles))
     && takes_along (referent.CatalogRole id) s.access rest
+
+-- the role is the catalogue's where it has this id, and is not where it has another
+abbrev pub is_alone : ℕ → ℕ → CatalogRoleRow → Bool
+is_alone catalog only role =
+    if nat_eq only role.id then nat_eq role.catalog catalog else not (nat_eq role.catalog catalog)
+
+-- a catalogue that holds nothing, with its one role, and the joins and grants of this
+abbrev pub may_drop_catalog : Rows → ℕ → ℕ → List Change → Bool
+may_drop_catalog s id only rest =
+    catalog_is_empty id s.content
+    && (list_all (is_alone id only) s.access.catalog_roles && takes_along (referent.RoleOfCatalog id) s.access rest)

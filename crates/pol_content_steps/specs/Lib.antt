@@ -1,3 +1,4 @@
+pub mod Catalogs
 pub mod Drops
 pub mod Names
 pub mod Namespaces

@@ -1,16 +1,17 @@
 //! Rows that changes take away, with what names them.
 ghost use Rattle.std.specs.Prelude.{◌≡◌, true, codes};
-ghost use Rattle.std.specs.List.{fold};
+ghost use Rattle.std.specs.List.{fold, list_all};
 ghost use Rattle.std.specs.Option.{option_map};
 ghost use Rattle.pol_access.specs.Access.{catalog_role_id, catalog_role_name, principal_id, principal_name, principal_role_id, principal_role_name};
-ghost use Rattle.pol_content_steps.specs.Drops.{has_other_name, may_drop_catalog_role, may_drop_namespace, may_drop_principal, may_drop_principal_role, may_drop_table, may_drop_view};
+ghost use Rattle.pol_content_steps.specs.Drops.{has_other_name, is_alone, may_drop_catalog, may_drop_catalog_role, may_drop_namespace, may_drop_principal, may_drop_principal_role, may_drop_table, may_drop_view};
 ghost use Rattle.pol_access_steps.specs.Counters.{counted, may_follow};
+ghost use Rattle.pol_content.specs.declared.change.Change.TheVariants.{DropCatalog};
 ghost use Rattle.pol_state.specs.Applied.{changed};
 ghost use Rattle.pol_state.specs.Sound.{IsSound};
 ghost use Rattle.pol_tables.specs.Table.{row_of};
 
 use crate::taken::takes_along;
-use pol_access::{Access, Referent, Securable};
+use pol_access::{Access, CatalogRoleRow, Referent, Securable};
 use pol_access_steps::Counters;
 use pol_content::Change;
 use pol_state::State;
@@ -19,7 +20,8 @@ use pol_state::State;
 /// more it is as well to judge the whole state.
 const MOST_CHANGES: usize = 256;
 
-/// Whether the first change takes a row away, and the others, which are few, the members, joins and grants that name it.
+/// Whether the first change takes a row away, and the others, which are few, the members, joins and grants that name
+/// it.
 pub fn is_sound_drop(state: &State, counters: Counters, changes: &[Change]) -> bool
     requires sound { IsSound state.now.rows }
     requires follows { may_follow state.now.rows counters ≡ true }
@@ -47,6 +49,7 @@ fn may_drop(state: &State, counters: Counters, first: &Change, rest: &[Change]) 
         Change::DropPrincipal(id) => may_drop_principal(state, *id, rest),
         Change::DropPrincipalRole(id) => may_drop_principal_role(state, *id, rest),
         Change::DropCatalogRole(id) => may_drop_catalog_role(state, *id, rest),
+        Change::DropCatalog(id) => may_drop_catalog(state, counters, *id, rest),
         _ => false,
     }
 }
@@ -107,6 +110,51 @@ fn may_drop_catalog_role(state: &State, id: u64, rest: &[Change]) -> bool
 {
     is_other_than_catalog_admin(state.access(), id)
         && takes_along(state.access(), Referent::CatalogRole(id), rest)
+}
+
+/// Whether the changes drop the one role of the catalogue, which holds nothing, and then what names the role.
+fn may_drop_catalog(state: &State, counters: Counters, id: u64, rest: &[Change]) -> bool
+    requires sound { IsSound state.now.rows }
+    requires follows { may_follow state.now.rows counters ≡ true }
+    ensures { result ≡ true
+        → IsSound (fold changed (changed (counted state.now.rows counters) (DropCatalog id)) rest.now) }
+{
+    let Some((first, rest)) = rest.split_first() else {
+        return false;
+    };
+    match first {
+        Change::DropCatalogRole(only) => may_drop_with_role(state, id, *only, rest),
+        _ => false,
+    }
+}
+
+/// Whether the catalogue holds nothing, the role is its only one, and the changes drop what names the role. It goes
+/// over namespaces and catalogue roles.
+fn may_drop_with_role(state: &State, id: u64, only: u64, rest: &[Change]) -> bool
+    ensures { result ≡ may_drop_catalog state.now.rows id only rest.now }
+{
+    state.content().catalog_is_empty(id)
+        && has_one_role(state.access(), id, only)
+        && takes_along(state.access(), Referent::RoleOfCatalog(id), rest)
+}
+
+/// Whether the catalogue has the role of this id, and no other.
+fn has_one_role(access: &Access, catalog: u64, only: u64) -> bool
+    ensures { result ≡ list_all (is_alone catalog only) access.now.rows.catalog_roles }
+{
+    access
+        .catalog_roles()
+        .all(|role| is_alone(catalog, only, role))
+}
+
+fn is_alone(catalog: u64, only: u64, role: &CatalogRoleRow) -> bool
+    ensures { result ≡ is_alone catalog only role.now }
+{
+    if only == role.id {
+        role.catalog == catalog
+    } else {
+        role.catalog != catalog
+    }
 }
 
 /// Whether there is a principal of this id, which isn't `root`.

@@ -118,7 +118,8 @@ fn views_fit(content: &Content) -> bool
     content.views().all(|row| view_fits(row))
 }
 
-fn catalog_fits(row: &CatalogRow) -> bool
+/// Whether no number of the catalogue is above its bound.
+pub fn catalog_fits(row: &CatalogRow) -> bool
     ensures { result ≡ catalog_fits row.now }
 {
     fits(Quantity::AllowedLocations, row.allowed.len() as u64)

@@ -3,4 +3,6 @@
 
 mod bounds;
 
-pub use bounds::{counters_fit, is_within_bounds, namespace_fits, table_fits, view_fits};
+pub use bounds::{
+    catalog_fits, counters_fit, is_within_bounds, namespace_fits, table_fits, view_fits,
+};

@@ -13,7 +13,7 @@ use crate::tables::may_place_table;
 use crate::tokens::{may_issue, may_issue_of, may_open};
 use pol_access_steps::{Counters, counters_of, is_sound_fact, is_sound_holder, may_follow};
 use pol_content::{Change, TableRow};
-use pol_content_steps::{is_sound_drop, may_put_namespace, may_put_view};
+use pol_content_steps::{is_sound_catalog, is_sound_drop, may_put_namespace, may_put_view};
 use pol_soundness::sound_after;
 use pol_state::State;
 use pol_types::OutOfMemory;
@@ -46,8 +46,8 @@ fn is_sound_step(alloc: Global, state: &State, changes: &[Change]) -> Result<boo
     are_sound_puts(alloc, state, counters, puts)
 }
 
-/// Whether changes of rows are of a known shape: a drop with what it takes along, one put, a new table with its storage
-/// token, or commits.
+/// Whether changes of rows are of a known shape: a drop with what it takes along, a new catalogue with its role, one
+/// put, a new table with its storage token, or commits.
 fn are_sound_puts(
     alloc: Global,
     state: &State,
@@ -61,6 +61,9 @@ fn are_sound_puts(
         → IsSound (rows_after puts.now (counted state.now.rows counters))) }
 {
     if is_sound_drop(state, counters, puts) {
+        return Ok(true);
+    }
+    if is_sound_catalog(state, counters, puts) {
         return Ok(true);
     }
     match puts {

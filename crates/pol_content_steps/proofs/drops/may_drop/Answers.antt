@@ -49,3 +49,9 @@ returns-in-DropCatalogRole c =
     let rest = c.args.rest.now in
     λ passes. subst (SoundWithout s c.args.counters rest) (sym c.in-DropCatalogRole.is)
     (dropped_catalog_role-sound s c.requires.sound c.args.counters c.requires.follows id rest (sym c.may_drop_catalog_role.ensures ∙ passes))
+
+pub returns-in-DropCatalog : goal.returns-in-DropCatalog
+returns-in-DropCatalog c =
+    let s = c.args.state.now.rows in
+    let rest = c.args.rest.now in
+    λ passes. subst (SoundWithout s c.args.counters rest) (sym c.in-DropCatalog.is) (c.may_drop_catalog.ensures passes)

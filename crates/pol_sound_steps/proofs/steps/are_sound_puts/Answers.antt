@@ -10,6 +10,10 @@ pub returns-then-is_sound_drop : goal.returns-then-is_sound_drop
 unfolding rows_after
 returns-then-is_sound_drop c = λ is. c.is_sound_drop.ensures c.if-is_sound_drop.true
 
+pub returns-then-is_sound_catalog : goal.returns-then-is_sound_catalog
+unfolding rows_after
+returns-then-is_sound_catalog c = λ is. c.is_sound_catalog.ensures c.if-is_sound_catalog.true
+
 pub returns-in-len1 : goal.returns-in-len1
 unfolding rows_after
 returns-in-len1 c =
