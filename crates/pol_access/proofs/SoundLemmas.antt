@@ -1,5 +1,5 @@
 -- Sound rows stay sound once a row is put, replaced or dropped with what names it.
-use Rattle.std.proofs.Common.{◌≡◌, ◌≢◌, ℕ, ◌+◌, ◌<◌, ◌≤◌, Bool, true, false, not, cond, ◌&&◌, List, [], ◌∷◌, ◌++◌, map, filter, length, None, Some, is_some, nat_eq, refl, sym, ap, subst, ◌∙◌, arith, codes, ◌==◌, ◌||◌}
+use Rattle.std.proofs.Common.{◌≡◌, ◌≢◌, ℕ, ◌+◌, ◌<◌, ◌≤◌, Bool, true, false, not, cond, ◌&&◌, List, [], ◌∷◌, ◌++◌, map, filter, None, Some, is_some, nat_eq, refl, sym, ap, subst, ◌∙◌, arith, codes, ◌==◌, ◌||◌}
 use Rattle.std.specs.Cmp.{IsEquivalence, nat_eq_equiv}
 use Rattle.std.specs.Cmp.Lexicographic.{nat_list_eq_equiv, same_text}
 use Rattle.std.specs.Coded.{Coded}

@@ -14,7 +14,7 @@ ghost use Rattle.pol_tables.specs.Table.{row_of, rows_with, rows_without};
 use crate::names::{CatalogRoleName, PrincipalRoleName};
 use crate::principals::Principals;
 use crate::{CatalogRoleRow, GrantRow, JoinRow, MemberRow, PrincipalRoleRow, PrincipalRow};
-use pol_tables::{Facts, NamedTable};
+use pol_tables::{Facts, NamedTable, Rows};
 use pol_types::OutOfMemory;
 use std::alloc::{AllocError, Global};
 use std::marker::Model;
@@ -88,8 +88,8 @@ impl Access {
     }
 
     /// The principals, in their order.
-    pub fn principals(&self) -> slice::Iter<'_, PrincipalRow>
-        ensures { iter_rest result ≡ self.now.rows.principals }
+    pub fn principals(&self) -> Rows<'_, PrincipalRow>
+        ensures { result ≡ self.now.rows.principals }
     {
         self.principals.rows()
     }
@@ -121,8 +121,8 @@ impl Access {
     }
 
     /// The principal roles, in their order.
-    pub fn principal_roles(&self) -> slice::Iter<'_, PrincipalRoleRow>
-        ensures { iter_rest result ≡ self.now.rows.principal_roles }
+    pub fn principal_roles(&self) -> Rows<'_, PrincipalRoleRow>
+        ensures { result ≡ self.now.rows.principal_roles }
     {
         self.principal_roles.rows()
     }
@@ -145,8 +145,8 @@ impl Access {
     }
 
     /// The catalogue roles, in their order.
-    pub fn catalog_roles(&self) -> slice::Iter<'_, CatalogRoleRow>
-        ensures { iter_rest result ≡ self.now.rows.catalog_roles }
+    pub fn catalog_roles(&self) -> Rows<'_, CatalogRoleRow>
+        ensures { result ≡ self.now.rows.catalog_roles }
     {
         self.catalog_roles.rows()
     }

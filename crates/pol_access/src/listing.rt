@@ -49,7 +49,7 @@ impl Access {
         ensures { IfOk result (λ listed.
             map (λ row. row.now) listed.items ≡ by_name principal_name self.now.rows.principals) }
     {
-        rows_in_order(alloc, self.principals().as_slice())
+        rows_in_order(alloc, self.principals())
     }
 
     /// The principal roles, in byte order of their names.
@@ -60,7 +60,7 @@ impl Access {
         ensures { IfOk result (λ listed.
             map (λ row. row.now) listed.items ≡ by_name principal_role_name self.now.rows.principal_roles) }
     {
-        rows_in_order(alloc, self.principal_roles().as_slice())
+        rows_in_order(alloc, self.principal_roles())
     }
 
     /// The principal roles of which a principal, named by its id, is a member, in byte order of their names.

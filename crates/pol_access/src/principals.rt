@@ -1,6 +1,5 @@
 ghost use Rattle.std.specs.Prelude.{◌≡◌, ◌<◌, ◌≤◌, ◌+◌, ◌≢◌, [], None, IsOk, OnOk, option_copied};
 ghost use Rattle.std.specs.List.{AllByRecursion};
-ghost use Rattle.std.specs.Slice.Iter.{iter_rest};
 ghost use Rattle.pol_access.specs.Access.{principal_id};
 ghost use Rattle.pol_access.specs.Names.{client_number, has_client_id, has_name, text_number};
 ghost use Rattle.pol_tables.specs.Index.{is_noted, entry_number};
@@ -10,11 +9,10 @@ ghost use Rattle.pol_tables.specs.declared.index.IndexEntry.{IndexEntry};
 
 use crate::PrincipalRow;
 use crate::names::{PrincipalName, text_number};
-use pol_tables::{Index, IndexEntry, NamedTable};
+use pol_tables::{Index, IndexEntry, NamedTable, Rows};
 use pol_types::OutOfMemory;
 use std::alloc::{AllocError, Global};
 use std::marker::Model;
-use std::slice;
 
 /// Principals in the order in which their ids came, each found by its id, by its name and by its client id without a
 /// scan. Contracts see the rows, and the room: how many more rows can be put without taking memory.
@@ -54,8 +52,8 @@ impl Principals {
     }
 
     /// The rows, in their order.
-    pub fn rows(&self) -> slice::Iter<'_, PrincipalRow>
-        ensures { iter_rest result ≡ self.now.rows }
+    pub fn rows(&self) -> Rows<'_, PrincipalRow>
+        ensures { result ≡ self.now.rows }
     {
         self.table.rows()
     }

@@ -106,7 +106,7 @@ deepest_first catalog levels content = (
 )
 
 -- levels that are the same are equal
-levels-are : (left right : List (List ℕ)) → same_levels left right ≡ true → left ≡ right
+pub levels-are : (left right : List (List ℕ)) → same_levels left right ≡ true → left ≡ right
 levels-are = pointwise_exact (λ x y same. same_text x y (sym same))
 
 -- a row that an option gives something of

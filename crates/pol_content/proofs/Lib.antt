@@ -1,3 +1,4 @@
+pub mod AboveLemmas
 pub mod ChainLemmas
 mod NamesLemmas
 pub mod SoundLemmas

@@ -1,33 +1,32 @@
 ghost use Rattle.std.specs.Prelude.{◌≡◌, ◌<◌, ◌≤◌, ◌+◌, [], filter, is_some, map, nat_eq, IfOk, IsOk, OnOk, option_copied};
 ghost use Rattle.std.specs.List.{list_any};
-ghost use Rattle.std.specs.Slice.Iter.{iter_rest};
 ghost use Rattle.pol_tables.specs.Named.{Finds};
 ghost use Rattle.pol_tables.specs.Table.{row_of, rows_with, rows_without};
 ghost use Rattle.pol_content.specs.Order.{by_levels, by_name};
 ghost use Rattle.pol_content.specs.Content.{CatalogNamesDiffer, NamespaceNamesDiffer, catalog_id, catalog_is_empty, catalog_named, children, first_missing, is_catalog_named, is_child, is_child_of, is_empty, is_missing, is_namespace_named, lies_below, namespace_id, namespace_named, none_below, part_named};
 ghost use Rattle.pol_table_rows.specs.Tables.{TableNamesDiffer, is_table_named, overlapping, table_id, table_named, tables_in};
 ghost use Rattle.pol_tables.specs.Rising.{KeysRise};
-ghost use Rattle.pol_view_rows.specs.Views.{ViewNamesDiffer, is_view_named, view_id, view_named, views_in};
+ghost use Rattle.pol_view_rows.specs.Views.{ViewNamesDiffer, holds_view, is_view_named, view_id, view_named, views_in};
 
 use crate::{CatalogRow, NamespaceName, NamespaceRow};
 use pol_locations::Location;
 use pol_names::{Name, Namespace, Plain};
 use pol_table_rows::{TablePut, TableRow, Tables};
-use pol_tables::{NamedTable, rows_in_order, sorted_rows};
+use pol_tables::{Named, NamedTable, Rows, rows_in_order, sorted_rows};
+use pol_tallies::GroupedTable;
 use pol_types::OutOfMemory;
-use pol_view_rows::{ViewName, ViewRow, any_view_in, views_in};
+use pol_view_rows::{ViewName, ViewRow, views_in};
 use std::alloc::{AllocError, Global};
 use std::marker::Model;
-use std::slice;
 
 /// Catalogues, their namespaces, and the tables and views in these, each found by its id and by its name. Contracts see
 /// the rows, and the room: how many more can be put without taking memory.
 #[derive(Debug, Drop)]
 pub struct Content {
     catalogs: NamedTable<CatalogRow>,
-    namespaces: NamedTable<NamespaceRow>,
+    namespaces: GroupedTable<NamespaceRow>,
     tables: Tables,
-    views: NamedTable<ViewRow>,
+    views: GroupedTable<ViewRow>,
 }
 
 impl Model for Content {
@@ -58,9 +57,9 @@ impl Content {
     {
         Content {
             catalogs: NamedTable::new(alloc),
-            namespaces: NamedTable::new(alloc),
+            namespaces: GroupedTable::new(alloc),
             tables: Tables::new(alloc),
-            views: NamedTable::new(alloc),
+            views: GroupedTable::new(alloc),
         }
     }
 
@@ -81,8 +80,8 @@ impl Content {
     }
 
     /// The catalogues, in the order in which they were put.
-    pub fn catalogs(&self) -> slice::Iter<'_, CatalogRow>
-        ensures { iter_rest result ≡ self.now.rows.catalogs }
+    pub fn catalogs(&self) -> Rows<'_, CatalogRow>
+        ensures { result ≡ self.now.rows.catalogs }
     {
         self.catalogs.rows()
     }
@@ -91,7 +90,7 @@ impl Content {
     pub fn catalogs_by_name(&self, alloc: Global) -> Result<Vec<&CatalogRow>, OutOfMemory>
         ensures { IfOk result (λ listed. map (λ row. row.now) listed.items ≡ by_name self.now.rows.catalogs) }
     {
-        rows_in_order(alloc, self.catalogs.rows().as_slice())
+        rows_in_order(alloc, self.catalogs.rows())
     }
 
     /// The namespace of this catalogue with these levels. It scans no rows.
@@ -112,8 +111,8 @@ impl Content {
     }
 
     /// The namespaces, in the order in which they were put.
-    pub fn namespaces(&self) -> slice::Iter<'_, NamespaceRow>
-        ensures { iter_rest result ≡ self.now.rows.namespaces }
+    pub fn namespaces(&self) -> Rows<'_, NamespaceRow>
+        ensures { result ≡ self.now.rows.namespaces }
     {
         self.namespaces.rows()
     }
@@ -155,8 +154,7 @@ impl Content {
         ensures { IfOk result (λ found.
             map (λ row. row.now) found.items ≡ children catalog (option_copied parent.entry) self.now.rows) }
     {
-        let rows = self.namespaces.rows().as_slice();
-        sorted_rows(children_of(alloc, rows, catalog, parent)?)
+        sorted_rows(children_of(alloc, self.namespaces.rows(), catalog, parent)?)
     }
 
     /// Whether a namespace holds nothing: no namespace stands below it, directly or deeper, and no table and no view is
@@ -164,9 +162,7 @@ impl Content {
     pub fn is_empty(&self, namespace: u64) -> bool
         ensures { result ≡ is_empty namespace self.now.rows }
     {
-        self.none_below(namespace)
-            && !self.tables.any_in(namespace)
-            && !any_view_in(self.views.rows().as_slice(), namespace)
+        self.none_below(namespace) && !self.tables.any_in(namespace) && !self.any_view_in(namespace)
     }
 
     /// Whether no namespace stands below this one, directly or deeper.
@@ -175,16 +171,33 @@ impl Content {
             result ≡ none_below (row_of namespace_id namespace rows) rows }
     {
         match self.namespaces.find(namespace) {
-            Some(upper) => !any_below(upper, self.namespaces.rows().as_slice()),
+            Some(upper) => !self.any_below(upper),
             None => true,
         }
+    }
+
+    /// Whether a namespace stands below this one, directly or deeper. It goes over the namespaces only where one stands
+    /// in a namespace of this one's number.
+    fn any_below(&self, upper: &NamespaceRow) -> bool
+        ensures { result ≡ list_any (lies_below upper.now) self.now.rows.namespaces }
+    {
+        let _named = upper.levels.levels();
+        self.namespaces.any_of(upper.number()) && any_below(upper, self.namespaces.rows())
+    }
+
+    /// Whether a view is in the namespace. It scans no rows.
+    #[tactic(auto, using(pol_tallies::proofs::GroupedLemmas::any_of_one))]
+    fn any_view_in(&self, namespace: u64) -> bool
+        ensures { result ≡ holds_view namespace self.now.rows.views }
+    {
+        self.views.any_of(namespace)
     }
 
     /// Whether no namespace has this catalogue.
     pub fn catalog_is_empty(&self, catalog: u64) -> bool
         ensures { result ≡ catalog_is_empty catalog self.now.rows }
     {
-        !any_of_catalog(catalog, self.namespaces.rows().as_slice())
+        !any_of_catalog(catalog, self.namespaces.rows())
     }
 
     /// The table of this namespace with this name. It scans no rows.
@@ -205,8 +218,8 @@ impl Content {
     }
 
     /// The tables, in the order in which they were put.
-    pub fn tables(&self) -> slice::Iter<'_, TableRow>
-        ensures { iter_rest result ≡ self.now.rows.tables }
+    pub fn tables(&self) -> Rows<'_, TableRow>
+        ensures { result ≡ self.now.rows.tables }
     {
         self.tables.rows()
     }
@@ -244,8 +257,8 @@ impl Content {
     }
 
     /// The views, in the order in which they were put.
-    pub fn views(&self) -> slice::Iter<'_, ViewRow>
-        ensures { iter_rest result ≡ self.now.rows.views }
+    pub fn views(&self) -> Rows<'_, ViewRow>
+        ensures { result ≡ self.now.rows.views }
     {
         self.views.rows()
     }
@@ -255,7 +268,7 @@ impl Content {
         ensures { IfOk result (λ found.
             map (λ row. row.now) found.items ≡ views_in namespace self.now.rows.views) }
     {
-        views_in(alloc, self.views.rows().as_slice(), namespace)
+        views_in(alloc, self.views.rows(), namespace)
     }
 
     /// Whether a table or a view of the namespace has the name. It scans no rows.
@@ -447,20 +460,15 @@ impl Clone for Content {
 /// Those of the namespaces that have the catalogue and stand directly below the parent.
 fn children_of<'a>(
     alloc: Global,
-    rows: &'a [NamespaceRow],
+    rows: Rows<'a, NamespaceRow>,
     catalog: u64,
     parent: Option<&Namespace>,
-) -> Result<Vec<&'a NamespaceRow>, OutOfMemory>
+) -> Result<Vec<&'a NamespaceRow>, AllocError>
     ensures { IfOk result (λ found.
-        map (λ row. row.now) found.items ≡ filter (is_child_of catalog (option_copied parent.entry)) rows.now) }
+        map (λ row. row.now) found.items ≡ filter (is_child_of catalog (option_copied parent.entry)) rows.entry) }
 {
-    let mut found = Vec::new(alloc);
-    for row in rows {
-        if is_child_of(catalog, parent, row) {
-            found.push(row)?;
-        }
-    }
-    Ok(found)
+    rows.filter(|row| is_child_of(catalog, parent, row))
+        .collect(alloc)
 }
 
 /// Whether the namespace has the catalogue and stands directly below the parent.
@@ -481,17 +489,17 @@ fn is_child(parent: Option<&Namespace>, levels: &Namespace) -> bool
 }
 
 /// Whether one of the namespaces stands below another one, directly or deeper.
-fn any_below(upper: &NamespaceRow, rows: &[NamespaceRow]) -> bool
-    ensures { result ≡ list_any (lies_below upper.now) rows.now }
+fn any_below(upper: &NamespaceRow, mut rows: Rows<'_, NamespaceRow>) -> bool
+    ensures { result ≡ list_any (lies_below upper.now) rows.entry }
 {
-    rows.iter().any(|row| lies_below(upper, row))
+    rows.any(|row| lies_below(upper, row))
 }
 
 /// Whether one of the namespaces has the catalogue.
-fn any_of_catalog(catalog: u64, rows: &[NamespaceRow]) -> bool
-    ensures { result ≡ list_any (λ row. nat_eq row.catalog catalog) rows.now }
+fn any_of_catalog(catalog: u64, mut rows: Rows<'_, NamespaceRow>) -> bool
+    ensures { result ≡ list_any (λ row. nat_eq row.catalog catalog) rows.entry }
 {
-    rows.iter().any(|row| row.catalog == catalog)
+    rows.any(|row| row.catalog == catalog)
 }
 
 /// Whether a namespace stands below another one, directly or deeper.

@@ -4,6 +4,7 @@ use pol_locations::Location;
 use pol_names::{Namespace, Plain};
 use pol_properties::Properties;
 use pol_tables::{Keyed, NameOf, Named, Sortable, number_of};
+use pol_tallies::Grouped;
 use pol_types::{Exact, Listed};
 use std::cmp::Ordering;
 
@@ -115,6 +116,25 @@ impl Named for NamespaceRow {
     #[tactic(auto, unfolding(crate::specs::Numbers::namespace_number))]
     fn number(&self) -> u64 {
         number_of(&(self.catalog, &self.levels))
+    }
+}
+
+/// A namespace belongs to those in which it stands, each known by the number of its name.
+impl Grouped for NamespaceRow {
+    ghost use Rattle.pol_content.specs.Numbers.{numbers_above};
+
+    ghost groups = { numbers_above };
+
+    ghost MOST = { 15 };
+
+    const MOST: usize = 15;
+
+    fn group_count(&self) -> usize {
+        self.levels.levels().len() - 1
+    }
+
+    fn group(&self, place: usize) -> u64 {
+        number_of(&(self.catalog, &self.levels.levels()[..place + 1]))
     }
 }
 

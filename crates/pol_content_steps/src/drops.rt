@@ -76,7 +76,7 @@ fn may_drop_view(state: &State, id: u64, rest: &[Change]) -> bool
     )
 }
 
-/// Whether the namespace holds nothing, and the changes drop what names it. It goes over namespaces, tables and views.
+/// Whether the namespace holds nothing, and the changes drop what names it.
 fn may_drop_namespace(state: &State, id: u64, rest: &[Change]) -> bool
     ensures { result ≡ may_drop_namespace state.now.rows id rest.now }
 {

@@ -9,7 +9,7 @@ use Rattle.pol_access.specs.Access.{AccessRows, catalog_role_id, client_id_of, i
 use Rattle.pol_access.specs.Names.{has_name, has_role_name, principal_named, principal_role_named, same_role_name}
 use Rattle.pol_access.specs.Privilege.{grantable}
 use Rattle.pol_access.specs.Securable.{kind_of}
-use Rattle.pol_access.specs.Sound.{AreFacts, HasRootChain, IsCatalogRoleOf, IsGrantOf, IsJoinOf, IsMemberOf, IsSecurableGiven, IsSoundAccess}
+use Rattle.pol_access.specs.Sound.{HasRootChain, IsCatalogRoleOf, IsGrantOf, IsJoinOf, IsMemberOf, IsSecurableGiven, IsSoundAccess}
 use Rattle.pol_access.specs.contracts.rows.GrantRow as grant
 use Rattle.pol_access.specs.contracts.rows.JoinRow as join
 use Rattle.pol_access.specs.contracts.rows.MemberRow as member

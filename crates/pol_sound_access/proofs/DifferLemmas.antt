@@ -1,5 +1,5 @@
 -- Keys that are seen one after the other, and differ.
-use Rattle.std.proofs.Common.{◌≡◌, ℕ, ◌<◌, Bool, true, false, not, List, [], ◌∷◌, ◌||◌, ◌&&◌, ◌+◌, ◌++◌, map, take, length, get_or, zero, suc, refl, sym, ap, ◌∙◌, true≢false, inl, inr, arith}
+use Rattle.std.proofs.Common.{◌≡◌, ℕ, ◌<◌, Bool, true, false, not, List, [], ◌∷◌, ◌||◌, ◌+◌, ◌++◌, map, take, length, get_or, zero, suc, refl, sym, subst, ap, ◌∙◌, true≢false, inl, inr, arith}
 use Rattle.std.specs.Prelude.{Decides}
 use Rattle.std.specs.Coded.{Coded}
 use Rattle.std.specs.List.{list_any, AllByRecursion, IsDistinct}
@@ -55,6 +55,11 @@ module _ {R K : Type 0} (equal : K → K → Bool) (told : R → K) where
   images-apart [] differ = tt
   images-apart (row ∷ rows) differ = (each-image (told row) rows differ.0, images-apart rows differ.1)
 
+-- what holds of each of a list holds of one in its middle
+each-of-key : {X : Type 0} (P : X → Type 0) (before : List X) (item : X) (after : List X) → AllByRecursion P (before ++ item ∷ after) → P item
+each-of-key P [] item after all = all.0
+each-of-key P (first ∷ before) item after all = each-of-key P before item after all.1
+
 module _ {R K : Type 0} (code : Coded K) (told : R → K) where
   -- whether two rows have one key
   abbrev pub alike : R → R → Bool
@@ -82,6 +87,20 @@ module _ {R K : Type 0} (code : Coded K) (told : R → K) where
     where
       by : (b : Bool) → all_differ alike rows ≡ b → false ≡ b
       by true differ = absurd (twice rows place row within is seen ((differ-decides alike rows).0 differ))
+      by false fails = refl
+
+  -- the same, where the rows from that one on are left
+  split : (key : K) (seen rest : List K) → IsDistinct (same code) (seen ++ key ∷ rest) → holds code key seen ≡ false
+  split key [] rest differ = refl
+  split key (first ∷ seen) rest differ =
+      let apart = each-of-key (λ later. same code first later ≡ false) seen key rest (IsDistinct-head (same code) first (seen ++ key ∷ rest) differ) in
+      or_from (same code key first) (holds code key seen) (same-symmetric code key first ∙ apart) (split key seen rest (IsDistinct-tail (same code) first (seen ++ key ∷ rest) differ))
+
+  pub seen-again : (rows : List R) (key : K) (seen rest : List K) → seen ++ key ∷ rest ≡ map told rows → holds code key seen ≡ true → false ≡ all_differ alike rows
+  seen-again rows key seen rest are held = by (all_differ alike rows) refl
+    where
+      by : (b : Bool) → all_differ alike rows ≡ b → false ≡ b
+      by true differ = absurd (true≢false (sym held ∙ split key seen rest (subst (IsDistinct (same code)) (sym are) (images-apart (same code) told rows ((differ-decides alike rows).0 differ)))))
       by false fails = refl
 
   pub all-seen : (rows : List R) → IsDistinct (same code) (map told rows) → true ≡ all_differ alike rows

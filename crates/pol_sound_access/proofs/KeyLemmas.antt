@@ -1,5 +1,5 @@
 -- Keys tell rows apart as their names and client ids do.
-use Rattle.std.proofs.Common.{◌≡◌, ℕ, Bool, true, List, ◌==◌, ◌&&◌, refl, sym, ap, ◌∙◌}
+use Rattle.std.proofs.Common.{◌≡◌, ℕ, Bool, true, List, ◌==◌, refl, sym, ap, ◌∙◌}
 use Rattle.std.specs.Coded.{Coded}
 use Rattle.std.specs.Str.{bytes_eq}
 use Rattle.std.proofs.lemmas.Bool.{and_from, and_parts, eq-eqb, eqb-true}

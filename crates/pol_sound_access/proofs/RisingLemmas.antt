@@ -1,10 +1,9 @@
 -- Rows whose keys rise, judged one after the other.
-use Rattle.std.proofs.Common.{◌≡◌, ℕ, ◌+◌, ◌<◌, ◌≤◌, Bool, true, false, ◌&&◌, nat_le, nat_lt, List, [], ◌∷◌, drop, length, get_or, refl, sym, ap, ◌∙◌, arith}
+use Rattle.std.proofs.Common.{ℕ, ◌+◌, ◌<◌, ◌≤◌, ◌&&◌, nat_le, nat_lt, List, [], ◌∷◌, refl, arith}
 use Rattle.std.specs.Prelude.{Decides}
 use Rattle.std.specs.List.{AllByRecursion}
-use Rattle.std.proofs.lemmas.Bool.{le-leb, le-ltb, leb-true, lt-leb, lt-ltb}
+use Rattle.std.proofs.lemmas.Bool.{le-leb, leb-true}
 use Rattle.std.proofs.lemmas.Bool.Decides.{Decides-and, Decides-like, Decides-ltb}
-use Rattle.std.proofs.lemmas.List.{drop_all, drop_more}
 use Rattle.pol_tables.specs.Rising.{KeysRise}
 use Rattle.pol_tables.proofs.ListLemmas.{each-join, each-weaken}
 use Rattle.pol_sound_access.specs.Judged.{rises}
@@ -38,31 +37,3 @@ module _ {R : Type 0} (key : R → ℕ) where
         Decides-like (rises key low next (row ∷ rows)) (grows low row rows) (parts low row rows)
         (Decides-and (nat_le low (key row)) (nat_lt (key row) next && rises key (key row + 1) next rows) (leb-true low (key row), le-leb low (key row))
         (Decides-and (nat_lt (key row) next) (rises key (key row + 1) next rows) (Decides-ltb (key row) next) (rises-decides (key row + 1) rows)))
-
-    -- a key below the least one ends it
-    pub below-fails : (low place : ℕ) (row : R) (rows : List R) → place < length rows → row ≡ get_or rows place row → key row < low → rises key low next (drop place rows) ≡ false
-    unfolding rises
-    below-fails low place row rows within is under =
-        let first : nat_le low (key (get_or rows place row)) ≡ false = ap (λ one. nat_le low (key one)) (sym is) ∙ lt-leb low (key row) under in
-        ap (rises key low next) (drop_more rows place row within) ∙ ap (λ b. b && (nat_lt (key (get_or rows place row)) next && rises key (key (get_or rows place row) + 1) next (drop (place + 1) rows))) first
-
-    pub past-fails : (low place : ℕ) (row : R) (rows : List R) → place < length rows → row ≡ get_or rows place row → low ≤ key row → next ≤ key row → rises key low next (drop place rows) ≡ false
-    unfolding rises
-    past-fails low place row rows within is from over =
-        let first : nat_le low (key (get_or rows place row)) ≡ true = ap (λ one. nat_le low (key one)) (sym is) ∙ le-leb low (key row) from in
-        let second : nat_lt (key (get_or rows place row)) next ≡ false = ap (λ one. nat_lt (key one) next) (sym is) ∙ le-ltb (key row) next over in
-        ap (rises key low next) (drop_more rows place row within) ∙ (λ i. first i && (second i && rises key (key (get_or rows place row) + 1) next (drop (place + 1) rows)))
-
-    -- one that lies between goes on
-    pub goes-on : (low place : ℕ) (row : R) (rows : List R) → place < length rows → row ≡ get_or rows place row → low ≤ key row → key row < next → rises key low next (drop place rows) ≡ rises key (key row + 1) next (drop (place + 1) rows)
-    unfolding rises
-    goes-on low place row rows within is from under =
-        let first : nat_le low (key (get_or rows place row)) ≡ true = ap (λ one. nat_le low (key one)) (sym is) ∙ le-leb low (key row) from in
-        let second : nat_lt (key (get_or rows place row)) next ≡ true = ap (λ one. nat_lt (key one) next) (sym is) ∙ lt-ltb (key row) next under in
-        ap (rises key low next) (drop_more rows place row within)
-        ∙ (λ i. first i && (second i && rises key (key (get_or rows place row) + 1) next (drop (place + 1) rows)))
-        ∙ ap (λ one. rises key (key one + 1) next (drop (place + 1) rows)) (sym is)
-
-    pub none-left : (low place : ℕ) (rows : List R) → length rows ≤ place → rises key low next (drop place rows) ≡ true
-    unfolding rises
-    none-left low place rows all = ap (rises key low next) (drop_all place rows all)

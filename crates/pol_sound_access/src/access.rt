@@ -9,7 +9,7 @@ ghost use Rattle.pol_access.specs.contracts.rows.MemberRow as member;
 ghost use Rattle.pol_sound_access.specs.Judged.{access_known, access_named, access_numbered, all_differ, facts_differ, has_root_chain, is_catalog_role, is_grant_there, is_join_there, is_member_there, is_no_role, is_securable_given, is_sound_access, same_client, same_name, same_principal_role};
 ghost use Rattle.pol_tables.specs.Same.{same};
 
-use crate::differ::keys_differ;
+use crate::differ::{items_differ, keys_differ};
 use crate::keys::{ClientKey, NameKey};
 use crate::known::{knows_catalog_role, knows_principal, knows_principal_role};
 use crate::rising::{is_given, rises};
@@ -53,9 +53,9 @@ fn passes(alloc: Global, access: &Access, next_id: u64) -> Result<bool, OutOfMem
 fn are_numbered(access: &Access, next_id: u64) -> bool
     ensures { result ≡ access_numbered next_id access.now.rows }
 {
-    rises(access.principals().as_slice(), 1, next_id)
-        && rises(access.principal_roles().as_slice(), 1, next_id)
-        && rises(access.catalog_roles().as_slice(), 1, next_id)
+    rises(access.principals(), 1, next_id)
+        && rises(access.principal_roles(), 1, next_id)
+        && rises(access.catalog_roles(), 1, next_id)
 }
 
 /// Whether names and client ids differ.
@@ -77,25 +77,25 @@ fn are_named(alloc: Global, access: &Access) -> Result<bool, OutOfMemory>
 fn principals_named(alloc: Global, access: &Access) -> Result<bool, OutOfMemory>
     ensures { IfOk result (λ named. named ≡ all_differ same_name access.now.rows.principals) }
 {
-    keys_differ::<PrincipalRow, NameKey>(alloc, access.principals().as_slice())
+    keys_differ::<PrincipalRow, NameKey>(alloc, access.principals())
 }
 
 fn clients_differ(alloc: Global, access: &Access) -> Result<bool, OutOfMemory>
     ensures { IfOk result (λ named. named ≡ all_differ same_client access.now.rows.principals) }
 {
-    keys_differ::<PrincipalRow, ClientKey>(alloc, access.principals().as_slice())
+    keys_differ::<PrincipalRow, ClientKey>(alloc, access.principals())
 }
 
 fn principal_roles_named(alloc: Global, access: &Access) -> Result<bool, OutOfMemory>
     ensures { IfOk result (λ named. named ≡ all_differ same_principal_role access.now.rows.principal_roles) }
 {
-    keys_differ::<PrincipalRoleRow, NameKey>(alloc, access.principal_roles().as_slice())
+    keys_differ::<PrincipalRoleRow, NameKey>(alloc, access.principal_roles())
 }
 
 fn catalog_roles_named(alloc: Global, access: &Access) -> Result<bool, OutOfMemory>
     ensures { IfOk result (λ named. named ≡ all_differ same_role_name access.now.rows.catalog_roles) }
 {
-    keys_differ::<CatalogRoleRow, NameKey>(alloc, access.catalog_roles().as_slice())
+    keys_differ::<CatalogRoleRow, NameKey>(alloc, access.catalog_roles())
 }
 
 /// Whether each member, join and grant stands once.
@@ -114,19 +114,19 @@ fn facts_differ(alloc: Global, access: &Access) -> Result<bool, OutOfMemory>
 fn members_differ(alloc: Global, access: &Access) -> Result<bool, OutOfMemory>
     ensures { IfOk result (λ apart. apart ≡ all_differ (same member.the_row.coded) access.now.rows.members) }
 {
-    keys_differ::<MemberRow, MemberRow>(alloc, access.members().as_slice())
+    items_differ::<MemberRow, MemberRow>(alloc, access.members().as_slice())
 }
 
 fn joins_differ(alloc: Global, access: &Access) -> Result<bool, OutOfMemory>
     ensures { IfOk result (λ apart. apart ≡ all_differ (same join.the_row.coded) access.now.rows.joins) }
 {
-    keys_differ::<JoinRow, JoinRow>(alloc, access.joins().as_slice())
+    items_differ::<JoinRow, JoinRow>(alloc, access.joins().as_slice())
 }
 
 fn grants_differ(alloc: Global, access: &Access) -> Result<bool, OutOfMemory>
     ensures { IfOk result (λ apart. apart ≡ all_differ (same grant.the_row.coded) access.now.rows.grants) }
 {
-    keys_differ::<GrantRow, GrantRow>(alloc, access.grants().as_slice())
+    items_differ::<GrantRow, GrantRow>(alloc, access.grants().as_slice())
 }
 
 /// Whether what rows name is there, or was given out.

@@ -2,12 +2,12 @@
 ghost use Rattle.std.specs.Prelude.{◌≡◌};
 ghost use Rattle.pol_sound_access.specs.Judged.{is_given, rises};
 
-use pol_tables::Keyed;
+use pol_tables::{Keyed, Rows};
 
 /// Whether the keys of the rows rise, from the least one to below the next one.
 #[tactic(auto, unfolding(crate::specs::Judged::rises))]
-pub fn rises<R: Keyed>(rows: &[R], least: u64, next: u64) -> bool
-    ensures { result ≡ rises R.key least next rows.now }
+pub fn rises<R: Keyed>(rows: Rows<'_, R>, least: u64, next: u64) -> bool
+    ensures { result ≡ rises R.key least next rows.entry }
 {
     let mut low = least;
     for row in rows {

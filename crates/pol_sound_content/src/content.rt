@@ -48,10 +48,10 @@ fn passes(alloc: Global, content: &Content, next_id: u64) -> Result<bool, OutOfM
 fn are_numbered(content: &Content, next_id: u64) -> bool
     ensures { result ≡ content_numbered next_id content.now.rows }
 {
-    rises(content.catalogs().as_slice(), 1, next_id)
-        && rises(content.namespaces().as_slice(), 1, next_id)
-        && rises(content.tables().as_slice(), 1, next_id)
-        && rises(content.views().as_slice(), 1, next_id)
+    rises(content.catalogs(), 1, next_id)
+        && rises(content.namespaces(), 1, next_id)
+        && rises(content.tables(), 1, next_id)
+        && rises(content.views(), 1, next_id)
 }
 
 /// Whether names differ.
@@ -74,28 +74,28 @@ fn catalogs_named(alloc: Global, content: &Content) -> Result<bool, OutOfMemory>
     ensures { IfOk result (λ named. named
         ≡ all_differ (λ left right. is_catalog_named left.name right) content.now.rows.catalogs) }
 {
-    keys_differ::<CatalogRow, PartKey>(alloc, content.catalogs().as_slice())
+    keys_differ::<CatalogRow, PartKey>(alloc, content.catalogs())
 }
 
 fn namespaces_named(alloc: Global, content: &Content) -> Result<bool, OutOfMemory>
     ensures { IfOk result (λ named. named ≡ all_differ
         (λ left right. is_namespace_named left.catalog left.levels right) content.now.rows.namespaces) }
 {
-    keys_differ::<NamespaceRow, LevelsKey>(alloc, content.namespaces().as_slice())
+    keys_differ::<NamespaceRow, LevelsKey>(alloc, content.namespaces())
 }
 
 fn tables_named(alloc: Global, content: &Content) -> Result<bool, OutOfMemory>
     ensures { IfOk result (λ named. named ≡ all_differ
         (λ left right. is_table_named left.namespace left.name right) content.now.rows.tables) }
 {
-    keys_differ::<TableRow, PartKey>(alloc, content.tables().as_slice())
+    keys_differ::<TableRow, PartKey>(alloc, content.tables())
 }
 
 fn views_named(alloc: Global, content: &Content) -> Result<bool, OutOfMemory>
     ensures { IfOk result (λ named. named ≡ all_differ
         (λ left right. is_view_named left.namespace left.name right) content.now.rows.views) }
 {
-    keys_differ::<ViewRow, PartKey>(alloc, content.views().as_slice())
+    keys_differ::<ViewRow, PartKey>(alloc, content.views())
 }
 
 /// Whether what rows name is there, and no id is that of two rows.

@@ -10,6 +10,7 @@ ghost use Rattle.pol_sound_content.specs.Judged.{content_placed, has_parent, is_
 use pol_content::{Content, NamespaceRow, TableRow, ViewRow};
 use pol_locations::{Location, LocationRefused, overlaps};
 use pol_names::Namespace;
+use pol_tables::Rows;
 use pol_types::OutOfMemory;
 use std::alloc::Global;
 
@@ -20,21 +21,20 @@ pub(crate) fn are_placed(alloc: Global, content: &Content) -> Result<bool, OutOf
     if !have_parents(alloc, content)? {
         return Ok(false);
     }
-    if !tables_placed(alloc, content.tables().as_slice())? {
+    if !tables_placed(alloc, content.tables())? {
         return Ok(false);
     }
-    if !views_located(alloc, content.views().as_slice())? {
+    if !views_located(alloc, content.views())? {
         return Ok(false);
     }
-    Ok(lie_apart(content.tables().as_slice()))
+    Ok(lie_apart(content.tables()))
 }
 
 /// Whether the parent of each namespace is there.
 fn have_parents(alloc: Global, content: &Content) -> Result<bool, OutOfMemory>
     ensures { IfOk result (λ placed. placed ≡ list_all (has_parent content.now.rows) content.now.rows.namespaces) }
 {
-    let rows = content.namespaces().as_slice();
-    for row in rows {
+    for row in content.namespaces() {
         if !has_parent(alloc, content, row)? {
             return Ok(false);
         }
@@ -68,8 +68,8 @@ fn has_namespace(content: &Content, catalog: u64, levels: &Namespace) -> bool
 }
 
 /// Whether each table's metadata has its location.
-fn tables_placed(alloc: Global, rows: &[TableRow]) -> Result<bool, OutOfMemory>
-    ensures { IfOk result (λ placed. placed ≡ list_all is_placed rows.now) }
+fn tables_placed(alloc: Global, rows: Rows<'_, TableRow>) -> Result<bool, OutOfMemory>
+    ensures { IfOk result (λ placed. placed ≡ list_all is_placed rows.entry) }
 {
     for row in rows {
         if !is_placed(alloc, row)? {
@@ -88,8 +88,8 @@ pub fn is_placed(alloc: Global, row: &TableRow) -> Result<bool, OutOfMemory>
 }
 
 /// Whether each view's metadata has a location.
-fn views_located(alloc: Global, rows: &[ViewRow]) -> Result<bool, OutOfMemory>
-    ensures { IfOk result (λ located. located ≡ list_all is_located rows.now) }
+fn views_located(alloc: Global, rows: Rows<'_, ViewRow>) -> Result<bool, OutOfMemory>
+    ensures { IfOk result (λ located. located ≡ list_all is_located rows.entry) }
 {
     for row in rows {
         if !is_located(alloc, row.metadata.get().location.as_str())? {
@@ -118,22 +118,20 @@ pub fn is_located(alloc: Global, text: &str) -> Result<bool, OutOfMemory>
 
 /// Whether no two tables overlap. It compares each two.
 #[tactic(auto, unfolding(pol_sound_access::specs::Judged::all_differ))]
-fn lie_apart(rows: &[TableRow]) -> bool
-    ensures { result ≡ all_differ (λ left right. is_overlap left.location right.location) rows.now }
+fn lie_apart(rows: Rows<'_, TableRow>) -> bool
+    ensures { result ≡ all_differ (λ left right. is_overlap left.location right.location) rows.entry }
 {
-    let mut rest = rows.iter();
+    let mut rest = rows;
     while let Some(row) = rest.next() {
-        if overlaps_any(row, rest.as_slice()) {
+        if overlaps_any(row, rest.rest()) {
             return false;
         }
     }
     true
 }
 
-fn overlaps_any(row: &TableRow, later: &[TableRow]) -> bool
-    ensures { result ≡ list_any (λ right. is_overlap row.now.location right.location) later.now }
+fn overlaps_any(row: &TableRow, mut later: Rows<'_, TableRow>) -> bool
+    ensures { result ≡ list_any (λ right. is_overlap row.now.location right.location) later.entry }
 {
-    later
-        .iter()
-        .any(|right| overlaps(&row.location, &right.location))
+    later.any(|right| overlaps(&row.location, &right.location))
 }

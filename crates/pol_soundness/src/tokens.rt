@@ -9,6 +9,7 @@ ghost use Rattle.pol_tokens.specs.Tokens.{serial_of};
 use pol_content::{Content, TableRow};
 use pol_names::Scope;
 use pol_sound_access::{is_given, rises};
+use pol_tables::Rows;
 use pol_tokens::{SessionRow, TokenRow, Tokens};
 
 /// Whether they are.
@@ -16,22 +17,22 @@ use pol_tokens::{SessionRow, TokenRow, Tokens};
 pub(crate) fn are_sound_tokens(tokens: &Tokens, next_id: u64, next_serial: u64) -> bool
     ensures { result ≡ are_sound_tokens next_id next_serial tokens.now.rows }
 {
-    are_sessions(tokens.sessions().as_slice(), next_id, next_serial)
-        && are_tokens(tokens.tokens().as_slice(), next_id, next_serial)
+    are_sessions(tokens.sessions(), next_id, next_serial)
+        && are_tokens(tokens.tokens(), next_id, next_serial)
         && have_own_serials(tokens)
 }
 
 /// Whether the serials of the sessions rise and were given out, as were the ids that they name.
-fn are_sessions(rows: &[SessionRow], next_id: u64, next_serial: u64) -> bool
-    ensures { result ≡ are_sessions next_id next_serial rows.now }
+fn are_sessions(rows: Rows<'_, SessionRow>, next_id: u64, next_serial: u64) -> bool
+    ensures { result ≡ are_sessions next_id next_serial rows.entry }
 {
-    rises(rows, 0, next_serial) && each_session(rows, next_id)
+    rises(rows.rest(), 0, next_serial) && each_session(rows, next_id)
 }
 
-fn each_session(rows: &[SessionRow], next_id: u64) -> bool
-    ensures { result ≡ list_all (is_session next_id) rows.now }
+fn each_session(mut rows: Rows<'_, SessionRow>, next_id: u64) -> bool
+    ensures { result ≡ list_all (is_session next_id) rows.entry }
 {
-    rows.iter().all(|row| is_session(next_id, row))
+    rows.all(|row| is_session(next_id, row))
 }
 
 /// Whether the ids that a session names were given out.
@@ -57,16 +58,16 @@ fn each_given(next_id: u64, ids: &[u64]) -> bool
 }
 
 /// Whether the serials of the storage tokens rise and were given out, as were the ids that they name.
-fn are_tokens(rows: &[TokenRow], next_id: u64, next_serial: u64) -> bool
-    ensures { result ≡ are_tokens next_id next_serial rows.now }
+fn are_tokens(rows: Rows<'_, TokenRow>, next_id: u64, next_serial: u64) -> bool
+    ensures { result ≡ are_tokens next_id next_serial rows.entry }
 {
-    rises(rows, 0, next_serial) && each_token(rows, next_id)
+    rises(rows.rest(), 0, next_serial) && each_token(rows, next_id)
 }
 
-fn each_token(rows: &[TokenRow], next_id: u64) -> bool
-    ensures { result ≡ list_all (is_token next_id) rows.now }
+fn each_token(mut rows: Rows<'_, TokenRow>, next_id: u64) -> bool
+    ensures { result ≡ list_all (is_token next_id) rows.entry }
 {
-    rows.iter().all(|row| is_token(next_id, row))
+    rows.all(|row| is_token(next_id, row))
 }
 
 /// Whether the ids that a storage token names were given out.

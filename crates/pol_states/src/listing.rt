@@ -9,7 +9,7 @@ ghost use Rattle.pol_state.specs.Sound.{IsSound};
 
 use crate::heading::heading;
 use crate::live::push_live;
-use crate::put::push_puts;
+use crate::put::{push_facts, push_puts};
 use pol_access::Access;
 use pol_content::{Change, Content};
 use pol_state::State;
@@ -47,13 +47,13 @@ fn push_rows(
         ++ map PutCatalog content.catalogs) ++ map PutCatalogRole access.catalog_roles)
         ++ map PutNamespace content.namespaces) ++ map PutTable content.tables) ++ map PutView content.views) }
 {
-    push_puts(alloc, access.principals().as_slice(), changes)?;
-    push_puts(alloc, access.principal_roles().as_slice(), changes)?;
-    push_puts(alloc, content.catalogs().as_slice(), changes)?;
-    push_puts(alloc, access.catalog_roles().as_slice(), changes)?;
-    push_puts(alloc, content.namespaces().as_slice(), changes)?;
-    push_puts(alloc, content.tables().as_slice(), changes)?;
-    push_puts(alloc, content.views().as_slice(), changes)
+    push_puts(alloc, access.principals(), changes)?;
+    push_puts(alloc, access.principal_roles(), changes)?;
+    push_puts(alloc, content.catalogs(), changes)?;
+    push_puts(alloc, access.catalog_roles(), changes)?;
+    push_puts(alloc, content.namespaces(), changes)?;
+    push_puts(alloc, content.tables(), changes)?;
+    push_puts(alloc, content.views(), changes)
 }
 
 /// Pushes the puts of the members, in rising order.
@@ -67,7 +67,7 @@ fn push_members(
         ≡ changes.old.items ++ map PutMember (members_in_order access.now.rows.members)) }
 {
     let rows = sorted_facts(copies(alloc, access.members().as_slice())?)?;
-    push_puts(alloc, rows.as_slice(), changes)
+    push_facts(alloc, rows.as_slice(), changes)
 }
 
 /// Pushes the puts of the joins, in rising order.
@@ -77,7 +77,7 @@ fn push_joins(alloc: Global, access: &Access, changes: &mut Vec<Change>) -> Resu
         ≡ changes.old.items ++ map PutJoin (joins_in_order access.now.rows.joins)) }
 {
     let rows = sorted_facts(copies(alloc, access.joins().as_slice())?)?;
-    push_puts(alloc, rows.as_slice(), changes)
+    push_facts(alloc, rows.as_slice(), changes)
 }
 
 /// Pushes the puts of the grants, in rising order.
@@ -87,7 +87,7 @@ fn push_grants(alloc: Global, access: &Access, changes: &mut Vec<Change>) -> Res
         ≡ changes.old.items ++ map PutGrant (grants_in_order access.now.rows.grants)) }
 {
     let rows = sorted_facts(copies(alloc, access.grants().as_slice())?)?;
-    push_puts(alloc, rows.as_slice(), changes)
+    push_facts(alloc, rows.as_slice(), changes)
 }
 
 fn copies<T: Copy>(alloc: Global, rows: &[T]) -> Result<Vec<T>, OutOfMemory>

@@ -6,6 +6,7 @@ ghost use Rattle.pol_rules.specs.Live.{is_live, is_unexpired, live_tokens};
 use crate::put::Put;
 use pol_content::Change;
 use pol_state::State;
+use pol_tables::Rows;
 use pol_tokens::{SessionRow, TokenRow};
 use pol_types::OutOfMemory;
 use std::alloc::Global;
@@ -20,19 +21,19 @@ pub(crate) fn push_live(
         OnOk result (changes.new.items
         ≡ (changes.old.items ++ map PutSession live.sessions) ++ map PutToken live.tokens) }
 {
-    push_sessions(alloc, state, state.tokens().sessions().as_slice(), changes)?;
-    push_tokens(alloc, state, state.tokens().tokens().as_slice(), changes)
+    push_sessions(alloc, state, state.tokens().sessions(), changes)?;
+    push_tokens(alloc, state, state.tokens().tokens(), changes)
 }
 
 /// Pushes the puts of those of the sessions that are live.
 fn push_sessions(
     alloc: Global,
     state: &State,
-    rows: &[SessionRow],
+    rows: Rows<'_, SessionRow>,
     changes: &mut Vec<Change>,
 ) -> Result<(), OutOfMemory>
     ensures { OnOk result (changes.new.items
-        ≡ changes.old.items ++ map PutSession (filter (is_live state.now.rows) rows.now)) }
+        ≡ changes.old.items ++ map PutSession (filter (is_live state.now.rows) rows.entry)) }
 {
     for row in rows {
         push_session(alloc, state, row, changes)?;
@@ -68,11 +69,11 @@ fn is_live(state: &State, row: &SessionRow) -> bool
 fn push_tokens(
     alloc: Global,
     state: &State,
-    rows: &[TokenRow],
+    rows: Rows<'_, TokenRow>,
     changes: &mut Vec<Change>,
 ) -> Result<(), OutOfMemory>
     ensures { OnOk result (changes.new.items
-        ≡ changes.old.items ++ map PutToken (filter (is_unexpired state.now.rows) rows.now)) }
+        ≡ changes.old.items ++ map PutToken (filter (is_unexpired state.now.rows) rows.entry)) }
 {
     for row in rows {
         push_token(alloc, state, row, changes)?;

@@ -4,6 +4,7 @@ ghost use Rattle.pol_content.specs.declared.change.Change.{Change};
 
 use pol_access::{CatalogRoleRow, GrantRow, JoinRow, MemberRow, PrincipalRoleRow, PrincipalRow};
 use pol_content::{CatalogRow, Change, NamespaceRow, PutRow, TablePut, TableRow, ViewRow};
+use pol_tables::Rows;
 use pol_tokens::{SessionRow, TokenRow};
 use pol_types::OutOfMemory;
 use std::alloc::Global;
@@ -17,16 +18,30 @@ pub(crate) trait Put {
         ensures { IfOk result (λ put. put ≡ change self.now) };
 }
 
-/// Pushes the puts of the rows, in their order.
+/// Pushes the puts of a table's rows, in their order.
 pub(crate) fn push_puts<R: Put>(
     alloc: Global,
-    rows: &[R],
+    rows: Rows<'_, R>,
     changes: &mut Vec<Change>,
 ) -> Result<(), OutOfMemory>
-    ensures { OnOk result (changes.new.items ≡ changes.old.items ++ map R.change rows.now) }
+    ensures { OnOk result (changes.new.items ≡ changes.old.items ++ map R.change rows.entry) }
 {
     for row in rows {
         changes.push(row.put(alloc)?)?;
+    }
+    Ok(())
+}
+
+/// Pushes the puts of the facts, in their order.
+pub(crate) fn push_facts<R: Put>(
+    alloc: Global,
+    facts: &[R],
+    changes: &mut Vec<Change>,
+) -> Result<(), OutOfMemory>
+    ensures { OnOk result (changes.new.items ≡ changes.old.items ++ map R.change facts.now) }
+{
+    for fact in facts {
+        changes.push(fact.put(alloc)?)?;
     }
     Ok(())
 }

@@ -3,6 +3,7 @@ use pol_locations::Location;
 use pol_meta::TableMetadata;
 use pol_names::Name;
 use pol_tables::{Keyed, NameOf, Named, Sortable, number_of};
+use pol_tallies::Grouped;
 use pol_types::Exact;
 use std::cmp::Ordering;
 
@@ -44,6 +45,25 @@ impl Named for TableRow {
     #[tactic(auto, unfolding(crate::specs::Numbers::table_number))]
     fn number(&self) -> u64 {
         number_of(&(self.namespace, &self.name))
+    }
+}
+
+/// A table belongs to its namespace.
+impl Grouped for TableRow {
+    ghost use Rattle.std.specs.Prelude.{[], ◌∷◌};
+
+    ghost groups = { λ row. row.namespace ∷ [] };
+
+    ghost MOST = { 1 };
+
+    const MOST: usize = 1;
+
+    fn group_count(&self) -> usize {
+        1
+    }
+
+    fn group(&self, _place: usize) -> u64 {
+        self.namespace
     }
 }
 

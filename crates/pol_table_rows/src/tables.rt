@@ -1,5 +1,4 @@
 ghost use Rattle.std.specs.Prelude.{◌≡◌, ◌<◌, ◌≤◌, ◌+◌, [], filter, map, nat_eq, IfOk, IsOk, OnOk, option_copied};
-ghost use Rattle.std.specs.Slice.Iter.{iter_rest};
 ghost use Rattle.pol_tables.specs.Named.{Finds};
 ghost use Rattle.pol_tables.specs.Rising.{KeysRise};
 ghost use Rattle.pol_tables.specs.Table.{row_of, rows_with, rows_without};
@@ -8,17 +7,17 @@ ghost use Rattle.pol_table_rows.specs.Tables.{TableNamesDiffer, holds_table, is_
 use crate::{Places, TableName, TablePut, TableRow};
 use pol_locations::Location;
 use pol_names::Name;
-use pol_tables::{NamedTable, sorted_rows};
+use pol_tables::{Rows, sorted_rows};
+use pol_tallies::GroupedTable;
 use pol_types::OutOfMemory;
 use std::alloc::{AllocError, Global};
 use std::marker::Model;
-use std::slice;
 
 /// Tables, each found by its id and by its namespace and name, with the locations of all of them. Contracts see the
 /// rows, and the room: how many more can be put without taking memory.
 #[derive(Debug, Drop)]
 pub struct Tables {
-    rows: NamedTable<TableRow>,
+    rows: GroupedTable<TableRow>,
     places: Places,
 }
 
@@ -39,14 +38,14 @@ impl Tables {
         ensures { result.rows ≡ [] }
     {
         Tables {
-            rows: NamedTable::new(alloc),
+            rows: GroupedTable::new(alloc),
             places: Places::new(alloc),
         }
     }
 
     /// The rows, in the order in which they were put.
-    pub fn rows(&self) -> slice::Iter<'_, TableRow>
-        ensures { iter_rest result ≡ self.now.rows }
+    pub fn rows(&self) -> Rows<'_, TableRow>
+        ensures { result ≡ self.now.rows }
     {
         self.rows.rows()
     }
@@ -71,14 +70,15 @@ impl Tables {
     pub fn in_namespace(&self, alloc: Global, namespace: u64) -> Result<Vec<&TableRow>, OutOfMemory>
         ensures { IfOk result (λ found. map (λ row. row.now) found.items ≡ tables_in namespace self.now.rows) }
     {
-        sorted_rows(rows_in(alloc, self.rows.rows().as_slice(), namespace)?)
+        sorted_rows(rows_in(alloc, self.rows.rows(), namespace)?)
     }
 
-    /// Whether a namespace has a table.
+    /// Whether a namespace has a table. It scans no rows.
+    #[tactic(auto, using(pol_tallies::proofs::GroupedLemmas::any_of_one))]
     pub fn any_in(&self, namespace: u64) -> bool
         ensures { result ≡ holds_table namespace self.now.rows }
     {
-        self.rows.rows().any(|row| row.namespace == namespace)
+        self.rows.any_of(namespace)
     }
 
     /// The table of the least id outside `except` whose location overlaps the wanted one. It looks at the locations near
@@ -149,15 +149,13 @@ fn stays_at(known: Option<&TableRow>, place: &Location) -> bool
 }
 
 /// Those of the tables that are in the namespace.
-fn rows_in(alloc: Global, rows: &[TableRow], namespace: u64) -> Result<Vec<&TableRow>, OutOfMemory>
+fn rows_in<'a>(
+    alloc: Global,
+    rows: Rows<'a, TableRow>,
+    namespace: u64,
+) -> Result<Vec<&'a TableRow>, AllocError>
     ensures { IfOk result (λ found.
-        map (λ row. row.now) found.items ≡ filter (λ row. nat_eq row.namespace namespace) rows.now) }
+        map (λ row. row.now) found.items ≡ filter (λ row. nat_eq row.namespace namespace) rows.entry) }
 {
-    let mut found = Vec::new(alloc);
-    for row in rows {
-        if row.namespace == namespace {
-            found.push(row)?;
-        }
-    }
-    Ok(found)
+    rows.filter(|row| row.namespace == namespace).collect(alloc)
 }

@@ -12,4 +12,5 @@ mod PlaceLemmas
 pub mod ReplayLemmas
 pub mod RisingLemmas
 pub mod SameLemmas
+pub mod SlotLemmas
 pub mod TableLemmas

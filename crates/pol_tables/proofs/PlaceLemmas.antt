@@ -1,6 +1,6 @@
 -- The place of an id's row in a list, how it is searched for, and the list once the row there is set or taken.
-use Rattle.std.proofs.Common.{◌≡◌, ℕ, zero, suc, ◌<◌, ◌≤◌, ◌-◌, Bool, true, false, not, ◌||◌, List, [], ◌∷◌, ◌++◌, length, map, Option, None, Some, Result, Ok, Err, HoldsAt, get_or, slice_get, slice_set, nat_eq, nat_lt, MatchOption, refl, sym, ap, subst, ◌∙◌, inl, inr, arith, true≢false}
-use Rattle.std.specs.List.{AllWithin, IsDistinct, remove}
+use Rattle.std.proofs.Common.{◌≡◌, ℕ, zero, suc, ◌<◌, ◌≤◌, ◌-◌, Bool, true, false, not, ◌||◌, List, [], ◌∷◌, ◌++◌, length, map, None, Some, Result, Ok, Err, HoldsAt, get_or, slice_get, slice_set, nat_eq, nat_lt, refl, sym, ap, subst, ◌∙◌, inl, inr, arith, true≢false}
+use Rattle.std.specs.List.{list_any, IsDistinct, remove}
 use Rattle.std.specs.Result.{result_ok}
 use Rattle.std.specs.List.Sorted.{IsSearchInRange, IsBinarySearchResult, IsNonDecreasingBy}
 use Rattle.std.specs.Ordering.{nat_cmp, ordering_index}
@@ -16,6 +16,12 @@ use Rattle.pol_tables.proofs.ListLemmas.{each-push}
 use Rattle.pol_tables.proofs.RisingLemmas.{key-replaced}
 use Rattle.pol_tables.proofs.TableLemmas.{Lacks, IdsDiffer-cons, IdsDiffer-filter, differ_head, differ_past, filter-lacks, lacks_past, lacks-unknown, map-lacks, replaced, rows_with-known, rows_with-new}
 
+-- where no item passes a test, none does at any place
+pub none-each : {A : Type 0} (test : A → Bool) (items : List A) → ((k : ℕ) (d : A) → k < length items → test (get_or items k d) ≡ false) → list_any test items ≡ false
+none-each test [] fails = refl
+none-each test (item ∷ items) fails =
+    rw (fails 0 item (omega arith)) (none-each test items (λ k d within. fails (suc k) d (omega (arith, within))))
+
 module _ {R : Type 0} (key : R → ℕ) where
   -- where no row has an id, none has it at any place
   no_place : (id : ℕ) (rows : List R) (place : ℕ) → Lacks key id rows → place < length rows → HoldsAt (λ row. has_id key id row ≡ true) rows place → ⊥
@@ -24,7 +30,7 @@ module _ {R : Type 0} (key : R → ℕ) where
   no_place id (row ∷ rows) (suc place) lacks within here = no_place id rows place lacks.1 (omega (arith, within)) here
 
   -- the row before the place of an id has another
-  other_before : (id : ℕ) (row : R) (rows : List R) (place : ℕ) → IdsDiffer key (row ∷ rows) → IsPlace key id (row ∷ rows) (Some (suc place)) → has_id key id row ≡ false
+  pub other_before : (id : ℕ) (row : R) (rows : List R) (place : ℕ) → IdsDiffer key (row ∷ rows) → IsPlace key id (row ∷ rows) (Some (suc place)) → has_id key id row ≡ false
   other_before id row rows place differ is = elim (cases_Bool (has_id key id row)) [
     | inl here ↦ absurd (no_place id rows place (lacks_past key id row rows differ here) (omega (arith, is.0)) is.1)
     | inr other ↦ other
@@ -106,12 +112,6 @@ module _ {R : Type 0} (key : R → ℕ) where
   unfolding rows_without
   IdsDiffer-rows_without id rows differ = IdsDiffer-filter key (λ row. not (has_id key id row)) rows differ
 
-  -- an id that no row has is unknown
-  pub unknown-each : (id : ℕ) (rows : List R) → ((k : ℕ) (d : R) → k < length rows → has_id key id (get_or rows k d) ≡ false) → knows key id rows ≡ false
-  unknown-each id [] other = refl
-  unknown-each id (row ∷ rows) other =
-      rw (other 0 row (omega arith)) (unknown-each id rows (λ k d within. other (suc k) d (omega (arith, within))))
-
   -- rising keys rise from place to place
   above-at : (low : ℕ) (rows : List R) (k : ℕ) (d : R) → KeysAbove key low rows → k < length rows → low < key (get_or rows k d)
   above-at low [] k d above within = absurd (omega (arith, within))
@@ -142,16 +142,11 @@ module _ {R : Type 0} (key : R → ℕ) where
     -- a search by halves finds the place of an id where keys rise
     pub searched : (result : Result ℕ ℕ) → KeysRise key rows → IsSearchInRange result (length rows) → IsBinarySearchResult (λ row. nat_cmp (key row) id) rows result → IsPlace key id rows (result_ok result)
     searched (Ok place) rise within found = (within, λ d. is-equal (key (get_or rows place d)) (found d))
-    searched (Err place) rise within parted = unknown-each id rows (λ k d inside. by k d inside (nat_lt k place) refl)
+    searched (Err place) rise within parted = none-each (has_id key id) rows (λ k d inside. by k d inside (nat_lt k place) refl)
       where
         by : (k : ℕ) (d : R) → k < length rows → (b : Bool) → nat_lt k place ≡ b → has_id key id (get_or rows k d) ≡ false
         by k d inside true before = is-less (key (get_or rows k d)) ((parted (ranks_rise rise)).0 k d (omega arith) (grind (arith, nat_tests, before)))
         by k d inside false behind = is-greater (key (get_or rows k d)) ((parted (ranks_rise rise)).1 k d (grind (arith, nat_tests, behind)) inside)
-
-    -- and so does a scan
-    pub scanned : (result : Option ℕ) → MatchOption result (AllWithin (λ row. has_id key id row ≡ false) rows 0 (length rows)) (λ place. (place < length rows) × HoldsAt (λ row. has_id key id row ≡ true) rows place × AllWithin (λ row. has_id key id row ≡ false) rows 0 place) → IsPlace key id rows result
-    scanned None missed = unknown-each id rows (λ k d inside. missed k d (omega arith) inside)
-    scanned (Some place) found = (found.0, found.1)
 
   -- keys that rise are below an id that is above the last
   below-last : (id : ℕ) (rows : List R) (k : ℕ) (d : R) → KeysRise key rows → suc k ≡ length rows → key (get_or rows k d) < id → KeysBelow key id rows

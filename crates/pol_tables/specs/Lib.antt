@@ -8,4 +8,5 @@ pub mod Numbered
 pub mod Order
 pub mod Rising
 pub mod Same
+pub mod Slots
 pub mod Table

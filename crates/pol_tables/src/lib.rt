@@ -10,6 +10,8 @@ mod named;
 mod named_table;
 mod number;
 mod order;
+mod rows;
+mod slot;
 mod table;
 
 pub use fact::Fact;
@@ -20,4 +22,5 @@ pub use named::{NameOf, Named};
 pub use named_table::NamedTable;
 pub use number::number_of;
 pub use order::{Sortable, rows_in_order, sorted_facts, sorted_rows};
+pub use rows::Rows;
 pub use table::Table;

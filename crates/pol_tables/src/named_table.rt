@@ -1,16 +1,14 @@
 ghost use Rattle.std.specs.Prelude.{◌≡◌, ◌↔◌, ◌<◌, ◌≤◌, ◌+◌, ◌≢◌, [], length, None, IsTrue, IsOk, OnOk, option_copied};
-ghost use Rattle.std.specs.Slice.Iter.{iter_rest};
 ghost use Rattle.std.specs.List.{AllByRecursion};
 ghost use Rattle.pol_tables.specs.Index.{is_noted, entry_number};
 ghost use Rattle.pol_tables.specs.Named.{Finds, FindsOr, IsMissed, IsMissedFirst, named_row};
 ghost use Rattle.pol_tables.specs.Table.{row_of, rows_with, rows_without, IdsDiffer};
 ghost use Rattle.pol_tables.specs.declared.index.IndexEntry.{IndexEntry};
 
-use crate::{Index, IndexEntry, NameOf, Named, Table};
+use crate::{Index, IndexEntry, NameOf, Named, Rows, Table};
 use pol_types::OutOfMemory;
 use std::alloc::{AllocError, Global};
 use std::marker::Model;
-use std::slice;
 
 /// Rows in the order in which their ids came, each found by its id and by its name without a scan. Contracts see the
 /// rows, and the room: how many more rows can be put without taking memory.
@@ -56,8 +54,8 @@ impl<R: Named> NamedTable<R> {
     }
 
     /// The rows, in their order.
-    pub fn rows(&self) -> slice::Iter<'_, R>
-        ensures rows { iter_rest result ≡ self.now.rows }
+    pub fn rows(&self) -> Rows<'_, R>
+        ensures rows { result ≡ self.now.rows }
         ensures differ { IdsDiffer R.key self.now.rows }
     {
         self.table.rows()

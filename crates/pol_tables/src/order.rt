@@ -3,7 +3,7 @@ ghost use Rattle.std.specs.Cmp.{IsTotalOrder};
 ghost use Rattle.std.specs.declared.cmp.Ordering.{Ordering};
 ghost use Rattle.pol_tables.specs.Order.{in_order};
 
-use crate::Fact;
+use crate::{Fact, Rows};
 use pol_types::OutOfMemory;
 use std::alloc::{AllocError, Global};
 use std::cmp::Ordering;
@@ -19,8 +19,11 @@ pub trait Sortable {
 }
 
 /// The rows in rising order, where those that tie stay in theirs.
-pub fn rows_in_order<R: Sortable>(alloc: Global, rows: &[R]) -> Result<Vec<&R>, OutOfMemory>
-    ensures { IfOk result (λ sorted. map (λ row. row.now) sorted.items ≡ in_order R.cmp rows.now) }
+pub fn rows_in_order<'a, R: Sortable>(
+    alloc: Global,
+    rows: Rows<'a, R>,
+) -> Result<Vec<&'a R>, OutOfMemory>
+    ensures { IfOk result (λ sorted. map (λ row. row.now) sorted.items ≡ in_order R.cmp rows.entry) }
 {
     sorted_rows(lent(alloc, rows)?)
 }
@@ -44,8 +47,8 @@ pub fn sorted_facts<T: Fact + Ord>(facts: Vec<T>) -> Result<Vec<T>, OutOfMemory>
     Ok(sorted)
 }
 
-fn lent<R>(alloc: Global, rows: &[R]) -> Result<Vec<&R>, AllocError>
-    ensures { IfOk result (λ lent. map (λ row. row.now) lent.items ≡ rows.now) }
+fn lent<'a, R>(alloc: Global, rows: Rows<'a, R>) -> Result<Vec<&'a R>, AllocError>
+    ensures { IfOk result (λ lent. map (λ row. row.now) lent.items ≡ rows.entry) }
 {
-    rows.iter().collect(alloc)
+    rows.collect(alloc)
 }

@@ -1,38 +1,43 @@
-ghost use Rattle.std.specs.Prelude.{◌≡◌, ◌↔◌, ◌<◌, ◌≤◌, ◌+◌, [], length, true, false, IsTrue, IsOk, OnOk, option_copied};
+ghost use Rattle.std.specs.Prelude.{◌≡◌, ◌↔◌, ◌<◌, ◌≤◌, ◌+◌, [], length, true, false, IsTrue, IsOk, OnOk, option_copied, slice_get};
 ghost use Rattle.std.specs.Cmp.Lexicographic.{pointwise, lists_per};
-ghost use Rattle.std.specs.Slice.Iter.{iter_rest};
 ghost use Rattle.pol_tables.specs.Rising.{KeysBelow, KeysRise};
+ghost use Rattle.pol_tables.specs.Slots.{slot_key, IsSlot};
 ghost use Rattle.pol_tables.specs.Table.{knows, row_of, rows_with, rows_without, IdsDiffer, IsPlace};
 
-use crate::Keyed;
+use crate::slot::Slot;
+use crate::{Keyed, Rows};
 use pol_types::OutOfMemory;
 use std::alloc::{AllocError, Global};
 use std::marker::Model;
-use std::slice;
+use std::mem;
+
+/// A table sweeps out the places of taken rows only once there are more than these.
+const FEW: usize = 32;
 
 /// Rows in the order in which their ids came, each found by its id: by halves as long as ids rise, as those do that a
-/// counter gives out, and else by a scan. To take a row away moves those behind it, and looks at none of them.
-/// Contracts see the rows, and the room: how many more rows can be put without taking memory.
+/// counter gives out, and else by a scan. To take a row away moves no other, for its place stays until more than half
+/// of all places are such: then these are swept out. Contracts see the rows, and the room: how many more rows can be
+/// put without taking memory.
 #[derive(Debug, Drop)]
 pub struct Table<R: Keyed> {
-    rows: Vec<R>,
+    slots: Vec<Slot<R>>,
+    gone: usize,
     rise: bool,
 }
 
 impl<R: Keyed> Model for Table<R> {
-    ghost use Rattle.std.specs.Prelude.{◌≡◌, ◌-◌, true, vec_capacity, vec_len};
-    ghost use Rattle.pol_tables.specs.Rising.{KeysRise};
-    ghost use Rattle.pol_tables.specs.Table.{IdsDiffer, TableValue};
+    ghost use Rattle.std.specs.Prelude.{◌-◌, vec_capacity, vec_len};
+    ghost use Rattle.pol_tables.specs.Slots.{kept, AreSlots};
+    ghost use Rattle.pol_tables.specs.Table.{TableValue};
 
     ghost Value = { TableValue R };
 
     ghost view = { λ table. record {
-      rows = table.rows.items;
-      room = vec_capacity table.rows - vec_len table.rows;
+      rows = kept table.slots.items;
+      room = vec_capacity table.slots - vec_len table.slots;
     } };
 
-    ghost invariant = { λ table.
-        IdsDiffer R.key table.rows.items × (table.rise ≡ true → KeysRise R.key table.rows.items) };
+    ghost invariant = { λ table. AreSlots R.key table.slots.items table.rise table.gone };
 }
 
 impl<R: Keyed> Table<R> {
@@ -40,7 +45,8 @@ impl<R: Keyed> Table<R> {
         ensures { result.rows ≡ [] }
     {
         Table {
-            rows: Vec::new(alloc),
+            slots: Vec::new(alloc),
+            gone: 0,
             rise: true,
         }
     }
@@ -48,30 +54,43 @@ impl<R: Keyed> Table<R> {
     pub fn len(&self) -> usize
         ensures { result ≡ length self.now.rows }
     {
-        self.rows.len()
+        self.slots.len() - self.gone
     }
 
     pub fn is_empty(&self) -> bool
         ensures { IsTrue result ↔ (self.now.rows ≡ []) }
     {
-        self.rows.is_empty()
+        self.len() == 0
     }
 
     /// The rows, in their order.
-    pub fn rows(&self) -> slice::Iter<'_, R>
-        ensures rows { iter_rest result ≡ self.now.rows }
+    pub fn rows(&self) -> Rows<'_, R>
+        ensures rows { result ≡ self.now.rows }
         ensures differ { IdsDiffer R.key self.now.rows }
     {
-        self.rows.as_slice().iter()
+        Rows::new(self.slots.as_slice(), self.slots.len() - self.gone)
     }
 
     /// The row of this id.
     pub fn find(&self, id: u64) -> Option<&R>
         ensures { option_copied result ≡ row_of R.key id self.now.rows }
     {
-        let rows = self.rows.as_slice();
-        match place_of(rows, self.rise, id) {
-            Some(place) => Some(&rows[place]),
+        let slots = self.slots.as_slice();
+        match place_of(slots, self.rise, id) {
+            Some(place) => slots[place].row(),
+            None => None,
+        }
+    }
+
+    /// The row at a place of their order, counted from 0. Where none was taken it looks at no other.
+    pub fn at(&self, place: usize) -> Option<&R>
+        ensures { option_copied result ≡ slice_get self.now.rows place }
+    {
+        if self.gone > 0 {
+            return self.rows().nth(place);
+        }
+        match self.slots.get(place) {
+            Some(slot) => slot.row(),
             None => None,
         }
     }
@@ -84,7 +103,7 @@ impl<R: Keyed> Table<R> {
         ensures succeeds { more ≤ self.old.room → IsOk result }
         ensures room { self.old.room ≤ self.new.room }
     {
-        Ok(self.rows.reserve(more)?)
+        Ok(self.slots.reserve(more)?)
     }
 
     /// Puts a row, and takes no memory: a new id goes last, and a known id's row is replaced in its place.
@@ -95,12 +114,12 @@ impl<R: Keyed> Table<R> {
         ensures known { knows R.key (R.key row) self.old.rows ≡ true → self.old.room ≤ self.new.room }
     {
         let id = row.key();
-        if let Some(place) = place_of(self.rows.as_slice(), self.rise, id) {
-            self.rows[place] = row;
+        if let Some(place) = place_of(self.slots.as_slice(), self.rise, id) {
+            self.slots[place] = Slot::Kept(row);
             return;
         }
-        self.rise = rise_with(self.rows.as_slice(), self.rise, id);
-        self.rows.push(row).unwrap();
+        self.rise = rise_with(self.slots.as_slice(), self.rise, id);
+        self.slots.push(Slot::Kept(row)).unwrap();
     }
 
     /// Takes the row of this id away. The others keep their order.
@@ -109,29 +128,52 @@ impl<R: Keyed> Table<R> {
         ensures rows { self.new.rows ≡ rows_without R.key id self.old.rows }
         ensures room { self.old.room ≤ self.new.room }
     {
-        let place = place_of(self.rows.as_slice(), self.rise, id)?;
-        Some(self.rows.remove(place))
+        let place = place_of(self.slots.as_slice(), self.rise, id)?;
+        let taken = mem::replace(&mut self.slots[place], Slot::Gone(id));
+        self.gone += 1;
+        self.sweep();
+        taken.into_row()
+    }
+
+    /// Leaves out the places of taken rows, once these are more than half of all.
+    fn sweep(&mut self)
+        ensures rows { self.new.rows ≡ self.old.rows }
+        ensures room { self.old.room ≤ self.new.room }
+    {
+        if self.gone > FEW && self.gone > self.slots.len() / 2 {
+            self.slots.retain(|slot| slot.row().is_some());
+            self.gone = 0;
+        }
     }
 }
 
-/// Where the row of this id stands.
-fn place_of<R: Keyed>(rows: &[R], rise: bool, id: u64) -> Option<usize>
-    requires { rise ≡ true → KeysRise R.key rows.now }
-    ensures { IsPlace R.key id rows.now result }
+/// The place of the row of this id.
+fn place_of<R: Keyed>(slots: &[Slot<R>], rise: bool, id: u64) -> Option<usize>
+    requires { rise ≡ true → KeysRise (slot_key R.key) slots.now }
+    ensures { IsSlot R.key id slots.now result }
 {
     if rise {
-        return rows.binary_search_by_key(&id, |row| row.key()).ok();
+        let place = place_by_halves(slots, id)?;
+        return slots[place].has(id).then_some(place);
     }
-    rows.iter().position(|row| id == row.key())
+    slots.iter().position(|slot| slot.has(id))
+}
+
+/// The place of this id, also where the row was taken.
+fn place_by_halves<R: Keyed>(slots: &[Slot<R>], id: u64) -> Option<usize>
+    requires { KeysRise (slot_key R.key) slots.now }
+    ensures { IsPlace (slot_key R.key) id slots.now result }
+{
+    slots.binary_search_by_key(&id, |slot| slot.id()).ok()
 }
 
 /// Whether ids still rise once this one is put last.
-fn rise_with<R: Keyed>(rows: &[R], rise: bool, id: u64) -> bool
-    requires { rise ≡ true → KeysRise R.key rows.now }
-    ensures { result ≡ true → KeysRise R.key rows.now × KeysBelow R.key id rows.now }
+fn rise_with<R: Keyed>(slots: &[Slot<R>], rise: bool, id: u64) -> bool
+    requires { rise ≡ true → KeysRise (slot_key R.key) slots.now }
+    ensures { result ≡ true → KeysRise (slot_key R.key) slots.now × KeysBelow (slot_key R.key) id slots.now }
 {
-    match rows.last() {
-        Some(last) => rise && last.key() < id,
+    match slots.last() {
+        Some(last) => rise && last.id() < id,
         None => true,
     }
 }
@@ -140,9 +182,10 @@ impl<R: Keyed> Clone for Table<R> {
     ghost is_clone = { λ source clone. clone.rows ≡ source.rows };
 
     fn clone(&self) -> Result<Self, AllocError> {
-        let rows = self.rows.clone()?;
+        let slots = self.slots.clone()?;
         Ok(Table {
-            rows,
+            slots,
+            gone: self.gone,
             rise: self.rise,
         })
     }
@@ -158,6 +201,22 @@ impl<R: Keyed> PartialEq for Table<R> {
         } };
 
     fn eq(&self, other: &Self) -> bool {
-        self.rows().as_slice() == other.rows().as_slice()
+        are_equal(self.rows(), other.rows())
     }
+}
+
+/// Whether there are as many rows, and equal ones.
+fn are_equal<R: Keyed>(left: Rows<'_, R>, right: Rows<'_, R>) -> bool
+    ensures { result ≡ pointwise R.eq left.entry right.entry }
+{
+    let mut others = right;
+    for row in left {
+        let Some(other) = others.next() else {
+            return false;
+        };
+        if row != other {
+            return false;
+        }
+    }
+    others.next().is_none()
 }

@@ -5,7 +5,7 @@ use Rattle.std.specs.Cmp.{first_so, second_so}
 use Rattle.std.specs.Cmp.Lexicographic.{pointwise, same_text}
 use Rattle.std.proofs.Common.{sym}
 use Rattle.std.proofs.lemmas.Bool.{eqb-true}
-use Rattle.pol_types.specs.Exact.{exactness, pointwise_exact}
+use Rattle.pol_types.specs.Exact.{pointwise_exact}
 use Rattle.pol_tokens.specs.contracts.token.TokenRowPartialEq.TheImpl as tokens_compared
 use Rattle.pol_tokens.specs.declared.token.TokenRow.{TokenRow}
 

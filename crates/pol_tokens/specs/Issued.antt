@@ -1,5 +1,5 @@
 -- Storage tokens that are issued, and what they open.
-use Rattle.std.specs.Prelude.{ℕ, ◌+◌, Bool, true, false, not, List, Option, Some, None, if◌then◌else◌}
+use Rattle.std.specs.Prelude.{ℕ, ◌+◌, Bool, true, false, List, Option, Some, None, if◌then◌else◌}
 use Rattle.pol_locations.specs.Location.{is_cover}
 use Rattle.pol_table_rows.specs.declared.row.TableRow.{TableRow}
 use Rattle.pol_tokens.specs.declared.token.Act.{Act}

@@ -1,5 +1,4 @@
 ghost use Rattle.std.specs.Prelude.{◌≡◌, ◌<◌, ◌≤◌, ◌+◌, [], false, true, IsOk, OnOk, option_copied};
-ghost use Rattle.std.specs.Slice.Iter.{iter_rest};
 ghost use Rattle.pol_tables.specs.Table.{knows, row_of};
 ghost use Rattle.pol_tokens.specs.Chains.{count_held};
 ghost use Rattle.pol_tokens.specs.HeldTable.{find_text, is_live_at, rows_once};
@@ -7,11 +6,10 @@ ghost use Rattle.pol_tokens.specs.HeldTable.{find_text, is_live_at, rows_once};
 use crate::Held;
 use crate::chains::Chains;
 use crate::text::serial_in;
-use pol_tables::Table;
+use pol_tables::{Rows, Table};
 use pol_types::OutOfMemory;
 use std::alloc::{AllocError, Global};
 use std::marker::Model;
-use std::slice;
 
 /// Rows that principals have until they expire, in the order in which they were put, each found by its serial. Those of
 /// one principal are counted without a look at the others. A row is never replaced, and never taken away. Contracts see
@@ -48,8 +46,8 @@ impl<R: Held> HeldTable<R> {
     }
 
     /// The rows, in their order.
-    pub fn rows(&self) -> slice::Iter<'_, R>
-        ensures { iter_rest result ≡ self.now.rows }
+    pub fn rows(&self) -> Rows<'_, R>
+        ensures { result ≡ self.now.rows }
     {
         self.table.rows()
     }
@@ -80,11 +78,11 @@ impl<R: Held> HeldTable<R> {
     pub fn count(&self, principal: u64, now: u64) -> u64
         ensures { result ≡ count_held R.holder R.expiry principal now self.now.rows }
     {
-        let rows = self.table.rows().as_slice();
+        let _most = self.table.len();
         let mut held = 0;
         let mut place = self.chains.last(principal) as usize;
         'rows: while place > 0 {
-            if is_live(rows, place - 1, now) {
+            if is_live(&self.table, place - 1, now) {
                 held += 1;
             }
             place = self.chains.before(place - 1) as usize;
@@ -120,10 +118,10 @@ impl<R: Held> HeldTable<R> {
 }
 
 /// Whether the row at a place has not expired at `now`.
-fn is_live<R: Held>(rows: &[R], place: usize, now: u64) -> bool
-    ensures { result ≡ is_live_at R.expiry place now rows.now }
+fn is_live<R: Held>(table: &Table<R>, place: usize, now: u64) -> bool
+    ensures { result ≡ is_live_at R.expiry place now table.now.rows }
 {
-    match rows.get(place) {
+    match table.at(place) {
         Some(row) => now < row.expiry(),
         None => false,
     }

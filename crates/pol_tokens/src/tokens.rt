@@ -1,15 +1,14 @@
 ghost use Rattle.std.specs.Prelude.{◌≡◌, ◌<◌, ◌≤◌, ◌+◌, [], false, true, IsOk, OnOk, option_copied};
-ghost use Rattle.std.specs.Slice.Iter.{iter_rest};
 ghost use Rattle.pol_tables.specs.Table.{knows, row_of};
 ghost use Rattle.pol_tokens.specs.HeldTable.{rows_once};
 ghost use Rattle.pol_tokens.specs.Tokens.{find_session, find_token, serial_of, session_count, token_count, token_serial};
 
 use crate::held_table::HeldTable;
 use crate::{SessionRow, TokenRow};
+use pol_tables::Rows;
 use pol_types::OutOfMemory;
 use std::alloc::{AllocError, Global};
 use std::marker::Model;
-use std::slice;
 
 /// The sessions that were opened and the storage tokens that were issued, each kind in the order of their serials'
 /// coming and each row found by its serial. Contracts see the rows, and the room: how many more can be put without
@@ -43,15 +42,15 @@ impl Tokens {
     }
 
     /// The sessions, in the order in which they were put.
-    pub fn sessions(&self) -> slice::Iter<'_, SessionRow>
-        ensures { iter_rest result ≡ self.now.rows.sessions }
+    pub fn sessions(&self) -> Rows<'_, SessionRow>
+        ensures { result ≡ self.now.rows.sessions }
     {
         self.sessions.rows()
     }
 
     /// The storage tokens, in the order in which they were put.
-    pub fn tokens(&self) -> slice::Iter<'_, TokenRow>
-        ensures { iter_rest result ≡ self.now.rows.tokens }
+    pub fn tokens(&self) -> Rows<'_, TokenRow>
+        ensures { result ≡ self.now.rows.tokens }
     {
         self.tokens.rows()
     }

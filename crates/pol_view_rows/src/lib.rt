@@ -5,4 +5,4 @@ mod row;
 mod views;
 
 pub use row::{ViewName, ViewRow};
-pub use views::{any_view_in, views_in};
+pub use views::views_in;

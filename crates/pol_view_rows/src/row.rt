@@ -1,6 +1,7 @@
 use pol_names::Name;
 use pol_table_rows::Handle;
 use pol_tables::{Keyed, NameOf, Named, Sortable, number_of};
+use pol_tallies::Grouped;
 use pol_types::Exact;
 use pol_views::ViewMetadata;
 use std::cmp::Ordering;
@@ -41,6 +42,25 @@ impl Named for ViewRow {
     #[tactic(auto, unfolding(pol_table_rows::specs::Numbers::table_number))]
     fn number(&self) -> u64 {
         number_of(&(self.namespace, &self.name))
+    }
+}
+
+/// A view belongs to its namespace.
+impl Grouped for ViewRow {
+    ghost use Rattle.std.specs.Prelude.{[], ◌∷◌};
+
+    ghost groups = { λ row. row.namespace ∷ [] };
+
+    ghost MOST = { 1 };
+
+    const MOST: usize = 1;
+
+    fn group_count(&self) -> usize {
+        1
+    }
+
+    fn group(&self, _place: usize) -> u64 {
+        self.namespace
     }
 }
 

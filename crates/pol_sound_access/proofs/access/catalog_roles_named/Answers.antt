@@ -6,4 +6,4 @@ use Rattle.pol_sound_access.proofs.access.catalog_roles_named.Goals as goal
 
 pub returns : goal.returns
 returns c =
-    if_ok _ _ c.keys_differ.result (λ apart is. is ∙ ap (all_differ _) (c.as_slice.ensures.value ∙ c.catalog_roles.ensures) ∙ catalog_roles_told c.args.access.now.rows.catalog_roles) c.keys_differ.ensures
+    if_ok _ _ c.keys_differ.result (λ apart is. is ∙ ap (all_differ _) c.catalog_roles.ensures ∙ catalog_roles_told c.args.access.now.rows.catalog_roles) c.keys_differ.ensures

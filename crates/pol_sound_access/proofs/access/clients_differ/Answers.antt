@@ -6,4 +6,4 @@ use Rattle.pol_sound_access.proofs.access.clients_differ.Goals as goal
 
 pub returns : goal.returns
 returns c =
-    if_ok _ _ c.keys_differ.result (λ apart is. is ∙ ap (all_differ _) (c.as_slice.ensures.value ∙ c.principals.ensures) ∙ clients_told c.args.access.now.rows.principals) c.keys_differ.ensures
+    if_ok _ _ c.keys_differ.result (λ apart is. is ∙ ap (all_differ _) c.principals.ensures ∙ clients_told c.args.access.now.rows.principals) c.keys_differ.ensures

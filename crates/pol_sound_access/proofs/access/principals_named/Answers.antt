@@ -6,4 +6,4 @@ use Rattle.pol_sound_access.proofs.access.principals_named.Goals as goal
 
 pub returns : goal.returns
 returns c =
-    if_ok _ _ c.keys_differ.result (λ apart is. is ∙ ap (all_differ _) (c.as_slice.ensures.value ∙ c.principals.ensures) ∙ principals_told c.args.access.now.rows.principals) c.keys_differ.ensures
+    if_ok _ _ c.keys_differ.result (λ apart is. is ∙ ap (all_differ _) c.principals.ensures ∙ principals_told c.args.access.now.rows.principals) c.keys_differ.ensures

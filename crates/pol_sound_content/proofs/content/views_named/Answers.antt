@@ -6,4 +6,4 @@ use Rattle.pol_sound_content.proofs.content.views_named.Goals as goal
 
 pub returns : goal.returns
 returns c =
-    if_ok _ _ c.keys_differ.result (λ apart is. is ∙ ap (all_differ _) (c.as_slice.ensures.value ∙ c.views.ensures) ∙ views_told c.args.content.now.rows.views) c.keys_differ.ensures
+    if_ok _ _ c.keys_differ.result (λ apart is. is ∙ ap (all_differ _) c.views.ensures ∙ views_told c.args.content.now.rows.views) c.keys_differ.ensures

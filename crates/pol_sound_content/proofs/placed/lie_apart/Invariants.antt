@@ -1,5 +1,4 @@
 use Rattle.std.proofs.Common.{◌≡◌, length}
-use Rattle.std.specs.Slice.Iter.{iter_rest}
 use Rattle.pol_locations.specs.Location.{is_overlap}
 use Rattle.pol_table_rows.specs.declared.row.TableRow.{TableRow}
 use Rattle.pol_sound_access.specs.Judged.{all_differ}
@@ -9,7 +8,7 @@ use Rattle.pol_sound_content.proofs.placed.lie_apart.Given as goal
 abbrev pub invariant-loop-row : goal.invariant-loop-row
 invariant-loop-row l =
     let clash : TableRow → TableRow → _ = λ left right. is_overlap left.location right.location in
-    all_differ clash (iter_rest l.rest) ≡ all_differ clash l.rows
+    all_differ clash l.rest ≡ all_differ clash l.fn.rows
 
 abbrev pub decreases-loop-row : goal.decreases-loop-row
-decreases-loop-row l = length (iter_rest l.rest)
+decreases-loop-row l = length l.rest

@@ -1,8 +1,8 @@
-use Rattle.std.proofs.Common.{◌≡◌, drop}
+use Rattle.std.proofs.Common.{◌≡◌}
 use Rattle.std.specs.List.{list_all}
 use Rattle.pol_sound_content.specs.Judged.{is_placed}
 use Rattle.pol_sound_content.proofs.placed.tables_placed.Given as goal
 
 -- those that are left pass exactly where all do
 abbrev pub invariant-loop-row : goal.invariant-loop-row
-invariant-loop-row l = list_all (is_placed) (drop l.row-index l.rows) ≡ list_all (is_placed) l.rows
+invariant-loop-row l = list_all (is_placed) l.row-iterator ≡ list_all (is_placed) l.fn.rows

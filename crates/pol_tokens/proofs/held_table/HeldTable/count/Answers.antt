@@ -1,5 +1,5 @@
-use Rattle.std.proofs.Common.{◌≡◌, [], ◌+◌, ◌-◌, true, false, cond, sym, ap, subst, ◌∙◌, arith}
-use Rattle.pol_tokens.specs.Chains.{AreChained, count_held, link_of, links_from}
+use Rattle.std.proofs.Common.{◌≡◌, [], ◌+◌, ◌-◌, cond, sym, ap, subst, ◌∙◌, arith}
+use Rattle.pol_tokens.specs.Chains.{link_of, links_from}
 use Rattle.pol_tokens.specs.HeldTable.{is_live_at}
 use Rattle.pol_tokens.proofs.WalkLemmas.{Steps, Walks, walk-end, walk-step}
 use Rattle.pol_tokens.proofs.held_table.HeldTable.count.Given as given
@@ -20,7 +20,7 @@ rows-smaller g c = omega (arith, link g c, (step g c).falls)
 pub rows-preserved : goal.rows-preserved
 rows-preserved g c =
     let live : c.is_live.result ≡ is_live_at g.R.Held.expiry (c.rows.place - 1) c.args.now c.self.inside.table.rows =
-    c.is_live.ensures ∙ ap (is_live_at g.R.Held.expiry (c.rows.place - 1) c.args.now) c.as_slice-rows.ensures.value ∙ ap (is_live_at g.R.Held.expiry (c.rows.place - 1) c.args.now) c.rows-2.ensures.rows in
+    c.is_live.ensures in
     let counted : c.rows.held + (step g c).live ≡ c.if-is_live.held = elim c.if-is_live.branch [
       | then-is_live w ↦ (let one = (step g c).is_live ∙ ap (λ b. cond b 1 0) (sym live ∙ w.if-is_live.true) in omega (arith, one, w.held-is))
       | else-is_live w ↦ (let none = (step g c).is_live ∙ ap (λ b. cond b 1 0) (sym live ∙ w.if-is_live.false) in omega (arith, none, w.held-is))

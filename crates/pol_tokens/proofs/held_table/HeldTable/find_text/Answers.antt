@@ -4,7 +4,6 @@ use Rattle.std.specs.Str.{bytes_eq}
 use Rattle.std.proofs.lemmas.Bool.{lt-ltb, le-ltb}
 use Rattle.pol_tokens.specs.HeldTable.{spells}
 use Rattle.pol_tokens.proofs.HeldLemmas.{find-sought, none-sought, is_sought, passed, taken, other_text, expired}
-use Rattle.pol_tokens.proofs.held_table.HeldTable.find_text.Given as given
 use Rattle.pol_tokens.proofs.held_table.HeldTable.find_text.Goals as goal
 use Rattle.pol_tokens.proofs.held_table.HeldTable.find_text.Goals.{else-eq-via-then-eq+else-now-expiry, else-eq-via-else-eq}
 

@@ -1,4 +1,4 @@
-use Rattle.std.proofs.Common.{◌≡◌, ◌<◌, ◌^◌, [], ◌∷◌, ◌++◌, true, false, sym, ap, subst, ◌∙◌, arith, true≢false}
+use Rattle.std.proofs.Common.{◌≡◌, ◌<◌, ◌^◌, [], ◌∷◌, ◌++◌, false, sym, ap, subst, ◌∙◌, arith, true≢false}
 use Rattle.pol_tables.specs.Table.{knows}
 use Rattle.pol_tables.proofs.TableLemmas.{rows_with-new}
 use Rattle.pol_tokens.specs.Chains.{AreChained, AreLinked}
