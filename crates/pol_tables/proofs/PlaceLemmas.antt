@@ -40,13 +40,6 @@ module _ {R : Type 0} (key : R → ℕ) where
   place_past : (id : ℕ) (row : R) (rows : List R) (place : ℕ) → IsPlace key id (row ∷ rows) (Some (suc place)) → IsPlace key id rows (Some place)
   place_past id row rows place is = (omega (arith, is.0), is.1)
 
-  -- the row at the place of an id is that of the id
-  pub found-at : (id : ℕ) (rows : List R) (place : ℕ) (d : R) → IdsDiffer key rows → IsPlace key id rows (Some place) → Some (get_or rows place d) ≡ row_of key id rows
-  found-at id [] place d differ is = absurd (omega (arith, is.0))
-  found-at id (row ∷ rows) zero d differ is = rw (is.1 row) refl
-  found-at id (row ∷ rows) (suc place) d differ is =
-      rw (other_before id row rows place differ is) (found-at id rows place d (differ_past key row rows differ) (place_past id row rows place is))
-
   -- where no place is found there is no row, and none to take
   pub missed-at : (id : ℕ) (rows : List R) → IsPlace key id rows None → None ≡ row_of key id rows
   missed-at id [] unknown = refl
