@@ -1,3 +1,4 @@
+pub mod CountLemmas
 mod FactOrderLemmas
 pub mod KeptLemmas
 pub mod MayLemmas

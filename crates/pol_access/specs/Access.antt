@@ -1,11 +1,12 @@
 -- Principals, roles, members, joins and grants, as contracts see them, and the rows after each call.
-use Rattle.std.specs.Prelude.{◌≤◌, ℕ, Bool, not, ◌==◌, ◌&&◌, List, filter}
-use Rattle.std.specs.List.{list_any}
+use Rattle.std.specs.Prelude.{◌≤◌, ◌+◌, ℕ, Bool, not, ◌==◌, ◌&&◌, List, filter}
+use Rattle.std.specs.List.{count_by, list_any}
 use Rattle.std.specs.Str.{bytes_eq}
 use Rattle.pol_access.specs.Referent.{grant_names, join_names, member_names}
 use Rattle.pol_access.specs.contracts.rows.JoinRow as join
 use Rattle.pol_access.specs.contracts.rows.MemberRow as member
 use Rattle.pol_access.specs.declared.access.AccessRoom.{AccessRoom}
+use Rattle.pol_access.specs.declared.referent.Referent.{Referent}
 use Rattle.pol_access.specs.declared.referent.Referent.TheVariants as referent
 use Rattle.pol_access.specs.declared.referent.Referent.TheVariants.{Principal, PrincipalRole, CatalogRole, RoleOfCatalog}
 use Rattle.pol_access.specs.declared.rows.CatalogRoleRow.{CatalogRoleRow}
@@ -70,6 +71,11 @@ is_member principal role access = holds member.the_row.coded (record { principal
 -- whether the principal role is joined to the catalogue role
 abbrev pub is_joined : ℕ → ℕ → AccessRows → Bool
 is_joined principal_role catalog_role access = holds join.the_row.coded (record { principal_role = principal_role; catalog_role = catalog_role }) access.joins
+
+-- how many members, joins and grants name the referent
+abbrev pub names_in : Referent → AccessRows → ℕ
+names_in one access =
+    count_by (member_names one) access.members + (count_by (join_names access.catalog_roles one) access.joins + count_by (grant_names access.catalog_roles one) access.grants)
 
 -- whether a catalogue has a role beside the one of this name
 abbrev pub has_other_role : ℕ → List ℕ → AccessRows → Bool

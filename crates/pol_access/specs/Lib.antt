@@ -1,4 +1,5 @@
 pub mod Access
+pub mod Groups
 pub mod Implication
 pub mod Laws
 pub mod May

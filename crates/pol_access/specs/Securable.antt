@@ -1,5 +1,5 @@
 -- Securables and their kinds.
-use Rattle.std.specs.Prelude.{Bool, true, false}
+use Rattle.std.specs.Prelude.{ℕ, Bool, true, false, Option, None, Some}
 use Rattle.pol_access.specs.declared.securable.Securable.{Securable}
 use Rattle.pol_access.specs.declared.securable.Securable.TheVariants.{Realm, Catalog, Namespace, Table, View}
 use Rattle.pol_access.specs.declared.securable.SecurableKind.{SecurableKind}
@@ -19,3 +19,11 @@ is_realm (Catalog id) = false
 is_realm (Namespace id) = false
 is_realm (Table id) = false
 is_realm (View id) = false
+
+-- the id of what is below the realm
+abbrev pub id_of : Securable → Option ℕ
+id_of Realm = None
+id_of (Catalog id) = Some id
+id_of (Namespace id) = Some id
+id_of (Table id) = Some id
+id_of (View id) = Some id

@@ -1,8 +1,8 @@
-ghost use Rattle.std.specs.Prelude.{◌≡◌, ◌==◌, ◌<◌, ◌≤◌, ◌+◌, [], false, filter, map, Ok, IfOk, IsOk, OnOk, option_copied};
+ghost use Rattle.std.specs.Prelude.{◌≡◌, ◌==◌, ◌<◌, ◌≤◌, ◌+◌, [], true, false, filter, map, Ok, IfOk, IsOk, OnOk, option_copied};
 ghost use Rattle.std.specs.List.{IsDistinct};
-ghost use Rattle.std.specs.Slice.Iter.{iter_rest};
 ghost use Rattle.std.specs.Str.{bytes_eq};
-ghost use Rattle.pol_access.specs.Access.{IsWithin, catalog_role_id, client_id_of, is_joined, is_member, principal_id, principal_name, principal_role_id, principal_role_name};
+ghost use Rattle.pol_access.specs.Access.{IsWithin, catalog_role_id, client_id_of, is_joined, is_member, names_in, principal_id, principal_name, principal_role_id, principal_role_name};
+ghost use Rattle.pol_access.specs.Groups.{grants_at_most, grants_with, joins_at_most, members_at_most};
 ghost use Rattle.pol_access.specs.Names.{catalog_role_named, has_catalog_role_name, has_client_id, has_name, has_role_name, principal_named, principal_of_client, principal_role_named, same_role_name};
 ghost use Rattle.pol_access.specs.contracts.rows.GrantRow as grant;
 ghost use Rattle.pol_access.specs.contracts.rows.JoinRow as join;
@@ -13,12 +13,14 @@ ghost use Rattle.pol_tables.specs.Table.{row_of, rows_with, rows_without};
 
 use crate::names::{CatalogRoleName, PrincipalRoleName};
 use crate::principals::Principals;
-use crate::{CatalogRoleRow, GrantRow, JoinRow, MemberRow, PrincipalRoleRow, PrincipalRow};
-use pol_tables::{Facts, NamedTable, Rows};
+use crate::{
+    CatalogRoleRow, GrantRow, JoinRow, MemberRow, PrincipalRoleRow, PrincipalRow, Referent,
+};
+use pol_tables::{NamedTable, Rows};
+use pol_tallies::{FactRows, GroupedFacts};
 use pol_types::OutOfMemory;
 use std::alloc::{AllocError, Global};
 use std::marker::Model;
-use std::slice;
 
 /// How many rows of each kind.
 #[derive(Clone, Copy, Debug, PartialEq, Eq)]
@@ -34,15 +36,15 @@ pub struct AccessRoom {
 /// Principals, principal roles, catalogue roles, and who is a member, joined and granted what. Contracts see the
 /// rows, and the room: how many more of each can be put without taking memory. What has a name or a client id is
 /// found by it without a scan, and is the only such row where names stand once. A put and a drop change one row and
-/// take no memory: what names a dropped row stays.
+/// take no memory: what names a dropped row stays. Members, joins and grants are counted by the ids that they have.
 #[derive(Debug, Drop)]
 pub struct Access {
     principals: Principals,
     principal_roles: NamedTable<PrincipalRoleRow>,
     catalog_roles: NamedTable<CatalogRoleRow>,
-    members: Facts<MemberRow>,
-    joins: Facts<JoinRow>,
-    grants: Facts<GrantRow>,
+    members: GroupedFacts<MemberRow>,
+    joins: GroupedFacts<JoinRow>,
+    grants: GroupedFacts<GrantRow>,
 }
 
 impl Model for Access {
@@ -81,9 +83,9 @@ impl Access {
             principals: Principals::new(alloc),
             principal_roles: NamedTable::new(alloc),
             catalog_roles: NamedTable::new(alloc),
-            members: Facts::new(alloc),
-            joins: Facts::new(alloc),
-            grants: Facts::new(alloc),
+            members: GroupedFacts::new(alloc),
+            joins: GroupedFacts::new(alloc),
+            grants: GroupedFacts::new(alloc),
         }
     }
 
@@ -169,8 +171,8 @@ impl Access {
     }
 
     /// The members, in the order in which they were put.
-    pub fn members(&self) -> slice::Iter<'_, MemberRow>
-        ensures { iter_rest result ≡ self.now.rows.members }
+    pub fn members(&self) -> FactRows<'_, MemberRow>
+        ensures { result ≡ self.now.rows.members }
     {
         self.members.facts()
     }
@@ -183,8 +185,8 @@ impl Access {
     }
 
     /// The joins, in the order in which they were put.
-    pub fn joins(&self) -> slice::Iter<'_, JoinRow>
-        ensures { iter_rest result ≡ self.now.rows.joins }
+    pub fn joins(&self) -> FactRows<'_, JoinRow>
+        ensures { result ≡ self.now.rows.joins }
     {
         self.joins.facts()
     }
@@ -200,8 +202,8 @@ impl Access {
     }
 
     /// The grants, in the order in which they were put.
-    pub fn grants(&self) -> slice::Iter<'_, GrantRow>
-        ensures { iter_rest result ≡ self.now.rows.grants }
+    pub fn grants(&self) -> FactRows<'_, GrantRow>
+        ensures { result ≡ self.now.rows.grants }
     {
         self.grants.facts()
     }
@@ -211,6 +213,64 @@ impl Access {
         ensures { result ≡ holds grant.the_row.coded row.now self.now.rows.grants }
     {
         self.grants.contains(row)
+    }
+
+    /// Whether surely no more than so many members, joins and grants name the referent. It scans nothing: it counts
+    /// those that have the referent's id, which are no fewer. In a sound state no two things share an id, so that these
+    /// are those that name it, and it answers by their exact number. The roles of a catalogue and the realm have no
+    /// such id: for the first it counts all joins and grants, for the second all grants.
+    #[tactic(auto, using(crate::proofs::CountLemmas::few_named))]
+    pub fn is_named_by_at_most(&self, one: Referent, most: usize) -> bool
+        ensures { result ≡ true → names_in one self.now.rows ≤ most }
+    {
+        let most = most as u128;
+        let members = self.members_at_most(one);
+        let joins = self.joins_at_most(one);
+        let grants = self.grants_at_most(one);
+        members <= most && joins <= most - members && grants <= most - members - joins
+    }
+
+    /// No fewer than the members that name the referent.
+    fn members_at_most(&self, one: Referent) -> u128
+        ensures { result ≡ members_at_most one self.now.rows.members }
+    {
+        match one {
+            Referent::Principal(id) | Referent::PrincipalRole(id) => self.members.count(id),
+            Referent::CatalogRole(_) | Referent::RoleOfCatalog(_) | Referent::Securable(_) => 0,
+        }
+    }
+
+    /// No fewer than the joins that name it.
+    fn joins_at_most(&self, one: Referent) -> u128
+        ensures { result ≡ joins_at_most one self.now.rows.joins }
+    {
+        match one {
+            Referent::PrincipalRole(id) | Referent::CatalogRole(id) => self.joins.count(id),
+            Referent::RoleOfCatalog(_) => self.joins.len() as u128,
+            Referent::Principal(_) | Referent::Securable(_) => 0,
+        }
+    }
+
+    /// No fewer than the grants that name it.
+    fn grants_at_most(&self, one: Referent) -> u128
+        ensures { result ≡ grants_at_most one self.now.rows.grants }
+    {
+        match one {
+            Referent::CatalogRole(id) => self.grants.count(id),
+            Referent::RoleOfCatalog(_) => self.grants.len() as u128,
+            Referent::Securable(securable) => self.grants_with(securable.id()),
+            Referent::Principal(_) | Referent::PrincipalRole(_) => 0,
+        }
+    }
+
+    /// How many grants have the id, or how many there are where it is none.
+    fn grants_with(&self, id: Option<u64>) -> u128
+        ensures { result ≡ grants_with id self.now.rows.grants }
+    {
+        match id {
+            Some(id) => self.grants.count(id),
+            None => self.grants.len() as u128,
+        }
     }
 
     /// Makes room for so many more rows, so that putting them takes no memory. On an error the rows stay, and no room
@@ -390,7 +450,14 @@ fn clone_roles(
 /// Copies of the sets of facts.
 fn clone_facts(
     access: &Access,
-) -> Result<(Facts<MemberRow>, Facts<JoinRow>, Facts<GrantRow>), AllocError>
+) -> Result<
+    (
+        GroupedFacts<MemberRow>,
+        GroupedFacts<JoinRow>,
+        GroupedFacts<GrantRow>,
+    ),
+    AllocError,
+>
     ensures members { IfOk result (λ copies. copies.0.facts ≡ access.now.rows.members) }
     ensures joins { IfOk result (λ copies. copies.1.facts ≡ access.now.rows.joins) }
     ensures grants { IfOk result (λ copies. copies.2.facts ≡ access.now.rows.grants) }
@@ -401,8 +468,8 @@ fn clone_facts(
     Ok((members, joins, grants))
 }
 
-/// What there is beside what was to be made, where that was.
-fn beside<A: Drop, B>(first: A, second: Result<B, AllocError>) -> Result<(A, B), AllocError>
+/// What was made, and beside it what was to be made next, if that was.
+pub fn beside<A: Drop, B>(first: A, second: Result<B, AllocError>) -> Result<(A, B), AllocError>
     ensures first { IfOk result (λ both. both.0 ≡ first) }
     ensures second { IfOk result (λ both. second ≡ Ok both.1) }
 {

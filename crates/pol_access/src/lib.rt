@@ -14,7 +14,7 @@ mod rows;
 mod search;
 mod securable;
 
-pub use access::{Access, AccessRoom};
+pub use access::{Access, AccessRoom, beside};
 pub use implication::implies;
 pub use pol_names::{RoleIds, Scope};
 pub use privilege::{Privilege, grantable};

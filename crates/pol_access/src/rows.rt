@@ -9,6 +9,7 @@ ghost use Rattle.pol_access.specs.declared.securable.Securable.{Securable};
 use crate::{Privilege, Securable};
 use pol_names::Plain;
 use pol_tables::{Fact, Keyed};
+use pol_tallies::Grouped;
 use pol_types::{Exact, Text};
 
 /// A principal: its name, the client id under which it opens sessions, and the SHA-256 digest of its secret.
@@ -96,6 +97,29 @@ impl Fact for MemberRow {
     ghost coded = { the_row.coded };
 }
 
+/// A member belongs to the ids of its principal and its role.
+impl Grouped for MemberRow {
+    ghost use Rattle.pol_access.specs.Groups.{member_groups};
+
+    ghost groups = { member_groups };
+
+    ghost MOST = { 2 };
+
+    const MOST: usize = 2;
+
+    fn group_count(&self) -> usize {
+        2
+    }
+
+    fn group(&self, place: usize) -> u64 {
+        if place == 0 {
+            self.principal
+        } else {
+            self.role
+        }
+    }
+}
+
 /// That a principal role is joined to a catalogue role, each named by its id: its members have the catalogue role's
 /// grants.
 #[derive(Clone, Copy, Debug, PartialEq, Eq, PartialOrd, Ord, Hash)]
@@ -114,6 +138,29 @@ impl Fact for JoinRow {
     ghost use Rattle.pol_access.specs.contracts.rows.JoinRow.{the_row};
 
     ghost coded = { the_row.coded };
+}
+
+/// A join belongs to the ids of both roles.
+impl Grouped for JoinRow {
+    ghost use Rattle.pol_access.specs.Groups.{join_groups};
+
+    ghost groups = { join_groups };
+
+    ghost MOST = { 2 };
+
+    const MOST: usize = 2;
+
+    fn group_count(&self) -> usize {
+        2
+    }
+
+    fn group(&self, place: usize) -> u64 {
+        if place == 0 {
+            self.principal_role
+        } else {
+            self.catalog_role
+        }
+    }
 }
 
 /// That a catalogue role, named by its id, has a privilege on a securable and on all that it contains.
@@ -141,4 +188,29 @@ impl Fact for GrantRow {
     ghost use Rattle.pol_access.specs.contracts.rows.GrantRow.{the_row};
 
     ghost coded = { the_row.coded };
+}
+
+/// A grant belongs to the ids of its role and its securable, or of its role alone where it is on the realm.
+impl Grouped for GrantRow {
+    ghost use Rattle.pol_access.specs.Groups.{grant_groups};
+
+    ghost groups = { grant_groups };
+
+    ghost MOST = { 2 };
+
+    const MOST: usize = 2;
+
+    fn group_count(&self) -> usize {
+        match self.securable.id() {
+            Some(_) => 2,
+            None => 1,
+        }
+    }
+
+    fn group(&self, place: usize) -> u64 {
+        match self.securable.id() {
+            Some(id) if place == 1 => id,
+            _ => self.catalog_role,
+        }
+    }
 }

@@ -4,7 +4,7 @@ ghost use Rattle.pol_types.specs.Exact.{exactness};
 ghost use Rattle.pol_access.specs.contracts.securable.Securable.{the_row};
 ghost use Rattle.pol_tables.specs.Same.{same};
 ghost use Rattle.pol_access.specs.Search.{is_in};
-ghost use Rattle.pol_access.specs.Securable.{is_realm, kind_of};
+ghost use Rattle.pol_access.specs.Securable.{id_of, is_realm, kind_of};
 
 use pol_types::Exact;
 
@@ -40,6 +40,19 @@ impl Securable {
             | Securable::Namespace(_)
             | Securable::Table(_)
             | Securable::View(_) => false,
+        }
+    }
+
+    /// The id of what is below the realm.
+    pub(crate) fn id(self) -> Option<u64>
+        ensures { result ≡ id_of self }
+    {
+        match self {
+            Securable::Realm => None,
+            Securable::Catalog(id)
+            | Securable::Namespace(id)
+            | Securable::Table(id)
+            | Securable::View(id) => Some(id),
         }
     }
 

@@ -1,11 +1,11 @@
 -- Keys that are seen one after the other, and differ.
-use Rattle.std.proofs.Common.{◌≡◌, ℕ, ◌<◌, Bool, true, false, not, List, [], ◌∷◌, ◌||◌, ◌+◌, ◌++◌, map, take, length, get_or, zero, suc, refl, sym, subst, ap, ◌∙◌, true≢false, inl, inr, arith}
+use Rattle.std.proofs.Common.{◌≡◌, Bool, true, false, not, List, [], ◌∷◌, ◌||◌, ◌++◌, map, refl, sym, subst, ap, ◌∙◌, true≢false}
 use Rattle.std.specs.Prelude.{Decides}
 use Rattle.std.specs.Coded.{Coded}
 use Rattle.std.specs.List.{list_any, AllByRecursion, IsDistinct}
-use Rattle.std.proofs.lemmas.Bool.{cases_Bool, or_from, or_parts}
+use Rattle.std.proofs.lemmas.Bool.{or_from, or_parts}
 use Rattle.std.proofs.lemmas.Bool.Decides.{Decides-and}
-use Rattle.std.proofs.lemmas.List.{map_more}
+use Rattle.std.proofs.lemmas.List.{append-nil, append_assoc}
 use Rattle.std.proofs.lemmas.Map.Keys.{IsDistinct-head, IsDistinct-tail}
 use Rattle.pol_tables.specs.Facts.{facts_with, holds}
 use Rattle.pol_tables.specs.Same.{same}
@@ -65,53 +65,47 @@ module _ {R K : Type 0} (code : Coded K) (told : R → K) where
   abbrev pub alike : R → R → Bool
   alike left right = same code (told left) (told right)
 
-  each-at : (P : R → Type 0) (rows : List R) (place : ℕ) (row : R) → place < length rows → row ≡ get_or rows place row → AllByRecursion P rows → P row
-  each-at P [] place row within is all = absurd (omega arith)
-  each-at P (first ∷ rows) zero row within is all = rw is all.0
-  each-at P (first ∷ rows) (suc place) row within is all = each-at P rows place row (omega arith) is all.1
-
   -- a key that was seen before its row stands twice
-  twice : (rows : List R) (place : ℕ) (row : R) → place < length rows → row ≡ get_or rows place row → holds code (told row) (map told (take place rows)) ≡ true → IsDistinct alike rows → ⊥
-  twice [] place row within is seen differ = absurd (omega arith)
-  twice (first ∷ rows) zero row within is seen differ = true≢false (sym seen)
-  twice (first ∷ rows) (suc place) row within is seen differ = elim (cases_Bool (same code (told row) (told first))) [
-    | inl here ↦
-        let apart = each-at (λ later. alike first later ≡ false) rows place row (omega arith) is (IsDistinct-head alike first rows differ) in
-        true≢false (sym here ∙ same-symmetric code (told row) (told first) ∙ apart)
-    | inr other ↦
-        twice rows place row (omega arith) is (sym (ap (λ b. b || holds code (told row) (map told (take place rows))) other) ∙ seen) (IsDistinct-tail alike first rows differ)
-  ]
-
-  pub seen-twice : (rows : List R) (place : ℕ) (row : R) → place < length rows → row ≡ get_or rows place row → holds code (told row) (map told (take place rows)) ≡ true → false ≡ all_differ alike rows
-  seen-twice rows place row within is seen = by (all_differ alike rows) refl
-    where
-      by : (b : Bool) → all_differ alike rows ≡ b → false ≡ b
-      by true differ = absurd (twice rows place row within is seen ((differ-decides alike rows).0 differ))
-      by false fails = refl
-
-  -- the same, where the rows from that one on are left
   split : (key : K) (seen rest : List K) → IsDistinct (same code) (seen ++ key ∷ rest) → holds code key seen ≡ false
   split key [] rest differ = refl
   split key (first ∷ seen) rest differ =
       let apart = each-of-key (λ later. same code first later ≡ false) seen key rest (IsDistinct-head (same code) first (seen ++ key ∷ rest) differ) in
       or_from (same code key first) (holds code key seen) (same-symmetric code key first ∙ apart) (split key seen rest (IsDistinct-tail (same code) first (seen ++ key ∷ rest) differ))
 
-  pub seen-again : (rows : List R) (key : K) (seen rest : List K) → seen ++ key ∷ rest ≡ map told rows → holds code key seen ≡ true → false ≡ all_differ alike rows
+  seen-again : (rows : List R) (key : K) (seen rest : List K) → seen ++ key ∷ rest ≡ map told rows → holds code key seen ≡ true → false ≡ all_differ alike rows
   seen-again rows key seen rest are held = by (all_differ alike rows) refl
     where
       by : (b : Bool) → all_differ alike rows ≡ b → false ≡ b
       by true differ = absurd (true≢false (sym held ∙ split key seen rest (subst (IsDistinct (same code)) (sym are) (images-apart (same code) told rows ((differ-decides alike rows).0 differ)))))
       by false fails = refl
 
-  pub all-seen : (rows : List R) → IsDistinct (same code) (map told rows) → true ≡ all_differ alike rows
-  all-seen rows differ = sym ((differ-decides alike rows).1 (apart-from (same code) told rows differ))
+  -- while the keys of a first part of the rows are seen, a row stands next: its key is not new
+  pub next-again : (rows left rest : List R) (row : R) (seen : List K) (new : Bool) → seen ++ map told left ≡ map told rows → left ≡ row ∷ rest → new ≡ not (holds code (told row) seen) → new ≡ false → false ≡ all_differ alike rows
+  next-again rows left rest row seen new are next test old =
+      seen-again rows (told row) seen (map told rest) (ap (λ part. seen ++ map told part) (sym next) ∙ are) (held (holds code (told row) seen) (sym old ∙ test))
+    where
+      held : (b : Bool) → false ≡ not b → b ≡ true
+      held true is = refl
+      held false is = is
 
-  -- one more key that was not seen before
-  pub seen-more : (rows : List R) (place : ℕ) (row : R) (key : K) (seen after : List K) → place < length rows → row ≡ get_or rows place row → key ≡ told row → seen ≡ map told (take place rows) → holds code key seen ≡ false → after ≡ facts_with code key seen
-      → after ≡ map told (take (place + 1) rows)
-  seen-more rows place row key seen after within is is_key are new made =
-      made
+  -- a row's key that was not seen before is put
+  pub key-put : (row : R) (key : K) (seen kept after : List K) → key ≡ told row → kept ≡ seen → holds code key seen ≡ false → after ≡ facts_with code key kept → after ≡ seen ++ told row ∷ []
+  key-put row key seen kept after is same new put =
+      put
+      ∙ ap (facts_with code key) same
       ∙ facts_with-new code key seen new
-      ∙ (λ i. are i ++ is_key i ∷ [])
-      ∙ (λ i. map told (take place rows) ++ told (is i) ∷ [])
-      ∙ sym (map_more told rows place row within)
+      ∙ ap (λ one. seen ++ one ∷ []) is
+
+  -- it is new, and seen then
+  pub next-seen : (rows left rest : List R) (row : R) (seen after : List K) → seen ++ map told left ≡ map told rows → left ≡ row ∷ rest → after ≡ seen ++ told row ∷ [] → after ++ map told rest ≡ map told rows
+  next-seen rows left rest row seen after are next more =
+      ap (λ keys. keys ++ map told rest) more
+      ∙ append_assoc seen (told row ∷ []) (map told rest)
+      ∙ ap (λ part. seen ++ map told part) (sym next)
+      ∙ are
+
+  -- no row is left, and the keys differ
+  pub all-seen : (rows left : List R) (seen : List K) → seen ++ map told left ≡ map told rows → left ≡ [] → IsDistinct (same code) seen → true ≡ all_differ alike rows
+  all-seen rows left seen are none differ =
+      let all = sym (append-nil seen) ∙ ap (λ part. seen ++ map told part) (sym none) ∙ are in
+      sym ((differ-decides alike rows).1 (apart-from (same code) told rows (subst (IsDistinct (same code)) all differ)))

@@ -9,7 +9,7 @@ ghost use Rattle.pol_access.specs.contracts.rows.MemberRow as member;
 ghost use Rattle.pol_sound_access.specs.Judged.{access_known, access_named, access_numbered, all_differ, facts_differ, has_root_chain, is_catalog_role, is_grant_there, is_join_there, is_member_there, is_no_role, is_securable_given, is_sound_access, same_client, same_name, same_principal_role};
 ghost use Rattle.pol_tables.specs.Same.{same};
 
-use crate::differ::{items_differ, keys_differ};
+use crate::differ::{fact_keys_differ, keys_differ};
 use crate::keys::{ClientKey, NameKey};
 use crate::known::{knows_catalog_role, knows_principal, knows_principal_role};
 use crate::rising::{is_given, rises};
@@ -114,19 +114,19 @@ fn facts_differ(alloc: Global, access: &Access) -> Result<bool, OutOfMemory>
 fn members_differ(alloc: Global, access: &Access) -> Result<bool, OutOfMemory>
     ensures { IfOk result (λ apart. apart ≡ all_differ (same member.the_row.coded) access.now.rows.members) }
 {
-    items_differ::<MemberRow, MemberRow>(alloc, access.members().as_slice())
+    fact_keys_differ::<MemberRow, MemberRow>(alloc, access.members())
 }
 
 fn joins_differ(alloc: Global, access: &Access) -> Result<bool, OutOfMemory>
     ensures { IfOk result (λ apart. apart ≡ all_differ (same join.the_row.coded) access.now.rows.joins) }
 {
-    items_differ::<JoinRow, JoinRow>(alloc, access.joins().as_slice())
+    fact_keys_differ::<JoinRow, JoinRow>(alloc, access.joins())
 }
 
 fn grants_differ(alloc: Global, access: &Access) -> Result<bool, OutOfMemory>
     ensures { IfOk result (λ apart. apart ≡ all_differ (same grant.the_row.coded) access.now.rows.grants) }
 {
-    items_differ::<GrantRow, GrantRow>(alloc, access.grants().as_slice())
+    fact_keys_differ::<GrantRow, GrantRow>(alloc, access.grants())
 }
 
 /// Whether what rows name is there, or was given out.

@@ -1,9 +1,11 @@
 //! Rows of which no two have one key.
-ghost use Rattle.std.specs.Prelude.{◌≡◌, IfOk};
+ghost use Rattle.std.specs.Prelude.{◌≡◌, [], ◌∷◌, ◌++◌, not, true, IfOk};
 ghost use Rattle.pol_sound_access.specs.Judged.{all_differ};
+ghost use Rattle.pol_tables.specs.Facts.{holds};
 ghost use Rattle.pol_tables.specs.Same.{same};
 
 use pol_tables::{Fact, Facts, Rows};
+use pol_tallies::FactRows;
 use pol_types::OutOfMemory;
 use std::alloc::Global;
 
@@ -26,34 +28,47 @@ pub fn keys_differ<R: Told<K>, K: Fact>(
 {
     let mut seen = Facts::new(alloc);
     for row in rows {
-        let key = row.told(alloc)?;
-        if seen.contains(&key) {
+        if !is_new(alloc, row, &mut seen)? {
             return Ok(false);
         }
-        seen.reserve(1)?;
-        seen.put(key);
     }
     let _seen = seen.facts();
     Ok(true)
 }
 
-/// The same of rows in a list.
-pub(crate) fn items_differ<R: Told<K>, K: Fact>(
+/// The same of the facts of a set.
+pub(crate) fn fact_keys_differ<R: Told<K>, K: Fact>(
     alloc: Global,
-    rows: &[R],
+    facts: FactRows<'_, R>,
 ) -> Result<bool, OutOfMemory>
     ensures { IfOk result (λ apart. apart
-        ≡ all_differ (λ left right. same K.coded (R.told left) (R.told right)) rows.now) }
+        ≡ all_differ (λ left right. same K.coded (R.told left) (R.told right)) facts.entry) }
 {
     let mut seen = Facts::new(alloc);
-    for row in rows {
-        let key = row.told(alloc)?;
-        if seen.contains(&key) {
+    for fact in facts {
+        if !is_new(alloc, fact, &mut seen)? {
             return Ok(false);
         }
-        seen.reserve(1)?;
-        seen.put(key);
     }
     let _seen = seen.facts();
+    Ok(true)
+}
+
+/// Whether the row's key wasn't seen before. It is seen then.
+fn is_new<R: Told<K>, K: Fact>(
+    alloc: Global,
+    row: &R,
+    seen: &mut Facts<K>,
+) -> Result<bool, OutOfMemory>
+    ensures test { IfOk result (λ new. new ≡ not (holds K.coded (R.told row.now) seen.old.facts)) }
+    ensures seen { IfOk result (λ new. new ≡ true
+        → seen.new.facts ≡ seen.old.facts ++ R.told row.now ∷ []) }
+{
+    let key = row.told(alloc)?;
+    if seen.contains(&key) {
+        return Ok(false);
+    }
+    seen.reserve(1)?;
+    seen.put(key);
     Ok(true)
 }

@@ -1,5 +1,5 @@
 //! The rows that changes lead to, whether they are sound or not.
-ghost use Rattle.std.specs.Prelude.{◌≡◌, ◌≤◌, Ok, IfOk, OnOk};
+ghost use Rattle.std.specs.Prelude.{◌≡◌, ◌≤◌, IfOk, OnOk};
 ghost use Rattle.pol_soundness.specs.Base.{rows_after};
 ghost use Rattle.pol_soundness.specs.Judged.{is_sound, is_whole, is_within_bounds};
 ghost use Rattle.pol_content.specs.declared.change.Change.TheVariants.{PutCatalog, PutCatalogRole, PutGrant, PutJoin, PutMember, PutNamespace, PutPrincipal, PutPrincipalRole, PutSession, PutTable, PutToken, PutView};
@@ -9,7 +9,7 @@ use crate::ties::are_tied;
 use crate::tokens::{are_fit, are_sound_tokens};
 use pol_access::{
     Access, AccessRoom, CatalogRoleRow, GrantRow, JoinRow, MemberRow, PrincipalRoleRow,
-    PrincipalRow,
+    PrincipalRow, beside,
 };
 use pol_content::{CatalogRow, Change, Content, NamespaceRow, TablePut, ViewRow};
 use pol_sound_access::is_sound_access;
@@ -18,7 +18,7 @@ use pol_sound_content::is_sound_content;
 use pol_state::State;
 use pol_tokens::{SessionRow, TokenRow, Tokens};
 use pol_types::OutOfMemory;
-use std::alloc::{AllocError, Global};
+use std::alloc::Global;
 use std::marker::Model;
 
 /// The greatest time.
@@ -284,16 +284,5 @@ impl After {
         self.time <= TIME_BOUND
             && self.charged <= CHARGED_BOUND
             && is_within_bounds(&self.access, &self.content, self.next_id, self.next_serial)
-    }
-}
-
-/// What there is beside what was to be made, where that was.
-fn beside<A: Drop, B>(first: A, second: Result<B, AllocError>) -> Result<(A, B), AllocError>
-    ensures first { IfOk result (λ both. both.0 ≡ first) }
-    ensures second { IfOk result (λ both. second ≡ Ok both.1) }
-{
-    match second {
-        Ok(second) => Ok((first, second)),
-        Err(error) => Err(error),
     }
 }

@@ -1,4 +1,4 @@
-ghost use Rattle.std.specs.Prelude.{◌≡◌, ◌≤◌, ◌+◌, [], ◌∷◌, count_by, IfOk, IsOk, Ok, OnOk};
+ghost use Rattle.std.specs.Prelude.{◌≡◌, ◌≤◌, ◌+◌, [], ◌∷◌, count_by, IfOk, IsOk, OnOk};
 ghost use Rattle.pol_content.specs.Change.{puts};
 ghost use Rattle.pol_content.specs.declared.change.RowKind.TheVariants as kind;
 ghost use Rattle.pol_state.specs.Applied.{applied, changed, HasRoom, KeepsRoom, TakesRoom};
@@ -6,7 +6,7 @@ ghost use Rattle.pol_state.specs.Rows.{empty_state, fresh_state, root_row, servi
 ghost use Rattle.pol_state.specs.Sound.{IsSound};
 
 use crate::texts::{digest, plain};
-use pol_access::{Access, AccessRoom, MemberRow, PrincipalRoleRow, PrincipalRow};
+use pol_access::{Access, AccessRoom, MemberRow, PrincipalRoleRow, PrincipalRow, beside};
 use pol_content::{Change, Content, RowKind};
 use pol_tokens::Tokens;
 use pol_types::{OutOfMemory, Text};
@@ -233,17 +233,6 @@ impl Clone for State {
             next_serial: self.next_serial,
             charged: self.charged,
         })
-    }
-}
-
-/// What there is beside what was to be made, where that was.
-fn beside<A: Drop, B>(first: A, second: Result<B, AllocError>) -> Result<(A, B), AllocError>
-    ensures first { IfOk result (λ both. both.0 ≡ first) }
-    ensures second { IfOk result (λ both. second ≡ Ok both.1) }
-{
-    match second {
-        Ok(second) => Ok((first, second)),
-        Err(error) => Err(error),
     }
 }
 

@@ -14,6 +14,7 @@ use pol_access::Access;
 use pol_content::{Change, Content};
 use pol_state::State;
 use pol_tables::sorted_facts;
+use pol_tallies::FactRows;
 use pol_types::OutOfMemory;
 use std::alloc::Global;
 
@@ -66,7 +67,7 @@ fn push_members(
     ensures { OnOk result (changes.new.items
         ≡ changes.old.items ++ map PutMember (members_in_order access.now.rows.members)) }
 {
-    let rows = sorted_facts(copies(alloc, access.members().as_slice())?)?;
+    let rows = sorted_facts(copies(alloc, access.members())?)?;
     push_facts(alloc, rows.as_slice(), changes)
 }
 
@@ -76,7 +77,7 @@ fn push_joins(alloc: Global, access: &Access, changes: &mut Vec<Change>) -> Resu
     ensures { OnOk result (changes.new.items
         ≡ changes.old.items ++ map PutJoin (joins_in_order access.now.rows.joins)) }
 {
-    let rows = sorted_facts(copies(alloc, access.joins().as_slice())?)?;
+    let rows = sorted_facts(copies(alloc, access.joins())?)?;
     push_facts(alloc, rows.as_slice(), changes)
 }
 
@@ -86,16 +87,12 @@ fn push_grants(alloc: Global, access: &Access, changes: &mut Vec<Change>) -> Res
     ensures { OnOk result (changes.new.items
         ≡ changes.old.items ++ map PutGrant (grants_in_order access.now.rows.grants)) }
 {
-    let rows = sorted_facts(copies(alloc, access.grants().as_slice())?)?;
+    let rows = sorted_facts(copies(alloc, access.grants())?)?;
     push_facts(alloc, rows.as_slice(), changes)
 }
 
-fn copies<T: Copy>(alloc: Global, rows: &[T]) -> Result<Vec<T>, OutOfMemory>
-    ensures { IfOk result (λ copies. copies.items ≡ rows.now) }
+fn copies<T: Copy>(alloc: Global, facts: FactRows<'_, T>) -> Result<Vec<T>, OutOfMemory>
+    ensures { IfOk result (λ copies. copies.items ≡ facts.entry) }
 {
-    let mut copies = Vec::new(alloc);
-    for row in rows {
-        copies.push(*row)?;
-    }
-    Ok(copies)
+    Ok(facts.copied().collect(alloc)?)
 }

@@ -1,1 +1,2 @@
 pub mod GroupedLemmas
+mod NumberedFactsLemmas

@@ -1,4 +1,4 @@
--- Rows that belong to groups, and how many of them belong to each.
+-- Rows and facts that belong to groups, and how many of them belong to each.
 use Rattle.std.specs.Prelude.{◌≡◌, ◌≤◌, ℕ, nat_eq, Bool, List, length, Option, Some, None}
 use Rattle.std.specs.List.{count_by, list_any, sum_by, AllByRecursion}
 use Rattle.pol_tallies.specs.Tally.{TallyValue, count_of}

@@ -1,17 +1,15 @@
 ghost use Rattle.std.specs.Prelude.{◌≡◌, ◌<◌, ◌≤◌, ℕ, List, length, get_or};
 
-use pol_tables::Named;
-
-/// A row that belongs to groups, each known by a number.
-pub trait Grouped: Named {
+/// A row or a fact that belongs to groups, each known by a number.
+pub trait Grouped {
     ghost groups: { Self → List ℕ };
 
     ghost MOST: { ℕ };
 
-    /// The most groups that a row belongs to.
+    /// The most groups that one belongs to.
     const MOST: usize;
 
-    /// How many groups the row belongs to.
+    /// How many groups it belongs to.
     fn group_count(&self) -> usize
         ensures all { result ≡ length (groups self.now) }
         ensures few { length (groups self.now) ≤ MOST };

@@ -1,12 +1,13 @@
-ghost use Rattle.std.specs.Prelude.{◌≡◌, ◌<◌, ◌≤◌, ◌+◌, ◌-◌, ◌*◌, ◌^◌, ℕ, [], length, IsOk, OnOk, option_copied};
+ghost use Rattle.std.specs.Prelude.{◌≡◌, ◌↔◌, ◌<◌, ◌≤◌, ◌+◌, ◌-◌, ◌*◌, ◌^◌, ℕ, [], length};
+ghost use Rattle.std.specs.Prelude.{IsOk, IsTrue, OnOk, option_copied};
 ghost use Rattle.std.specs.List.{list_any};
 ghost use Rattle.pol_tables.specs.Named.{Finds};
 ghost use Rattle.pol_tables.specs.Table.{row_of, rows_with, rows_without, IdsDiffer};
-ghost use Rattle.pol_tallies.specs.Grouped.{is_of, times, times_of};
+ghost use Rattle.pol_tallies.specs.Grouped.{is_of, times, times_in, times_of};
 ghost use Rattle.pol_tallies.specs.Tally.{count_of};
 
 use crate::{Grouped, Tally};
-use pol_tables::{NameOf, NamedTable, Rows};
+use pol_tables::{NameOf, Named, NamedTable, Rows};
 use pol_types::OutOfMemory;
 use std::alloc::{AllocError, Global};
 use std::marker::Model;
@@ -15,14 +16,14 @@ use std::marker::Model;
 /// a group has a row is known without a scan. Contracts see the rows, and the room: how many more rows can be put
 /// without taking memory.
 #[derive(Debug, Drop)]
-pub struct GroupedTable<R: Grouped> {
+pub struct GroupedTable<R: Named + Grouped> {
     table: NamedTable<R>,
     tally: Tally,
     /// How many more rows the tally has room for.
     spare: usize,
 }
 
-impl<R: Grouped> Model for GroupedTable<R> {
+impl<R: Named + Grouped> Model for GroupedTable<R> {
     ghost use Rattle.std.specs.Prelude.{◌≤◌, ◌*◌, min};
     ghost use Rattle.pol_tables.specs.Table.{TableValue};
     ghost use Rattle.pol_tallies.specs.Grouped.{AreTallied};
@@ -35,7 +36,7 @@ impl<R: Grouped> Model for GroupedTable<R> {
         AreTallied R.groups R.MOST grouped.tally grouped.table.rows × (grouped.spare * R.MOST ≤ grouped.tally.room) };
 }
 
-impl<R: Grouped> GroupedTable<R> {
+impl<R: Named + Grouped> GroupedTable<R> {
     /// No rows, and no memory taken.
     pub fn new(alloc: Global) -> Self
         ensures { result.rows ≡ [] }
@@ -45,6 +46,18 @@ impl<R: Grouped> GroupedTable<R> {
             tally: Tally::new(alloc),
             spare: 0,
         }
+    }
+
+    pub fn len(&self) -> usize
+        ensures { result ≡ length self.now.rows }
+    {
+        self.table.len()
+    }
+
+    pub fn is_empty(&self) -> bool
+        ensures { IsTrue result ↔ (self.now.rows ≡ []) }
+    {
+        self.table.is_empty()
     }
 
     /// The rows, in their order.
@@ -76,6 +89,13 @@ impl<R: Grouped> GroupedTable<R> {
         self.tally.count(group) > 0
     }
 
+    /// How often the group is among those of the rows. It scans no rows.
+    pub fn count(&self, group: u64) -> u128
+        ensures { result ≡ times_in R.groups group self.now.rows }
+    {
+        self.tally.count(group)
+    }
+
     /// Makes room for `more` rows, so that putting as many takes no memory. On an error the rows stay, and the room
     /// does not shrink.
     pub fn reserve(&mut self, more: usize) -> Result<(), OutOfMemory>
@@ -98,6 +118,7 @@ impl<R: Grouped> GroupedTable<R> {
         ensures rows { self.new.rows ≡ rows_with R.key row self.old.rows }
         ensures room { self.old.room ≤ self.new.room + 1 }
     {
+        // A count stays below 2^128, since fewer than 2^64 rows have fewer than 2^64 groups each.
         let _length = self.table.len();
         let _most = R::MOST;
         forget_known(&self.table, &mut self.tally, row.key());
@@ -117,7 +138,7 @@ impl<R: Grouped> GroupedTable<R> {
     }
 }
 
-impl<R: Grouped> Clone for GroupedTable<R> {
+impl<R: Named + Grouped> Clone for GroupedTable<R> {
     ghost is_clone = { λ source clone. clone.rows ≡ source.rows };
 
     fn clone(&self) -> Result<Self, AllocError> {
@@ -169,7 +190,7 @@ fn forget<R: Grouped>(row: &R, tally: &mut Tally)
 }
 
 /// Forgets the groups of the row of this id, where there is one.
-fn forget_known<R: Grouped>(table: &NamedTable<R>, tally: &mut Tally, id: u64)
+fn forget_known<R: Named + Grouped>(table: &NamedTable<R>, tally: &mut Tally, id: u64)
     ensures counts { (group : ℕ) → count_of group tally.new
         ≡ count_of group tally.old - times_of R.groups group (row_of R.key id table.now.rows) }
     ensures differ { IdsDiffer R.key table.now.rows }

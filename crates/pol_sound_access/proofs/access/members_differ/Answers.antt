@@ -5,4 +5,4 @@ use Rattle.pol_sound_access.proofs.access.members_differ.Goals as goal
 
 pub returns : goal.returns
 returns c =
-    if_ok _ _ c.items_differ.result (λ apart is. is ∙ ap (all_differ _) (c.as_slice.ensures.value ∙ c.members.ensures)) c.items_differ.ensures
+    if_ok _ _ c.fact_keys_differ.result (λ apart is. is ∙ ap (all_differ _) c.members.ensures) c.fact_keys_differ.ensures
