@@ -1,3 +1,4 @@
+pub mod AlongLemmas
 pub mod CatalogLemmas
 pub mod DropLemmas
 pub mod NameLemmas

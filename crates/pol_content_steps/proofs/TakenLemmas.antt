@@ -1,12 +1,9 @@
 -- What changes leave of the members, joins and grants, where they drop those that name a referent.
-use Rattle.std.proofs.Common.{◌≡◌, ℕ, ◌≤◌, Bool, true, false, not, cond, ◌&&◌, ◌||◌, nat_le, List, [], ◌∷◌, filter, length, Option, None, Some, refl, sym, ap, ◌∙◌, arith, inl, inr, true≢false}
+use Rattle.std.proofs.Common.{◌≡◌, ℕ, ◌≤◌, Bool, true, false, not, cond, ◌&&◌, ◌||◌, nat_le, List, [], ◌∷◌, filter, length, refl, sym, ap, ◌∙◌, arith, true≢false}
 use Rattle.std.specs.List.{fold, list_all, list_any}
-use Rattle.std.proofs.lemmas.Bool.{and_from, and_parts, le-leb, leb-true, or_cases}
+use Rattle.std.proofs.lemmas.Bool.{and_from, and_parts, le-leb, leb-true}
 use Rattle.pol_access.specs.Access.{AccessRows, unnamed}
 use Rattle.pol_access.specs.Referent.{grant_names, join_names, member_names}
-use Rattle.pol_access.specs.contracts.rows.GrantRow as grant
-use Rattle.pol_access.specs.contracts.rows.JoinRow as join
-use Rattle.pol_access.specs.contracts.rows.MemberRow as member
 use Rattle.pol_access.specs.declared.referent.Referent.{Referent}
 use Rattle.pol_access.specs.declared.rows.CatalogRoleRow.{CatalogRoleRow}
 use Rattle.pol_access.specs.declared.rows.GrantRow.{GrantRow}
@@ -16,15 +13,13 @@ use Rattle.pol_commands.specs.declared.reply.Quantity.TheVariants as quantity
 use Rattle.pol_content.specs.declared.change.Change.{Change}
 use Rattle.pol_content.specs.declared.change.Change.TheVariants.{Time, NextId, NextSerial, PutPrincipal, DropPrincipal, PutPrincipalRole, DropPrincipalRole, PutCatalog, DropCatalog, PutCatalogRole, DropCatalogRole, PutNamespace, DropNamespace, PutTable, DropTable, PutView, DropView, PutMember, DropMember, PutJoin, DropJoin, PutGrant, DropGrant, PutSession, PutToken}
 use Rattle.pol_access_steps.proofs.BoundsLemmas.{Fits}
-use Rattle.pol_content_steps.specs.Taken.{drops_grant, drops_join, drops_member, drops_named, fact_dropped, fact_names, goes_along, is_this_grant, is_this_join, is_this_member, takes_along}
-use Rattle.pol_content_steps.specs.declared.taken.Dropped.{Dropped}
-use Rattle.pol_content_steps.specs.declared.taken.Dropped.TheVariants.{Member, Join, Grant}
+use Rattle.pol_content_steps.specs.Taken.{drops_grant, drops_join, drops_member, drops_named, fact_dropped, goes_along, takes_along}
+use Rattle.pol_content_steps.proofs.AlongLemmas.{grant-only, join-only, member-only}
 use Rattle.pol_sound_bounds.specs.Judged.{fits}
 use Rattle.pol_state.specs.Applied.{changed}
 use Rattle.pol_state.specs.Bounds.{bound_of}
 use Rattle.pol_state.specs.Rows.{Rows}
 use Rattle.pol_tables.specs.Facts.{facts_without}
-use Rattle.pol_tables.proofs.SameLemmas.{same-true}
 
 -- a filter that keeps each fact
 pub whole : {T : Type 0} (facts : List T) → filter (λ fact. true) facts ≡ facts
@@ -41,16 +36,6 @@ both first later (fact ∷ facts) =
     elim (first fact) as (λ b. filter (λ one. not (later one)) (cond (not b) (fact ∷ kept) kept) ≡ cond (not (b || later fact)) (fact ∷ left) left) [
       | true ↦ rest
       | false ↦ ap (λ others. cond (not (later fact)) (fact ∷ others) others) rest
-    ]
-
--- what one of the items tells that passes a test
-some-told : {X : Type 0} {P : Type 0} (test other : X → Bool) → ((x : X) → other x ≡ true → test x ≡ true → P) → (xs : List X) → list_all other xs ≡ true → list_any test xs ≡ true → P
-some-told test other tell [] all some = absurd (true≢false (sym some))
-some-told test other tell (x ∷ xs) all some =
-    let parts = and_parts (other x) (list_all other xs) all in
-    elim (or_cases (test x) (list_any test xs) some) [
-      | inl here ↦ tell x parts.0 here
-      | inr later ↦ some-told test other tell xs parts.1 later
     ]
 
 -- where what is named is dropped, and what is dropped is named, that which stays is what isn't named
@@ -79,26 +64,6 @@ module _ {R : Type 0} (keep : R → Bool) where
   pub few-kept : (bound : ℕ) (rows : List R) → nat_le (length rows) bound ≡ true → nat_le (length (filter keep rows)) bound ≡ true
   few-kept bound rows few =
       le-leb (length (filter keep rows)) bound (omega (arith, fewer rows, leb-true (length rows) bound few))
-
--- what a change drops that drops what names a referent, and this fact: the fact names it
-module _ (roles : List CatalogRoleRow) (one : Referent) where
-  member-named : (row : MemberRow) (found : Option Dropped) → fact_names roles one found ≡ true → is_this_member row found ≡ true → member_names one row ≡ true
-  member-named row None named is = absurd (true≢false (sym is))
-  member-named row (Some (Member gone)) named is = ap (member_names one) (sym (same-true member.the_row.coded gone row is)) ∙ named
-  member-named row (Some (Join gone)) named is = absurd (true≢false (sym is))
-  member-named row (Some (Grant gone)) named is = absurd (true≢false (sym is))
-
-  join-named : (row : JoinRow) (found : Option Dropped) → fact_names roles one found ≡ true → is_this_join row found ≡ true → join_names roles one row ≡ true
-  join-named row None named is = absurd (true≢false (sym is))
-  join-named row (Some (Member gone)) named is = absurd (true≢false (sym is))
-  join-named row (Some (Join gone)) named is = ap (join_names roles one) (sym (same-true join.the_row.coded gone row is)) ∙ named
-  join-named row (Some (Grant gone)) named is = absurd (true≢false (sym is))
-
-  grant-named : (row : GrantRow) (found : Option Dropped) → fact_names roles one found ≡ true → is_this_grant row found ≡ true → grant_names roles one row ≡ true
-  grant-named row None named is = absurd (true≢false (sym is))
-  grant-named row (Some (Member gone)) named is = absurd (true≢false (sym is))
-  grant-named row (Some (Join gone)) named is = absurd (true≢false (sym is))
-  grant-named row (Some (Grant gone)) named is = ap (grant_names roles one) (sym (same-true grant.the_row.coded gone row is)) ∙ named
 
 -- the facts that pass no test of being dropped
 abbrev left_by : (MemberRow → Bool) → (JoinRow → Bool) → (GrantRow → Bool) → AccessRows → AccessRows
@@ -198,15 +163,9 @@ module _ (one : Referent) where
       let first = and_parts each (members && (joins && grants)) takes in
       let second = and_parts members (joins && grants) first.1 in
       let last = and_parts joins grants second.1 in
-      let members_left = exactly (member_names one) (λ row. list_any (drops_member row) changes)
-      (λ row. some-told (drops_member row) (drops_named roles one) (λ change. member-named roles one row (fact_dropped change)) changes first.0)
-      access.members second.0 in
-      let joins_left = exactly (join_names roles one) (λ row. list_any (drops_join row) changes)
-      (λ row. some-told (drops_join row) (drops_named roles one) (λ change. join-named roles one row (fact_dropped change)) changes first.0)
-      access.joins last.0 in
-      let grants_left = exactly (grant_names roles one) (λ row. list_any (drops_grant row) changes)
-      (λ row. some-told (drops_grant row) (drops_named roles one) (λ change. grant-named roles one row (fact_dropped change)) changes first.0)
-      access.grants last.1 in
+      let members_left = exactly (member_names one) (λ row. list_any (drops_member row) changes) (member-only roles one changes first.0) access.members second.0 in
+      let joins_left = exactly (join_names roles one) (λ row. list_any (drops_join row) changes) (join-only roles one changes first.0) access.joins last.0 in
+      let grants_left = exactly (grant_names roles one) (λ row. list_any (drops_grant row) changes) (grant-only roles one changes first.0) access.grants last.1 in
       all-left roles one changes s first.0
       ∙ (λ i. record s { access = record access { members = members_left i; joins = joins_left i; grants = grants_left i } })
 

@@ -15,6 +15,7 @@ use Rattle.pol_content.specs.declared.change.Change.{Change}
 use Rattle.pol_content.specs.declared.change.Change.TheVariants.{Time, NextId, NextSerial, PutPrincipal, DropPrincipal, PutPrincipalRole, DropPrincipalRole, PutCatalog, DropCatalog, PutCatalogRole, DropCatalogRole, PutNamespace, DropNamespace, PutTable, DropTable, PutView, DropView, PutMember, DropMember, PutJoin, DropJoin, PutGrant, DropGrant, PutSession, PutToken}
 use Rattle.pol_content_steps.specs.declared.taken.Dropped.{Dropped}
 use Rattle.pol_content_steps.specs.declared.taken.Dropped.TheVariants.{Member, Join, Grant}
+use Rattle.pol_tables.specs.Facts.{holds}
 use Rattle.pol_tables.specs.Same.{same}
 
 -- the member, the join or the grant that a change drops
@@ -88,10 +89,35 @@ drops_grant row change = is_this_grant row (fact_dropped change)
 abbrev pub goes_along : {T : Type 0} → (T → Bool) → (T → Change → Bool) → List Change → T → Bool
 goes_along names drops changes fact = not (names fact) || list_any (drops fact) changes
 
+-- the changes drop each member, join and grant that names the referent
+abbrev pub each_goes_along : Referent → AccessRows → List Change → Bool
+each_goes_along one access changes =
+    list_all (goes_along (member_names one) drops_member changes) access.members
+    && (list_all (goes_along (join_names access.catalog_roles one) drops_join changes) access.joins
+    && list_all (goes_along (grant_names access.catalog_roles one) drops_grant changes) access.grants)
+
 -- the changes drop the members, joins and grants that name the referent, and no other rows
 abbrev pub takes_along : Referent → AccessRows → List Change → Bool
 takes_along one access changes =
-    list_all (drops_named access.catalog_roles one) changes
-    && (list_all (goes_along (member_names one) drops_member changes) access.members
-    && (list_all (goes_along (join_names access.catalog_roles one) drops_join changes) access.joins
-    && list_all (goes_along (grant_names access.catalog_roles one) drops_grant changes) access.grants))
+    list_all (drops_named access.catalog_roles one) changes && each_goes_along one access changes
+
+-- whether there is a fact, and it is one of the members, joins and grants
+abbrev pub is_known : AccessRows → Option Dropped → Bool
+is_known access None = false
+is_known access (Some (Member row)) = holds member.the_row.coded row access.members
+is_known access (Some (Join row)) = holds join.the_row.coded row access.joins
+is_known access (Some (Grant row)) = holds grant.the_row.coded row access.grants
+
+-- whether the second drops the fact that the first does
+abbrev pub is_same_drop : Option Dropped → Option Dropped → Bool
+is_same_drop None later = false
+is_same_drop (Some (Member row)) later = is_this_member row later
+is_same_drop (Some (Join row)) later = is_this_join row later
+is_same_drop (Some (Grant row)) later = is_this_grant row later
+
+-- whether a change drops a fact that is there, and whether two drop the same one
+abbrev pub drops_known : AccessRows → Change → Bool
+drops_known access change = is_known access (fact_dropped change)
+
+abbrev pub drops_same : Change → Change → Bool
+drops_same change later = is_same_drop (fact_dropped change) (fact_dropped later)

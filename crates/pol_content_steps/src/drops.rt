@@ -16,8 +16,8 @@ use pol_access_steps::Counters;
 use pol_content::Change;
 use pol_state::State;
 
-/// The most changes that are judged as a drop. Each fact that names the row is sought among all of them, so that for
-/// more it is as well to judge the whole state.
+/// The most changes that are judged as a drop. Each is compared with all behind it, and where that is not enough each
+/// fact that names the row is sought among them, so that for more it is as well to judge the whole state.
 const MOST_CHANGES: usize = 256;
 
 /// Whether the first change takes a row away, and the others, which are few, the members, joins and grants that name

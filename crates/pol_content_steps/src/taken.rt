@@ -1,8 +1,9 @@
 //! What a row that is dropped takes along: the members, joins and grants that name it.
-ghost use Rattle.std.specs.Prelude.{◌≡◌};
+ghost use Rattle.std.specs.Prelude.{◌≡◌, true};
 ghost use Rattle.std.specs.List.{list_all, list_any};
 ghost use Rattle.pol_access.specs.Referent.{grant_names, join_names, member_names};
-ghost use Rattle.pol_content_steps.specs.Taken.{drops_grant, drops_join, drops_member, drops_named, fact_dropped, goes_along, takes_along};
+ghost use Rattle.pol_content_steps.specs.Taken.{drops_grant, drops_join, drops_known, drops_member, drops_named, drops_same, each_goes_along, fact_dropped, goes_along, takes_along};
+ghost use Rattle.pol_sound_access.specs.Judged.{all_differ};
 ghost use Rattle.pol_tables.specs.Same.{same};
 
 use pol_access::{Access, GrantRow, JoinRow, MemberRow, Referent};
@@ -17,15 +18,14 @@ enum Dropped {
     Grant(GrantRow),
 }
 
-/// Whether the changes drop the members, joins and grants that name the referent, and no other rows. It goes over all
-/// members, joins and grants, and for each that names the referent over the changes.
+/// Whether the changes drop the members, joins and grants that name the referent, and no other rows. It looks at the
+/// changes alone where each drops a fact that is there, no two the same, and no more facts are counted that name the
+/// referent. Else it goes over all members, joins and grants, and for each that names the referent over the changes.
 pub(crate) fn takes_along(access: &Access, one: Referent, changes: &[Change]) -> bool
     ensures { result ≡ takes_along one access.now.rows changes.now }
 {
     drop_named(access, one, changes)
-        && members_go_along(access, one, changes)
-        && joins_go_along(access, one, changes)
-        && grants_go_along(access, one, changes)
+        && (drop_all(access, one, changes) || each_goes_along(access, one, changes))
 }
 
 /// Whether each of the changes drops a fact that names the referent.
@@ -35,6 +35,47 @@ fn drop_named(access: &Access, one: Referent, changes: &[Change]) -> bool
     changes
         .iter()
         .all(|change| drops_named(access, one, change))
+}
+
+/// Whether the changes, each of which drops a fact that names the referent, are seen to drop all of these: each drops
+/// one that is there, no two the same, and no more are counted.
+fn drop_all(access: &Access, one: Referent, changes: &[Change]) -> bool
+    requires { list_all (drops_named access.now.rows.catalog_roles one) changes.now ≡ true }
+    ensures { result ≡ true → each_goes_along one access.now.rows changes.now ≡ true }
+{
+    access.is_named_by_at_most(one, changes.len())
+        && drop_known(access, changes)
+        && drop_apart(changes)
+}
+
+/// Whether each of the changes drops a fact that is there.
+fn drop_known(access: &Access, changes: &[Change]) -> bool
+    ensures { result ≡ list_all (drops_known access.now.rows) changes.now }
+{
+    changes.iter().all(|change| drops_known(access, change))
+}
+
+/// Whether no two of the changes drop the same fact. It compares each with all behind it.
+fn drop_apart(changes: &[Change]) -> bool
+    ensures { result ≡ all_differ drops_same changes.now }
+{
+    let mut left = changes;
+    while let Some((first, rest)) = left.split_first() {
+        if drop_again(first, rest) {
+            return false;
+        }
+        left = rest;
+    }
+    true
+}
+
+/// Whether the changes drop each member, join and grant that names the referent.
+fn each_goes_along(access: &Access, one: Referent, changes: &[Change]) -> bool
+    ensures { result ≡ each_goes_along one access.now.rows changes.now }
+{
+    members_go_along(access, one, changes)
+        && joins_go_along(access, one, changes)
+        && grants_go_along(access, one, changes)
 }
 
 /// Whether the changes drop each member that names the referent.
@@ -77,6 +118,37 @@ fn drops_named(access: &Access, one: Referent, change: &Change) -> bool
         Some(Dropped::Member(row)) => one.is_named_by_member(&row),
         Some(Dropped::Join(row)) => one.is_named_by_join(access, &row),
         Some(Dropped::Grant(row)) => one.is_named_by_grant(access, &row),
+        None => false,
+    }
+}
+
+/// Whether the change drops a fact that is there.
+fn drops_known(access: &Access, change: &Change) -> bool
+    ensures { result ≡ drops_known access.now.rows change.now }
+{
+    match fact_dropped(change) {
+        Some(Dropped::Member(row)) => access.is_member(row.principal, row.role),
+        Some(Dropped::Join(row)) => access.is_joined(row.principal_role, row.catalog_role),
+        Some(Dropped::Grant(row)) => access.has_grant(&row),
+        None => false,
+    }
+}
+
+/// Whether one of the changes drops the fact that this change does.
+fn drop_again(change: &Change, changes: &[Change]) -> bool
+    ensures { result ≡ list_any (drops_same change.now) changes.now }
+{
+    changes.iter().any(|later| drops_same(change, later))
+}
+
+/// Whether the later change drops the fact that this change does.
+fn drops_same(change: &Change, later: &Change) -> bool
+    ensures { result ≡ drops_same change.now later.now }
+{
+    match fact_dropped(change) {
+        Some(Dropped::Member(row)) => drops_member(later, &row),
+        Some(Dropped::Join(row)) => drops_join(later, &row),
+        Some(Dropped::Grant(row)) => drops_grant(later, &row),
         None => false,
     }
 }
