@@ -1,6 +1,8 @@
 -- The JSON of answers on tables (Iceberg REST OpenAPI).
-use Rattle.std.specs.Prelude.{ℕ, List, [], ◌∷◌, Option, Some, None, decimal, codes}
-use Rattle.serde_json.specs.Data.{Data, member, no_members, object, string}
+use Rattle.std.specs.Prelude.{ℕ, Bool, true, List, [], ◌∷◌, ◌++◌, Option, Some, None, decimal, codes}
+use Rattle.serde_json.specs.Data.{Data, Members, member, no_members, object, string}
+use Rattle.serde_json.specs.Written.{compact_text, members_text}
+use Rattle.pol_json_texts.specs.Objects.{named_text}
 use Rattle.pol_locations.specs.Location.{location_text}
 use Rattle.pol_meta.specs.declared.metadata.TableMetadata.{TableMetadata}
 use Rattle.pol_metaprint.specs.Metadata.{table_json}
@@ -56,6 +58,18 @@ loaded_object place meta config credentials =
 
 abbrev pub loaded_json : List ℕ → TableMetadata → Option TokenRow → Data
 loaded_json place meta token = loaded_object place (table_json meta) (config_of token) (credentials_of token)
+
+-- what stands in it before the metadata, and behind it
+abbrev pub loaded_front : Option TokenRow → Members
+loaded_front token = member (codes "config") (config_of token) no_members
+
+abbrev pub loaded_back : List ℕ → Option TokenRow → Members
+loaded_back place token =
+    member (codes "metadata-location") (string place) (member (codes "storage-credentials") (credentials_of token) no_members)
+
+-- the text of the member that is the metadata, and of what stands behind it up to the end
+abbrev pub metadata_text : Bool → TableMetadata → Members → List ℕ
+metadata_text later meta rest = named_text later (codes "metadata") ++ (compact_text (table_json meta) ++ members_text true rest)
 
 -- the same after a commit to it (CommitTableResponse)
 abbrev pub committed_object : List ℕ → Data → Data

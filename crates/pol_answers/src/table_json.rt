@@ -1,16 +1,19 @@
 //! The JSON of answers on tables.
-ghost use Rattle.std.specs.Prelude.{◌≡◌, IfOk, false, option_copied};
-ghost use Rattle.serde_json.specs.View.{view};
-ghost use Rattle.serde_json.specs.Written.{has_float};
+ghost use Rattle.std.specs.Prelude.{◌≡◌, ◌++◌, IfOk, false, option_copied};
+ghost use Rattle.serde_json.specs.View.{members_view, view};
+ghost use Rattle.serde_json.specs.Written.{compact_text, has_float, members_have_float};
+ghost use Rattle.pol_json_texts.specs.Objects.{opened_text};
 ghost use Rattle.pol_answers.specs.TableJson as spec;
 
 use crate::json::{ToJson, list};
 use crate::texts::written_token;
+use pol_json_texts::{Members, close_object, name_member, open_object};
 use pol_meta::TableMetadata;
-use pol_metaprint::table_value;
+use pol_metaprint::members::{none, with, with_text};
+use pol_metaprint::write_table;
 use pol_names::Identifier;
 use pol_tokens::TokenRow;
-use pol_types::{Listed, OutOfMemory, Text};
+use pol_types::{Bytes, Listed, OutOfMemory, Text};
 use serde_json::{Value, json};
 use std::alloc::{AllocError, Global};
 
@@ -35,65 +38,73 @@ pub(crate) fn identifiers_json(
     Ok(json!(in alloc; {"identifiers": identifiers})?)
 }
 
-/// A table with its metadata, which is at this place, and the storage token that was issued, if one was.
-#[tactic(auto, using(crate::proofs::TableJsonLemmas::loaded_whole))]
-pub(crate) fn loaded_json(
+/// The text that shows a table with its metadata, which is at this place, and the storage token that was issued, if one
+/// was.
+#[tactic(auto, using(crate::proofs::TableJsonLemmas::loaded_text))]
+pub(crate) fn loaded_text(
     alloc: Global,
     place: &Text,
     metadata: &TableMetadata,
     token: Option<&TokenRow>,
-) -> Result<Value, OutOfMemory>
-    ensures json { IfOk result (λ json. view json
-        ≡ spec.loaded_json place.now metadata.now (option_copied token.entry)) }
-    ensures whole { IfOk result (λ json. has_float (view json) ≡ false) }
+) -> Result<Bytes, OutOfMemory>
+    ensures { IfOk result (λ text. text ≡ compact_text
+        (spec.loaded_json place.now metadata.now (option_copied token.entry))) }
 {
-    let metadata = table_value(alloc, metadata)?;
-    let config = config_of(alloc, token)?;
+    let text = opened_config(alloc, token)?;
+    let rest = rest_of(alloc, place, token)?;
+    with_metadata(alloc, text, true, metadata, rest)
+}
+
+/// The text of an answer that begins with what a client is to speak to storage with.
+#[tactic(auto, using(crate::proofs::TableJsonLemmas::front_whole))]
+fn opened_config(alloc: Global, token: Option<&TokenRow>) -> Result<Vec<u8>, OutOfMemory>
+    ensures { IfOk result (λ text. text.items ≡ opened_text (spec.loaded_front (option_copied token.entry))) }
+{
+    let config = with(alloc, none(alloc), "config", config_of(alloc, token)?)?;
+    open_object(alloc, Vec::new(alloc), config)
+}
+
+/// The members of an answer that stand behind the metadata of a table.
+fn rest_of(alloc: Global, place: &Text, token: Option<&TokenRow>) -> Result<Members, OutOfMemory>
+    ensures { IfOk result (λ rest. members_view rest.entries
+        ≡ spec.loaded_back place.now (option_copied token.entry)) }
+{
     let credentials = credentials_of(alloc, token)?;
-    Ok(loaded_object(alloc, place.as_str(), metadata, config, credentials)?)
+    let rest = with_text(alloc, none(alloc), "metadata-location", place.as_str())?;
+    with(alloc, rest, "storage-credentials", credentials)
 }
 
-/// The object that shows a table, made of its parts.
-fn loaded_object(
-    alloc: Global,
-    place: &str,
-    metadata: Value,
-    config: Value,
-    credentials: Value,
-) -> Result<Value, AllocError>
-    ensures { IfOk result (λ json. view json
-        ≡ spec.loaded_object place.now (view metadata) (view config) (view credentials)) }
-{
-    json!(in alloc; {
-        "config": config,
-        "metadata": metadata,
-        "metadata-location": place,
-        "storage-credentials": credentials
-    })
-}
-
-/// A table after a commit to it, with its metadata, which is at this place.
-#[tactic(auto, using(crate::proofs::TableJsonLemmas::committed_whole))]
-pub(crate) fn committed_json(
+/// The text that shows a table after a commit to it, with its metadata, which is at this place.
+#[tactic(auto, using(crate::proofs::TableJsonLemmas::committed_text))]
+pub(crate) fn committed_text(
     alloc: Global,
     place: &Text,
     metadata: &TableMetadata,
-) -> Result<Value, OutOfMemory>
-    ensures json { IfOk result (λ json. view json ≡ spec.committed_json place.now metadata.now) }
-    ensures whole { IfOk result (λ json. has_float (view json) ≡ false) }
+) -> Result<Bytes, OutOfMemory>
+    ensures { IfOk result (λ text. text ≡ compact_text (spec.committed_json place.now metadata.now)) }
 {
-    let metadata = table_value(alloc, metadata)?;
-    Ok(committed_object(alloc, place.as_str(), metadata)?)
+    let rest = with_text(alloc, none(alloc), "metadata-location", place.as_str())?;
+    let text = open_object(alloc, Vec::new(alloc), none(alloc))?;
+    with_metadata(alloc, text, false, metadata, rest)
 }
 
-pub(crate) fn committed_object(
+/// The text, a member with a metadata, and the last members, which have no floats. `later` says whether another member
+/// stands before it.
+#[tactic(auto, using(crate::proofs::TableJsonLemmas::metadata_text))]
+fn with_metadata(
     alloc: Global,
-    place: &str,
-    metadata: Value,
-) -> Result<Value, AllocError>
-    ensures { IfOk result (λ json. view json ≡ spec.committed_object place.now (view metadata)) }
+    text: Vec<u8>,
+    later: bool,
+    metadata: &TableMetadata,
+    rest: Members,
+) -> Result<Bytes, OutOfMemory>
+    requires { members_have_float (members_view rest.entries) ≡ false }
+    ensures { IfOk result (λ all. all ≡ text.items
+        ++ spec.metadata_text later metadata.now (members_view rest.entries)) }
 {
-    json!(in alloc; {"metadata": metadata, "metadata-location": place})
+    let text = name_member(text, later, "metadata")?;
+    let text = write_table(alloc, text, metadata)?;
+    Ok(Bytes::from(close_object(alloc, text, rest)?))
 }
 
 /// A storage token with the location that it opens.

@@ -1,6 +1,8 @@
 //! The answers to replies and refusals.
 ghost use Rattle.std.specs.Prelude.{◌≡◌, IfOk, string_bytes};
+ghost use Rattle.serde_json.specs.Data.{Data};
 ghost use Rattle.serde_json.specs.View.{view};
+ghost use Rattle.serde_json.specs.Written.{compact_text};
 ghost use Rattle.pol_tokens.specs.Text.{text_of_token};
 ghost use Rattle.pol_json_answers.specs.JsonAnswers as made;
 ghost use Rattle.pol_answers.specs.ManagementJson.{credentials_json};
@@ -15,7 +17,7 @@ use crate::management_json::{
 use crate::refusals::{
     BAD_REQUEST, NOT_FOUND, SERVICE_UNAVAILABLE, kind_of, message_of, status_of,
 };
-use crate::table_json::{committed_json, credentials_json, identifiers_json, loaded_json};
+use crate::table_json::{committed_text, credentials_json, identifiers_json, loaded_text};
 use crate::view_json::shown_json;
 use pol_commands::{Answer as Done, Refusal, Reply};
 use pol_http::{Answer, Body, HeadRefused};
@@ -23,7 +25,7 @@ use pol_json_answers::{answer_with, error_answer, json_answer, text_of};
 use pol_names::Plain;
 use pol_requests::RouteRefused;
 use pol_tokens::{SESSION_LIFE, token_text};
-use pol_types::{OutOfMemory, Text};
+use pol_types::{Bytes, OutOfMemory, Text};
 use serde_json::{Value, json};
 use std::alloc::{AllocError, Global};
 
@@ -76,19 +78,17 @@ fn done_answer(alloc: Global, done: &Done) -> Result<Answer, OutOfMemory>
             metadata_location,
             metadata,
             token,
-        } => json_answer(
-            alloc,
-            200,
-            loaded_json(alloc, metadata_location, metadata.get(), token.as_ref())?,
-        ),
+        } => {
+            let text = loaded_text(alloc, metadata_location, metadata.get(), token.as_ref())?;
+            Ok(text_answer(text))
+        }
         Done::TableCommitted {
             metadata_location,
             metadata,
-        } => json_answer(
-            alloc,
-            200,
-            committed_json(alloc, metadata_location, metadata.get())?,
-        ),
+        } => {
+            let text = committed_text(alloc, metadata_location, metadata.get())?;
+            Ok(text_answer(text))
+        }
         Done::ViewLoaded {
             metadata_location,
             metadata,
@@ -137,6 +137,14 @@ fn done_answer(alloc: Global, done: &Done) -> Result<Answer, OutOfMemory>
         | Done::JoinEnded
         | Done::AccessAllowed => Ok(answer_with(204, Body::Nothing)),
     }
+}
+
+/// The answer, with status 200, whose body is the text of this JSON.
+#[tactic(auto, using(crate::proofs::TableJsonLemmas::answered))]
+fn text_answer(text: Bytes) -> Answer
+    ensures { (json : Data) → text ≡ compact_text json → result ≡ made.json_answer 200 json }
+{
+    answer_with(200, Body::Json(text))
 }
 
 /// The answer that gives a principal's credentials.

@@ -2,14 +2,14 @@
 ghost use Rattle.std.specs.Prelude.{◌≡◌, IfOk, false};
 ghost use Rattle.serde_json.specs.View.{view};
 ghost use Rattle.serde_json.specs.Written.{has_float};
+ghost use Rattle.pol_answers.specs.TableJson.{committed_object};
 ghost use Rattle.pol_answers.specs.ViewJson as spec;
 
-use crate::table_json::committed_object;
 use pol_types::{OutOfMemory, Text};
 use pol_viewjson::view_value;
 use pol_views::ViewMetadata;
-use serde_json::Value;
-use std::alloc::Global;
+use serde_json::{Value, json};
+use std::alloc::{AllocError, Global};
 
 /// A view with its metadata, which is at this place.
 #[tactic(auto, using(crate::proofs::TableJsonLemmas::committed_whole))]
@@ -22,5 +22,12 @@ pub(crate) fn shown_json(
     ensures whole { IfOk result (λ json. has_float (view json) ≡ false) }
 {
     let metadata = view_value(alloc, metadata)?;
-    Ok(committed_object(alloc, place.as_str(), metadata)?)
+    Ok(shown_object(alloc, place.as_str(), metadata)?)
+}
+
+/// The object that shows a view, made of its parts.
+fn shown_object(alloc: Global, place: &str, metadata: Value) -> Result<Value, AllocError>
+    ensures { IfOk result (λ json. view json ≡ committed_object place.now (view metadata)) }
+{
+    json!(in alloc; {"metadata": metadata, "metadata-location": place})
 }

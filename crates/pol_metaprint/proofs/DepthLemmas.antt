@@ -375,8 +375,7 @@ table_put : (meta : TableMetadata) {ms : Members} → AreWithin 100 ms → AreWi
 unfolding put_table
 table_put meta rest =
     put_within 100 key.TABLE_UUID.now (text_within 100 (hyphenated_text lower meta.table_uuid))
-    (put_within 100 key.PROPERTIES.now (raise 1 100 (omega arith) (pairs_within meta.properties))
-    (put_within 100 key.LOCATION.now (text_within 100 meta.location) rest))
+    (put_within 100 key.PROPERTIES.now (raise 1 100 (omega arith) (pairs_within meta.properties)) rest)
 
 snapshots_put : (meta : TableMetadata) {ms : Members} → AreWithin 100 ms → AreWithin 100 (put_snapshots meta ms)
 unfolding put_snapshots
@@ -385,10 +384,7 @@ snapshots_put meta rest =
     (raise 3 100 (omega arith) (list_within 2 snapshot_json snapshot_within meta.snapshots))
     (put_within 100 key.SNAPSHOT_LOG.now
     (raise 2 100 (omega arith) (list_within 1 snapshot_log_entry_json snapshot_log_entry_within meta.snapshot_log))
-    (put_within 100 key.REFS.now (raise 2 100 (omega arith) (refs_within meta.refs))
-    (put_within 100 key.METADATA_LOG.now
-    (raise 2 100 (omega arith) (list_within 1 metadata_log_entry_json metadata_log_entry_within meta.metadata_log))
-    rest)))
+    (put_within 100 key.REFS.now (raise 2 100 (omega arith) (refs_within meta.refs)) rest))
 
 shapes_put : (meta : TableMetadata) {ms : Members} → All IsSchema meta.schemas → AreWithin 100 ms
     → AreWithin 100 (put_shapes meta ms)
@@ -420,8 +416,11 @@ numbers_put meta rest =
 table_within : (meta : TableMetadata) → All IsSchema meta.schemas → IsWithin 101 (table_json meta)
 unfolding table_json
 table_within meta schemas =
-    object_within 100 (numbers_put meta (current_put meta
-    (shapes_put meta schemas (snapshots_put meta (table_put meta (empty_within 100))))))
+    object_within 100 (shapes_put meta schemas (snapshots_put meta (table_put meta
+    (put_within 100 key.METADATA_LOG.now
+    (raise 2 100 (omega arith) (list_within 1 metadata_log_entry_json metadata_log_entry_within meta.metadata_log))
+    (numbers_put meta (current_put meta
+    (put_within 100 key.LOCATION.now (text_within 100 meta.location) (empty_within 100))))))))
 
 pub table_nests : (meta : TableMetadata) → HasForms meta → depth (table_json meta) ≤ 127
 table_nests meta forms = omega (arith, (table_within meta forms.schemas).most)

@@ -1,3 +1,4 @@
 pub mod DepthLemmas
+pub mod TextLemmas
 pub mod TreesLemmas
 pub mod WholeLemmas

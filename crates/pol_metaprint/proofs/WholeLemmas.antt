@@ -29,7 +29,7 @@ use Rattle.pol_metakeys.specs.declared.keys.TheConstants as key
 use Rattle.pol_metaprint.specs.Columns.{Tree, beside_of, field_json, grown, inner_of, is_required, kind_json, list_of, map_of, part_json, put_text, struct_json, trees_of}
 use Rattle.pol_metaprint.specs.Json.{list_json, metadata_log_entry_json, number_json, pairs_json, partition_field_json, partition_spec_json, put_number, put_pair, put_ref, reference_json, refs_json, snapshot_json, snapshot_log_entry_json, sort_field_json, sort_order_json}
 use Rattle.pol_metaprint.specs.Texts.{kind_text, ref_kind_text}
-use Rattle.pol_metaprint.specs.Metadata.{put_current, put_ids, put_numbers, put_shapes, put_snapshots, put_table, schema_json, table_json}
+use Rattle.pol_metaprint.specs.Metadata.{put_back, put_current, put_front, put_ids, put_numbers, put_shapes, put_snapshots, put_table, schema_json, table_json}
 
 -- JSON in which no number is a float
 pub record IsWhole (d : Data) : Type 0 where
@@ -254,15 +254,14 @@ table_put : (meta : TableMetadata) {ms : Members} → AreWhole ms → AreWhole (
 unfolding put_table
 table_put meta whole =
     put_whole key.TABLE_UUID.now (text_whole (hyphenated_text lower meta.table_uuid))
-    (put_whole key.PROPERTIES.now (pairs_whole meta.properties) (put_whole key.LOCATION.now (text_whole meta.location) whole))
+    (put_whole key.PROPERTIES.now (pairs_whole meta.properties) whole)
 
 snapshots_put : (meta : TableMetadata) {ms : Members} → AreWhole ms → AreWhole (put_snapshots meta ms)
 unfolding put_snapshots
 snapshots_put meta whole =
     put_whole key.SNAPSHOTS.now (list_whole snapshot_json snapshot_whole meta.snapshots)
     (put_whole key.SNAPSHOT_LOG.now (list_whole snapshot_log_entry_json snapshot_log_entry_whole meta.snapshot_log)
-    (put_whole key.REFS.now (refs_whole meta.refs)
-    (put_whole key.METADATA_LOG.now (list_whole metadata_log_entry_json metadata_log_entry_whole meta.metadata_log) whole)))
+    (put_whole key.REFS.now (refs_whole meta.refs) whole))
 
 shapes_put : (meta : TableMetadata) {ms : Members} → AreWhole ms → AreWhole (put_shapes meta ms)
 unfolding put_shapes
@@ -288,10 +287,20 @@ numbers_put meta whole =
     (put_whole key.LAST_COLUMN_ID.now (number_whole meta.last_column_id)
     (put_whole key.FORMAT_VERSION.now (number_whole meta.format_version) whole))))
 
-table_is_whole : (meta : TableMetadata) → IsWhole (table_json meta)
-unfolding table_json
-table_is_whole meta =
-    object_whole (numbers_put meta (current_put meta (shapes_put meta (snapshots_put meta (table_put meta empty_whole)))))
+front_put : (meta : TableMetadata) {ms : Members} → AreWhole ms → AreWhole (put_front meta ms)
+front_put meta whole = numbers_put meta (current_put meta (put_whole key.LOCATION.now (text_whole meta.location) whole))
+
+back_put : (meta : TableMetadata) {ms : Members} → AreWhole ms → AreWhole (put_back meta ms)
+back_put meta whole = shapes_put meta (snapshots_put meta (table_put meta whole))
+
+pub front_whole : (meta : TableMetadata) → members_have_float (put_front meta no_members) ≡ false
+front_whole meta = (front_put meta empty_whole).none
+
+pub back_whole : (meta : TableMetadata) → members_have_float (put_back meta no_members) ≡ false
+back_whole meta = (back_put meta empty_whole).none
 
 pub table_whole : (meta : TableMetadata) → has_float (table_json meta) ≡ false
-table_whole meta = (table_is_whole meta).none
+unfolding table_json
+table_whole meta = (object_whole (back_put meta
+    (put_whole key.METADATA_LOG.now (list_whole metadata_log_entry_json metadata_log_entry_whole meta.metadata_log)
+    (front_put meta empty_whole)))).none

@@ -49,17 +49,23 @@ unfoldable pub put_snapshots : TableMetadata → Members → Members
 put_snapshots meta members =
     put key.SNAPSHOTS.now (list_json snapshot_json meta.snapshots)
     (put key.SNAPSHOT_LOG.now (list_json snapshot_log_entry_json meta.snapshot_log)
-    (put key.REFS.now (refs_json meta.refs)
-    (put key.METADATA_LOG.now (list_json metadata_log_entry_json meta.metadata_log) members)))
+    (put key.REFS.now (refs_json meta.refs) members))
 
 -- what it is of
 unfoldable pub put_table : TableMetadata → Members → Members
 put_table meta members =
     put key.TABLE_UUID.now (string (hyphenated_text lower meta.table_uuid))
-    (put key.PROPERTIES.now (pairs_json meta.properties)
-    (put key.LOCATION.now (string meta.location) members))
+    (put key.PROPERTIES.now (pairs_json meta.properties) members)
+
+-- what stands in front of its metadata log, and behind it
+abbrev pub put_front : TableMetadata → Members → Members
+put_front meta members = put_numbers meta (put_current meta (put key.LOCATION.now (string meta.location) members))
+
+abbrev pub put_back : TableMetadata → Members → Members
+put_back meta members = put_shapes meta (put_snapshots meta (put_table meta members))
 
 -- a metadata
 unfoldable pub table_json : TableMetadata → Data
 table_json meta =
-    object (put_numbers meta (put_current meta (put_shapes meta (put_snapshots meta (put_table meta no_members)))))
+    object (put_back meta
+    (put key.METADATA_LOG.now (list_json metadata_log_entry_json meta.metadata_log) (put_front meta no_members)))

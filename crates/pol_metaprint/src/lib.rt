@@ -2,11 +2,12 @@
 #![tactic(auto)]
 
 mod columns;
+mod log;
 pub mod members;
 mod metadata;
 mod parts;
 mod printed;
 mod texts;
 
-pub use metadata::{table_value, uuid_text};
+pub use metadata::{table_value, uuid_text, write_table};
 pub use printed::{Printed, list};

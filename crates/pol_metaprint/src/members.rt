@@ -6,13 +6,11 @@ ghost use Rattle.serde_json.specs.View.{members_view, view};
 ghost use Rattle.pol_metaprint.specs.Columns.{put_text};
 ghost use Rattle.pol_metaprint.specs.Json as spec;
 
+pub use pol_json_texts::Members;
 use pol_properties::{Properties, Property};
 use pol_types::{OutOfMemory, Text};
 use serde_json::{Map, Value, put};
 use std::alloc::Global;
-
-/// The members of an object.
-pub type Members = Map<String, Value>;
 
 pub fn none(alloc: Global) -> Members
     ensures { members_view result.entries ≡ no_members }

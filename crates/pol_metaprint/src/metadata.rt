@@ -1,18 +1,20 @@
 //! Schemas and whole metadata.
-ghost use Rattle.std.specs.Prelude.{◌≡◌, ◌≤◌, false, IfOk};
+ghost use Rattle.std.specs.Prelude.{◌≡◌, ◌≤◌, ◌++◌, false, IfOk};
 ghost use Rattle.serde_json.specs.Data.{depth, object};
 ghost use Rattle.serde_json.specs.Read.{max_depth};
 ghost use Rattle.serde_json.specs.View.{members_view, view};
-ghost use Rattle.serde_json.specs.Written.{has_float};
+ghost use Rattle.serde_json.specs.Written.{compact_text, has_float};
 ghost use Rattle.pol_meta.specs.Valid.{HasForms};
 ghost use Rattle.pol_metaprint.specs.Json as json;
 ghost use Rattle.pol_metaprint.specs.Metadata as spec;
 ghost use Rattle.uuid.specs.Text.{hyphenated_text, lower};
 
 use crate::columns::{fields, trees};
+use crate::log::write_log;
 use crate::members::{Members, none, pairs, with, with_number, with_optional, with_text};
 use crate::parts::refs;
 use crate::printed::{Printed, list};
+use pol_json_texts::{close_object, name_member, open_object};
 use pol_meta::{Ids, Schema, TableMetadata};
 use pol_metakeys::keys;
 use pol_types::{OutOfMemory, Text};
@@ -37,11 +39,46 @@ pub fn table_value(alloc: Global, meta: &TableMetadata) -> Result<Value, OutOfMe
 fn all_members(alloc: Global, meta: &TableMetadata) -> Result<Members, OutOfMemory>
     ensures { IfOk result (λ all. object (members_view all.entries) ≡ spec.table_json meta.now) }
 {
-    let members = with_table(alloc, none(alloc), meta)?;
-    let members = with_snapshots(alloc, members, meta)?;
-    let members = with_shapes(alloc, members, meta)?;
+    let metadata_log = list(alloc, meta.metadata_log.as_slice())?;
+    let members = with_front(alloc, none(alloc), meta)?;
+    let members = with(alloc, members, keys::METADATA_LOG, metadata_log)?;
+    with_back(alloc, members, meta)
+}
+
+/// Writes the text of a metadata's JSON, without spaces. The metadata log, which grows with each commit, is written
+/// straight.
+#[tactic(auto, using(crate::proofs::TextLemmas::table_text, crate::proofs::WholeLemmas::front_whole, crate::proofs::WholeLemmas::back_whole))]
+pub fn write_table(
+    alloc: Global,
+    text: Vec<u8>,
+    meta: &TableMetadata,
+) -> Result<Vec<u8>, OutOfMemory>
+    ensures { IfOk result (λ all. all.items ≡ text.items ++ compact_text (spec.table_json meta.now)) }
+{
+    let front = with_front(alloc, none(alloc), meta)?;
+    let back = with_back(alloc, none(alloc), meta)?;
+    let text = open_object(alloc, text, front)?;
+    let text = name_member(text, true, keys::METADATA_LOG)?;
+    let text = write_log(text, meta.metadata_log.as_slice())?;
+    close_object(alloc, text, back)
+}
+
+/// The members, and those of a metadata that stand in front of its metadata log.
+fn with_front(alloc: Global, members: Members, meta: &TableMetadata) -> Result<Members, OutOfMemory>
+    ensures { IfOk result (λ all. members_view all.entries ≡ spec.put_front meta.now (members_view members.entries)) }
+{
+    let members = with_text(alloc, members, keys::LOCATION, meta.location.as_str())?;
     let members = with_current(alloc, members, meta)?;
     with_numbers(alloc, members, meta)
+}
+
+/// The members, and those of a metadata that stand behind its metadata log.
+fn with_back(alloc: Global, members: Members, meta: &TableMetadata) -> Result<Members, OutOfMemory>
+    ensures { IfOk result (λ all. members_view all.entries ≡ spec.put_back meta.now (members_view members.entries)) }
+{
+    let members = with_table(alloc, members, meta)?;
+    let members = with_snapshots(alloc, members, meta)?;
+    with_shapes(alloc, members, meta)
 }
 
 /// The members, and what a metadata is of.
@@ -51,7 +88,6 @@ fn with_table(alloc: Global, members: Members, meta: &TableMetadata) -> Result<M
 {
     let properties = pairs(alloc, &meta.properties)?;
     let uuid = uuid_text(alloc, meta.table_uuid)?;
-    let members = with_text(alloc, members, keys::LOCATION, meta.location.as_str())?;
     let members = with(alloc, members, keys::PROPERTIES, properties)?;
     with_text(alloc, members, keys::TABLE_UUID, uuid.as_str())
 }
@@ -75,11 +111,9 @@ fn with_snapshots(
     ensures { IfOk result (λ all. members_view all.entries
         ≡ spec.put_snapshots meta.now (members_view members.entries)) }
 {
-    let metadata_log = list(alloc, meta.metadata_log.as_slice())?;
     let refs = refs(alloc, meta.refs.as_slice())?;
     let snapshot_log = list(alloc, meta.snapshot_log.as_slice())?;
     let snapshots = list(alloc, meta.snapshots.as_slice())?;
-    let members = with(alloc, members, keys::METADATA_LOG, metadata_log)?;
     let members = with(alloc, members, keys::REFS, refs)?;
     let members = with(alloc, members, keys::SNAPSHOT_LOG, snapshot_log)?;
     with(alloc, members, keys::SNAPSHOTS, snapshots)
