@@ -23,7 +23,7 @@ use std::alloc::{AllocError, Global};
 use std::marker::Model;
 
 /// How many rows of each kind.
-#[derive(Clone, Copy, Debug, PartialEq, Eq)]
+#[derive(Clone, Copy, PartialEq, Eq)]
 pub struct AccessRoom {
     pub principals: usize,
     pub principal_roles: usize,
@@ -37,7 +37,7 @@ pub struct AccessRoom {
 /// rows, and the room: how many more of each can be put without taking memory. What has a name or a client id is
 /// found by it without a scan, and is the only such row where names stand once. A put and a drop change one row and
 /// take no memory: what names a dropped row stays. Members, joins and grants are counted by the ids that they have.
-#[derive(Debug, Drop)]
+#[derive(Drop)]
 pub struct Access {
     principals: Principals,
     principal_roles: NamedTable<PrincipalRoleRow>,

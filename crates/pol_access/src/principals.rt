@@ -16,7 +16,7 @@ use std::marker::Model;
 
 /// Principals in the order in which their ids came, each found by its id, by its name and by its client id without a
 /// scan. Contracts see the rows, and the room: how many more rows can be put without taking memory.
-#[derive(Debug, Drop)]
+#[derive(Drop)]
 pub(crate) struct Principals {
     table: NamedTable<PrincipalRow>,
     clients: Index,

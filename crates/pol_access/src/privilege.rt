@@ -9,7 +9,7 @@ use pol_types::Exact;
 use std::fmt;
 
 /// What a grant allows, in the numbered order in which the journal has them.
-#[derive(Clone, Copy, Debug, PartialEq, Eq, PartialOrd, Ord, Hash)]
+#[derive(Clone, Copy, PartialEq, Eq, PartialOrd, Ord, Hash)]
 pub enum Privilege {
     NamespaceCreate,
     NamespaceDrop,

@@ -5,7 +5,7 @@ use crate::{Access, GrantRow, JoinRow, MemberRow, Securable};
 
 /// What members, joins and grants name: a principal, a principal role or a catalogue role by its id, a catalogue by
 /// its id where they name one of its roles, or a securable.
-#[derive(Clone, Copy, Debug)]
+#[derive(Clone, Copy)]
 pub enum Referent {
     Principal(u64),
     PrincipalRole(u64),

@@ -13,7 +13,7 @@ use pol_tallies::Grouped;
 use pol_types::{Exact, Text};
 
 /// A principal: its name, the client id under which it opens sessions, and the SHA-256 digest of its secret.
-#[derive(Clone, Debug, Drop, PartialEq, Eq)]
+#[derive(Clone, Drop, PartialEq, Eq)]
 pub struct PrincipalRow {
     pub id: u64,
     pub name: Plain,
@@ -36,7 +36,7 @@ impl Keyed for PrincipalRow {
 }
 
 /// A role of the realm, which principals are members of.
-#[derive(Clone, Debug, Drop, PartialEq, Eq)]
+#[derive(Clone, Drop, PartialEq, Eq)]
 pub struct PrincipalRoleRow {
     pub id: u64,
     pub name: Plain,
@@ -57,7 +57,7 @@ impl Keyed for PrincipalRoleRow {
 }
 
 /// A role of a catalogue, known by the catalogue's id and its name.
-#[derive(Clone, Debug, Drop, PartialEq, Eq)]
+#[derive(Clone, Drop, PartialEq, Eq)]
 pub struct CatalogRoleRow {
     pub id: u64,
     pub catalog: u64,
@@ -79,7 +79,7 @@ impl Keyed for CatalogRoleRow {
 }
 
 /// That a principal is a member of a principal role, each named by its id.
-#[derive(Clone, Copy, Debug, PartialEq, Eq, PartialOrd, Ord, Hash)]
+#[derive(Clone, Copy, PartialEq, Eq, PartialOrd, Ord, Hash)]
 pub struct MemberRow {
     pub principal: u64,
     pub role: u64,
@@ -122,7 +122,7 @@ impl Grouped for MemberRow {
 
 /// That a principal role is joined to a catalogue role, each named by its id: its members have the catalogue role's
 /// grants.
-#[derive(Clone, Copy, Debug, PartialEq, Eq, PartialOrd, Ord, Hash)]
+#[derive(Clone, Copy, PartialEq, Eq, PartialOrd, Ord, Hash)]
 pub struct JoinRow {
     pub principal_role: u64,
     pub catalog_role: u64,
@@ -164,7 +164,7 @@ impl Grouped for JoinRow {
 }
 
 /// That a catalogue role, named by its id, has a privilege on a securable and on all that it contains.
-#[derive(Clone, Copy, Debug, PartialEq, Eq, PartialOrd, Ord, Hash)]
+#[derive(Clone, Copy, PartialEq, Eq, PartialOrd, Ord, Hash)]
 pub struct GrantRow {
     pub catalog_role: u64,
     pub privilege: Privilege,

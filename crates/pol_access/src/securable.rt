@@ -9,7 +9,7 @@ ghost use Rattle.pol_access.specs.Securable.{id_of, is_realm, kind_of};
 use pol_types::Exact;
 
 /// What privileges are used on: the realm, or a catalogue, a namespace, a table or a view by its id.
-#[derive(Clone, Copy, Debug, PartialEq, Eq, PartialOrd, Ord, Hash)]
+#[derive(Clone, Copy, PartialEq, Eq, PartialOrd, Ord, Hash)]
 pub enum Securable {
     Realm,
     Catalog(u64),
@@ -78,7 +78,7 @@ impl Exact for Securable {
 }
 
 /// The kinds of securables.
-#[derive(Clone, Copy, Debug, PartialEq, Eq)]
+#[derive(Clone, Copy, PartialEq, Eq)]
 pub enum SecurableKind {
     Realm,
     Catalog,

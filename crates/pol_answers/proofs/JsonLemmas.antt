@@ -1,5 +1,6 @@
 -- No answer's JSON has a float.
-use Rattle.std.proofs.Common.{◌≡◌, ◌≢◌, ℕ, ◌+◌, ◌<◌, Bool, true, false, ◌||◌, List, [], ◌∷◌, ◌++◌, length, get_or, take, drop, map, filter, codes, append-nil, take-append-drop, Ordering, Less, Equal, Greater, refl, sym, ap, ◌∙◌}
+use Rattle.std.proofs.Common.{◌≡◌, ◌≢◌, ℕ, ◌+◌, ◌<◌, Bool, true, false, ◌||◌, List, [], ◌∷◌, ◌++◌, length, get_or, take, drop, map, filter, codes, append-nil, take-append-drop, Ordering, Less, Equal, Greater, Result, IfOk, refl, sym, ap, ◌∙◌}
+use Rattle.std.proofs.lemmas.Result.{IfOk-weaker}
 use Rattle.std.proofs.lemmas.List.{take_more, map-append}
 use Rattle.std.proofs.lemmas.List.Elements.{filter-append}
 use Rattle.std.specs.Borrow.{Bor}
@@ -7,7 +8,8 @@ use Rattle.std.specs.Cmp.Lexicographic.{bytes_decides, slice_cmp}
 use Rattle.std.specs.List.{fold}
 use Rattle.std.specs.Ordering.{match_ordering, nat_cmp}
 use Rattle.serde_json.specs.Data.{Data, string, Members, member, no_members, put}
-use Rattle.serde_json.specs.View.{items_of}
+use Rattle.serde_json.specs.View.{items_of, view}
+use Rattle.serde_json.specs.declared.value.Value.{Value}
 use Rattle.serde_json.specs.Written.{has_float, items_have_float, members_have_float}
 use Rattle.pol_content.specs.declared.rows.CatalogRow.{CatalogRow}
 use Rattle.pol_properties.specs.declared.property.Property.{Property}
@@ -98,6 +100,10 @@ endpoint_left_out texts row other = by (is_endpoint row) refl
     by : (b : Bool) → is_endpoint row ≡ b → texts ≡ texts ++ endpoints_of (row ∷ [])
     by true is = absurd (other (drop 24 row.path) (sym (take-append-drop 24 row.path) ∙ ap (λ front. front ++ drop 24 row.path) (sym ((bytes_decides prefixed (take 24 row.path)).0 is))))
     by false is = rw is (sym (append-nil texts))
+
+-- a JSON that was made, if it was, has no float where what it shows has none
+pub made_whole : {E : Type 0} (json : Result Value E) (shown : Data) → IfOk json (λ value. view value ≡ shown) → has_float shown ≡ false → IfOk json (λ value. has_float (view value) ≡ false)
+made_whole json shown is whole = IfOk-weaker json _ _ (λ value same. rw same whole) is
 
 -- the answers of the catalogue API
 pub ruleset answers_whole = (config_whole, catalog_whole, catalogs_whole, namespace_whole, namespaces_whole, updated_whole)

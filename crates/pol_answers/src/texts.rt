@@ -1,8 +1,8 @@
 //! The answers to replies and refusals.
-ghost use Rattle.std.specs.Prelude.{◌≡◌, IfOk, string_bytes};
+ghost use Rattle.std.specs.Prelude.{◌≡◌, IfOk, false, string_bytes};
 ghost use Rattle.serde_json.specs.Data.{Data};
 ghost use Rattle.serde_json.specs.View.{view};
-ghost use Rattle.serde_json.specs.Written.{compact_text};
+ghost use Rattle.serde_json.specs.Written.{compact_text, has_float};
 ghost use Rattle.pol_tokens.specs.Text.{text_of_token};
 ghost use Rattle.pol_json_answers.specs.JsonAnswers as made;
 ghost use Rattle.pol_answers.specs.ManagementJson.{credentials_json};
@@ -41,7 +41,7 @@ pub fn answer_of(alloc: Global, reply: &Reply) -> Result<Answer, OutOfMemory>
 }
 
 /// The answer to a command that is done. Of what has ended or is there nothing is told.
-#[tactic(auto, using(crate::proofs::JsonLemmas::answers_whole, crate::proofs::ManagementJsonLemmas::answers_whole, crate::proofs::TableJsonLemmas::identifiers_whole))]
+#[tactic(auto, using(crate::proofs::JsonLemmas::made_whole, crate::proofs::JsonLemmas::answers_whole, crate::proofs::ManagementJsonLemmas::answers_whole, crate::proofs::TableJsonLemmas::identifiers_whole))]
 fn done_answer(alloc: Global, done: &Done) -> Result<Answer, OutOfMemory>
     ensures { IfOk result (λ answer. answer ≡ spec.done_answer done.now) }
 {
@@ -51,12 +51,12 @@ fn done_answer(alloc: Global, done: &Done) -> Result<Answer, OutOfMemory>
             word_a,
             word_b,
         } => session_answer(alloc, *serial, *word_a, *word_b),
-        Done::ConfigTold { catalog } => json_answer(alloc, 200, config_json(alloc, catalog)?),
-        Done::CatalogsListed(rows) => json_answer(alloc, 200, catalogs_json(alloc, rows)?),
-        Done::CatalogCreated(row) => json_answer(alloc, 201, row.to_json(alloc)?),
-        Done::CatalogLoaded(row) => json_answer(alloc, 200, row.to_json(alloc)?),
+        Done::ConfigTold { catalog } => told_json(alloc, 200, config_json(alloc, catalog)),
+        Done::CatalogsListed(rows) => told_json(alloc, 200, catalogs_json(alloc, rows)),
+        Done::CatalogCreated(row) => told_json(alloc, 201, row.to_json(alloc)),
+        Done::CatalogLoaded(row) => told_json(alloc, 200, row.to_json(alloc)),
         Done::NamespacesListed(namespaces) => {
-            json_answer(alloc, 200, namespaces_json(alloc, namespaces)?)
+            told_json(alloc, 200, namespaces_json(alloc, namespaces))
         }
         Done::NamespaceCreated {
             namespace,
@@ -65,56 +65,50 @@ fn done_answer(alloc: Global, done: &Done) -> Result<Answer, OutOfMemory>
         | Done::NamespaceLoaded {
             namespace,
             properties,
-        } => json_answer(alloc, 200, namespace_json(alloc, namespace, properties)?),
+        } => told_json(alloc, 200, namespace_json(alloc, namespace, properties)),
         Done::PropertiesUpdated {
             missing,
             removed,
             updated,
-        } => json_answer(alloc, 200, updated_json(alloc, missing, removed, updated)?),
+        } => told_json(alloc, 200, updated_json(alloc, missing, removed, updated)),
         Done::TablesListed(identifiers) | Done::ViewsListed(identifiers) => {
-            json_answer(alloc, 200, identifiers_json(alloc, identifiers)?)
+            told_json(alloc, 200, identifiers_json(alloc, identifiers))
         }
         Done::TableLoaded {
             metadata_location,
             metadata,
             token,
-        } => {
-            let text = loaded_text(alloc, metadata_location, metadata.get(), token.as_ref())?;
-            Ok(text_answer(text))
-        }
+        } => told_text(loaded_text(alloc, metadata_location, metadata.get(), token.as_ref())),
         Done::TableCommitted {
             metadata_location,
             metadata,
-        } => {
-            let text = committed_text(alloc, metadata_location, metadata.get())?;
-            Ok(text_answer(text))
-        }
+        } => told_text(committed_text(alloc, metadata_location, metadata.get())),
         Done::ViewLoaded {
             metadata_location,
             metadata,
-        } => json_answer(
+        } => told_json(
             alloc,
             200,
-            shown_json(alloc, metadata_location, metadata.get())?,
+            shown_json(alloc, metadata_location, metadata.get()),
         ),
         Done::CredentialsLoaded { token } => {
-            json_answer(alloc, 200, credentials_json(alloc, token)?)
+            told_json(alloc, 200, credentials_json(alloc, token))
         }
-        Done::PrincipalsListed(rows) => json_answer(alloc, 200, principals_json(alloc, rows)?),
+        Done::PrincipalsListed(rows) => told_json(alloc, 200, principals_json(alloc, rows)),
         Done::PrincipalCreated {
             name,
             client_id,
             secret,
         } => credentials_answer(alloc, 201, client_id, secret, name),
-        Done::PrincipalLoaded(row) => json_answer(alloc, 200, row.to_json(alloc)?),
+        Done::PrincipalLoaded(row) => told_json(alloc, 200, row.to_json(alloc)),
         Done::SecretRotated {
             name,
             client_id,
             secret,
         } => credentials_answer(alloc, 200, client_id, secret, name),
-        Done::RolesListed(names) => json_answer(alloc, 200, roles_json(alloc, names)?),
-        Done::RoleLoaded { name } => json_answer(alloc, 200, name.to_json(alloc)?),
-        Done::GrantsListed(grants) => json_answer(alloc, 200, grants_json(alloc, grants)?),
+        Done::RolesListed(names) => told_json(alloc, 200, roles_json(alloc, names)),
+        Done::RoleLoaded { name } => told_json(alloc, 200, name.to_json(alloc)),
+        Done::GrantsListed(grants) => told_json(alloc, 200, grants_json(alloc, grants)),
         Done::RoleCreated
         | Done::MemberAdded
         | Done::JoinAdded
@@ -139,12 +133,28 @@ fn done_answer(alloc: Global, done: &Done) -> Result<Answer, OutOfMemory>
     }
 }
 
-/// The answer, with status 200, whose body is the text of this JSON.
-#[tactic(auto, using(crate::proofs::TableJsonLemmas::answered))]
-fn text_answer(text: Bytes) -> Answer
-    ensures { (json : Data) → text ≡ compact_text json → result ≡ made.json_answer 200 json }
+/// The answer of that status whose body is this JSON, where memory sufficed for it.
+///
+/// It takes the JSON as it was made, so that a caller with many cases has no way out of its own for each of them.
+fn told_json(
+    alloc: Global,
+    code: u16,
+    json: Result<Value, OutOfMemory>,
+) -> Result<Answer, OutOfMemory>
+    requires { IfOk json (λ value. has_float (view value) ≡ false) }
+    ensures { (shown : Data) → IfOk json (λ value. view value ≡ shown)
+        → IfOk result (λ answer. answer ≡ made.json_answer code shown) }
 {
-    answer_with(200, Body::Json(text))
+    json_answer(alloc, code, json?)
+}
+
+/// The answer, with status 200, whose body is this text of a JSON, where memory sufficed for it.
+#[tactic(auto, using(crate::proofs::TableJsonLemmas::answered))]
+fn told_text(text: Result<Bytes, OutOfMemory>) -> Result<Answer, OutOfMemory>
+    ensures { (json : Data) → IfOk text (λ text. text ≡ compact_text json)
+        → IfOk result (λ answer. answer ≡ made.json_answer 200 json) }
+{
+    Ok(answer_with(200, Body::Json(text?)))
 }
 
 /// The answer that gives a principal's credentials.

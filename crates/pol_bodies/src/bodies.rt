@@ -90,7 +90,7 @@ fn listed(alloc: Global, texts: Option<Listed<Text>>) -> Listed<Text>
 }
 
 /// The body that creates a namespace (Iceberg REST OpenAPI, CreateNamespaceRequest).
-#[derive(Debug, Drop)]
+#[derive(Drop)]
 pub struct NewNamespace {
     pub namespace: Namespace,
     pub properties: Properties,
@@ -112,7 +112,7 @@ impl Form for NewNamespace {
 }
 
 /// The body that changes properties (Iceberg REST OpenAPI, UpdateNamespacePropertiesRequest).
-#[derive(Debug, Drop)]
+#[derive(Drop)]
 pub struct PropertyUpdates {
     pub removals: Listed<Text>,
     pub updates: Properties,
@@ -134,7 +134,7 @@ impl Form for PropertyUpdates {
 }
 
 /// The properties of a new catalogue: its base, which must be among them, and the others.
-#[derive(Debug, Drop)]
+#[derive(Drop)]
 pub(crate) struct BasedProperties {
     pub base: Text,
     pub properties: Properties,
@@ -165,7 +165,7 @@ fn take_base(alloc: Global, properties: &mut Properties) -> Result<Text, ReadErr
 }
 
 /// The storage of a new catalogue: the locations that are allowed beside its base.
-#[derive(Debug, Drop)]
+#[derive(Drop)]
 pub(crate) struct Storage {
     pub allowed: Listed<Text>,
 }
@@ -184,7 +184,7 @@ impl Form for Storage {
 }
 
 /// A new catalogue (Apache Polaris Management Service, Catalog).
-#[derive(Debug, Drop)]
+#[derive(Drop)]
 pub struct NewCatalog {
     pub name: Plain,
     pub external: bool,
@@ -234,7 +234,7 @@ fn allowed_by(alloc: Global, stored: Option<Storage>) -> Listed<Text>
 }
 
 /// The body that creates a catalogue (Apache Polaris Management Service, CreateCatalogRequest).
-#[derive(Debug, Drop)]
+#[derive(Drop)]
 pub struct CatalogBody {
     pub catalog: NewCatalog,
 }

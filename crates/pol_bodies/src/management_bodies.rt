@@ -15,7 +15,7 @@ use serde_json::Value;
 use std::alloc::Global;
 
 /// An object with a plain name.
-#[derive(Debug, Drop)]
+#[derive(Drop)]
 pub(crate) struct Named {
     pub name: Plain,
 }
@@ -44,7 +44,7 @@ fn name_under(alloc: Global, value: &Value, key: &str) -> Result<Plain, ReadErro
 }
 
 /// The body that creates a principal (CreatePrincipalRequest).
-#[derive(Debug, Drop)]
+#[derive(Drop)]
 pub struct PrincipalBody {
     pub name: Plain,
 }
@@ -60,7 +60,7 @@ impl Form for PrincipalBody {
 }
 
 /// The body that names a principal role (CreatePrincipalRoleRequest, GrantPrincipalRoleRequest).
-#[derive(Debug, Drop)]
+#[derive(Drop)]
 pub struct PrincipalRoleBody {
     pub name: Plain,
 }
@@ -76,7 +76,7 @@ impl Form for PrincipalRoleBody {
 }
 
 /// The body that names a role of a catalogue (CreateCatalogRoleRequest, GrantCatalogRoleRequest).
-#[derive(Debug, Drop)]
+#[derive(Drop)]
 pub struct CatalogRoleBody {
     pub name: Plain,
 }
@@ -121,7 +121,7 @@ impl Form for Held<Privilege> {
 }
 
 /// The type of a grant: what it is on.
-#[derive(Clone, Copy, Debug, PartialEq, Eq)]
+#[derive(Clone, Copy, PartialEq, Eq)]
 pub(crate) enum GrantType {
     Catalog,
     Namespace,
@@ -221,7 +221,7 @@ pub(crate) fn identifier(alloc: Global, value: &Value, key: &str) -> Result<Iden
 }
 
 /// The body that adds or revokes a grant (AddGrantRequest, RevokeGrantRequest).
-#[derive(Debug, Drop)]
+#[derive(Drop)]
 pub struct GrantBody {
     pub grant: Grant,
 }

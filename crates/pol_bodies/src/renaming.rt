@@ -10,7 +10,7 @@ use serde_json::Value;
 use std::alloc::Global;
 
 /// The body that renames a table or a view (Iceberg REST OpenAPI, RenameTableRequest).
-#[derive(Debug, Drop)]
+#[derive(Drop)]
 pub struct RenameBody {
     pub source: Identifier,
     pub destination: Identifier,

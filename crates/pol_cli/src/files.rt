@@ -15,7 +15,7 @@ use pol_wire::{Clock, Draw, Link, Sink, Source};
 use std::alloc::Global;
 
 /// What a run on files leaves: both disks, and what it reports.
-#[derive(Debug, Drop)]
+#[derive(Drop)]
 pub(crate) struct FilesRun<D, O> {
     pub catalogue: D,
     pub objects: O,

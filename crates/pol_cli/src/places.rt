@@ -15,7 +15,7 @@ use std::env::Args;
 use std::io;
 
 /// The files of the catalogue and of the objects. Where a line names none they are texts without a byte.
-#[derive(Debug, Drop)]
+#[derive(Drop)]
 pub struct Places {
     pub catalogue: Text,
     pub objects: Text,

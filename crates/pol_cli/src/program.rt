@@ -28,7 +28,7 @@ use std::env::Args;
 use std::io;
 
 /// What the program runs on.
-#[derive(Debug, Drop)]
+#[derive(Drop)]
 pub struct Devices<D, O, S, K, C, W> {
     /// The disk of the catalogue: of `init`, and of `exec` on files.
     pub catalogue: D,

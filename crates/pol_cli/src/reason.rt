@@ -13,7 +13,7 @@ use pol_server::Ending;
 use std::alloc::{AllocError, Global};
 
 /// Why a run ended as it did.
-#[derive(Debug, Drop)]
+#[derive(Drop)]
 pub enum Reason {
     /// It did what its words ask for.
     Done,

@@ -7,14 +7,14 @@ use pol_server::Served;
 use pol_types::Listed;
 
 /// A link that was served, and the worker that served it.
-#[derive(Debug, Drop)]
+#[derive(Drop)]
 pub struct ServedLink {
     pub worker: u32,
     pub served: Served,
 }
 
 /// What a run reports: the exit status, its reason, and the links that it served.
-#[derive(Debug, Drop)]
+#[derive(Drop)]
 pub struct Report {
     pub status: u8,
     pub reason: Reason,

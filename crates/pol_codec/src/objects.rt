@@ -11,7 +11,7 @@ use pol_types::{Bytes, OutOfMemory};
 use std::alloc::Global;
 
 /// A change of the objects: one is put, or deleted.
-#[derive(Debug, Drop)]
+#[derive(Drop)]
 pub enum ObjectChange {
     Put { path: Location, bytes: Bytes },
     Delete { path: Location },

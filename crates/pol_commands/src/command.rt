@@ -7,7 +7,7 @@ use pol_types::{Bytes, Listed, Text};
 
 /// One request to the catalogue: who asks, at which moment (milliseconds since the Unix epoch, at most 2^62), the
 /// random words that were drawn for it, what it counts towards the bound of a run, and what is to be done.
-#[derive(Debug, Drop)]
+#[derive(Drop)]
 pub struct Command {
     pub caller: Caller,
     pub moment: u64,
@@ -17,7 +17,7 @@ pub struct Command {
 }
 
 /// Who asks: nobody, the bearer of a token's text, or the setting up of the catalogue, which may do everything.
-#[derive(Debug, Drop)]
+#[derive(Drop)]
 pub enum Caller {
     Nobody,
     Bearer(Bytes),
@@ -25,7 +25,7 @@ pub enum Caller {
 }
 
 /// Four random words. An action that needs fewer takes the first ones.
-#[derive(Clone, Copy, Debug, PartialEq, Eq)]
+#[derive(Clone, Copy, PartialEq, Eq)]
 pub struct Words4 {
     pub a: u64,
     pub b: u64,
@@ -35,7 +35,7 @@ pub struct Words4 {
 
 /// What is to be done. Catalogues, principals and roles are named by their names, a namespace by its levels within its
 /// catalogue, and a table or a view by these and its name.
-#[derive(Debug, Drop)]
+#[derive(Drop)]
 pub enum Action {
     /// Opens a session for the principal of a client id, by its secret. A scope is `PRINCIPAL_ROLE:ALL`, or
     /// `PRINCIPAL_ROLE:` and the name of a role that the principal is a member of; no scopes mean all roles.

@@ -4,7 +4,6 @@ ghost use Rattle.pol_updates.specs.Forms.{HasForm};
 use pol_names::Identifier;
 use pol_types::Listed;
 use pol_updates::{Requirement, Update};
-use std::fmt;
 
 /// A change of a table that its identifier names: what has to hold of it, and how it is changed then (Iceberg REST
 /// OpenAPI, CommitTableRequest). By its type each update has the forms of its parts.
@@ -14,12 +13,4 @@ pub struct Commit {
     pub requirements: Listed<Requirement>,
     pub updates: Listed<Update>,
     pub ghost formed: { ∥ All HasForm updates ∥₁ },
-}
-
-/// Prints how many updates there are, since they may be large.
-impl fmt::Debug for Commit {
-    fn fmt<W: fmt::Write>(&self, f: &mut fmt::Formatter<W>) -> fmt::Result {
-        let count = self.updates.len();
-        write!(f, "Commit {count}")
-    }
 }

@@ -4,7 +4,6 @@ use pol_meta::{Schema, UnboundOrder, UnboundSpec};
 use pol_names::Name;
 use pol_properties::Properties;
 use pol_types::Text;
-use std::fmt;
 
 /// What a table is asked for with (Iceberg REST OpenAPI, CreateTableRequest): its name, where it is to lie, its schema,
 /// spec, order and properties, and whether it is only to be staged. By its type each part has its form of the Iceberg
@@ -19,12 +18,4 @@ pub struct CreateTable {
     pub stage_create: bool,
     pub properties: Properties,
     pub ghost formed: { ∥ HaveForms schema partition_spec write_order ∥₁ },
-}
-
-/// Prints the name alone, since the parts may be large.
-impl fmt::Debug for CreateTable {
-    fn fmt<W: fmt::Write>(&self, f: &mut fmt::Formatter<W>) -> fmt::Result {
-        let name = &self.name;
-        write!(f, "CreateTable {name}")
-    }
 }

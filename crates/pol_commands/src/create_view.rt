@@ -5,7 +5,6 @@ use pol_names::Name;
 use pol_properties::Properties;
 use pol_types::Text;
 use pol_views::UnboundVersion;
-use std::fmt;
 
 /// What a view is asked for with (Iceberg REST OpenAPI, CreateViewRequest): its name, where it is to lie, its schema,
 /// version and properties. By its type each part has its form of the Iceberg view spec.
@@ -17,12 +16,4 @@ pub struct CreateView {
     pub view_version: UnboundVersion,
     pub properties: Properties,
     pub ghost formed: { ∥ HaveViewForms schema view_version ∥₁ },
-}
-
-/// Prints the name alone, since the parts may be large.
-impl fmt::Debug for CreateView {
-    fn fmt<W: fmt::Write>(&self, f: &mut fmt::Formatter<W>) -> fmt::Result {
-        let name = &self.name;
-        write!(f, "CreateView {name}")
-    }
 }

@@ -7,7 +7,7 @@ use pol_names::{Identifier, Namespace};
 
 /// A grant as requests and answers name it: a privilege, and what it is granted on. By its type the privilege may be
 /// granted on such a securable.
-#[derive(Debug, Drop, PartialEq, Eq)]
+#[derive(Drop, PartialEq, Eq)]
 pub struct Grant {
     pub privilege: Privilege,
     pub on: GrantedOn,
@@ -30,7 +30,7 @@ impl Grant {
 }
 
 /// What a privilege is granted on: a catalogue, or a namespace, a table or a view of it, by its name there.
-#[derive(Debug, Drop, PartialEq, Eq)]
+#[derive(Drop, PartialEq, Eq)]
 pub enum GrantedOn {
     Catalog,
     Namespace(Namespace),

@@ -15,7 +15,7 @@ use pol_views::ViewMetadata;
 use std::fmt;
 
 /// What a command is answered.
-#[derive(Debug, Drop, PartialEq, Eq)]
+#[derive(Drop, PartialEq, Eq)]
 pub enum Reply {
     Answered(Answer),
     Refused(Refusal),
@@ -31,7 +31,7 @@ impl Reply {
 }
 
 /// What an action that is done answers.
-#[derive(Debug, Drop, PartialEq, Eq)]
+#[derive(Drop, PartialEq, Eq)]
 pub enum Answer {
     /// A session was opened. Its token's text is made of its serial and both words.
     SessionOpened {
@@ -163,7 +163,7 @@ pub enum Answer {
 }
 
 /// Why a command is refused.
-#[derive(Debug, Drop, PartialEq, Eq)]
+#[derive(Drop, PartialEq, Eq)]
 pub enum Refusal {
     /// The run's charges and this command's would be above 2^30 together.
     RunFull {
@@ -274,7 +274,7 @@ pub enum Refusal {
 }
 
 /// An option of a request that isn't supported.
-#[derive(Clone, Copy, Debug, PartialEq, Eq)]
+#[derive(Clone, Copy, PartialEq, Eq)]
 pub enum OptionName {
     /// The type of a catalogue that isn't internal.
     Type,
@@ -314,7 +314,7 @@ fn left_out_text(action: LeftOut) -> &'static str
 }
 
 /// What has a bound.
-#[derive(Clone, Copy, Debug, PartialEq, Eq)]
+#[derive(Clone, Copy, PartialEq, Eq)]
 pub enum Quantity {
     Catalogs,
     Principals,

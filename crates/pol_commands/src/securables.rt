@@ -5,7 +5,7 @@ use pol_names::{Identifier, Namespace, Plain};
 use std::fmt;
 
 /// A securable as a refusal shows it.
-#[derive(Debug, Drop, PartialEq, Eq)]
+#[derive(Drop, PartialEq, Eq)]
 pub enum SecurableName {
     Realm,
     Catalog {

@@ -4,7 +4,6 @@ ghost use Rattle.pol_views.specs.Forms.{HasViewForm};
 use pol_names::Identifier;
 use pol_types::Listed;
 use pol_views::{ViewRequirement, ViewUpdate};
-use std::fmt;
 
 /// A change of a view that its identifier names: what has to hold of it, and how it is changed then (Iceberg REST
 /// OpenAPI, CommitViewRequest). By its type each update has the forms of its parts.
@@ -14,12 +13,4 @@ pub struct ViewCommit {
     pub requirements: Listed<ViewRequirement>,
     pub updates: Listed<ViewUpdate>,
     pub ghost formed: { ∥ All HasViewForm updates ∥₁ },
-}
-
-/// Prints how many updates there are, since they may be large.
-impl fmt::Debug for ViewCommit {
-    fn fmt<W: fmt::Write>(&self, f: &mut fmt::Formatter<W>) -> fmt::Result {
-        let count = self.updates.len();
-        write!(f, "ViewCommit {count}")
-    }
 }

@@ -30,9 +30,8 @@ pub fn commit_table(asked: &Asked<'_>, name: &Plain, commit: &Commit) -> Result<
     ensures { Acts asked.now (λ s command. commit_table s command name.now commit.now) result }
 {
     let tables = all_judged(asked, name, slice::from_ref(commit))?;
-    let answer = committed_answer(asked.alloc, &tables[0].after)?;
-    let changes = puts(asked, tables)?;
-    Ok(Acted { answer, changes })
+    let answer = committed_answer(asked.alloc, &tables[0].after);
+    Ok(Acted::of(answer, puts(asked, tables))?)
 }
 
 /// Commits to several tables at once (Iceberg REST OpenAPI, commitTransaction): to all of them, or to none.

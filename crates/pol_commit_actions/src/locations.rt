@@ -15,6 +15,7 @@ ghost use Rattle.pol_commit_actions.specs.Rules.{bad_location_from, misplaced, m
 ghost use Rattle.pol_commit_actions.specs.Seen.{commit_to, commits_to, committed_table, committed_tables};
 
 use crate::target::{Committed, Target};
+use pol_access::beside;
 use pol_commands::Refusal;
 use pol_content::{CatalogRow, Handle, TableRow};
 use pol_locations::{Location, LocationRefused, overlaps};
@@ -63,17 +64,35 @@ fn committed<'a>(
 {
     let row = target.row;
     let location = location_after(alloc, table, row, &meta)?;
+    let after = row_after(alloc, target, location, meta)?;
+    Ok(Committed { before: row, after })
+}
+
+/// The row of a table after its commit, at this location.
+fn row_after(
+    alloc: Global,
+    target: &Target<'_>,
+    location: Location,
+    meta: TableMetadata,
+) -> Result<TableRow, OutOfMemory>
+    requires version { target.now.row.now.version ≤ 2 ^ 62 }
+    requires moves { target.now.row.now.moves ≤ 2 ^ 62 + 1 }
+    requires location { location ≡ location_after target.now.row.now meta }
+    ensures { IfOk result (λ after. after ≡ (committed (commit_to target.now) meta).after) }
+{
+    let row = target.row;
     let has_updates = !target.commit.updates.is_empty();
-    let after = TableRow {
+    let moves = grown_if(lies_elsewhere(row, &meta), row.moves);
+    let (meta, name) = beside(meta, row.name.clone())?;
+    Ok(TableRow {
         id: row.id,
         namespace: row.namespace,
-        name: row.name.clone()?,
+        name,
         version: grown_if(has_updates, row.version),
-        moves: grown_if(lies_elsewhere(row, &meta), row.moves),
+        moves,
         location,
         metadata: Handle::new(alloc, meta)?,
-    };
-    Ok(Committed { before: row, after })
+    })
 }
 
 /// Where a table lies after its commit. It has this place.

@@ -6,27 +6,27 @@ use pol_updates::LeftOut;
 use serde_json::Value;
 use std::alloc::Global;
 
-#[derive(Clone, Copy, Debug, PartialEq, Eq)]
+#[derive(Clone, Copy, PartialEq, Eq)]
 pub(crate) enum SchemaAction {
     Add,
     SetCurrent,
     Remove,
 }
 
-#[derive(Clone, Copy, Debug, PartialEq, Eq)]
+#[derive(Clone, Copy, PartialEq, Eq)]
 pub(crate) enum SpecAction {
     Add,
     SetDefault,
     Remove,
 }
 
-#[derive(Clone, Copy, Debug, PartialEq, Eq)]
+#[derive(Clone, Copy, PartialEq, Eq)]
 pub(crate) enum OrderAction {
     Add,
     SetDefault,
 }
 
-#[derive(Clone, Copy, Debug, PartialEq, Eq)]
+#[derive(Clone, Copy, PartialEq, Eq)]
 pub(crate) enum SnapshotAction {
     Add,
     SetRef,
@@ -35,7 +35,7 @@ pub(crate) enum SnapshotAction {
 }
 
 /// What an update changes that is no list of members.
-#[derive(Clone, Copy, Debug, PartialEq, Eq)]
+#[derive(Clone, Copy, PartialEq, Eq)]
 pub enum TextAction {
     AssignUuid,
     UpgradeFormatVersion,
@@ -45,7 +45,7 @@ pub enum TextAction {
 }
 
 /// The action of an update: what it changes, and how.
-#[derive(Clone, Copy, Debug, PartialEq, Eq)]
+#[derive(Clone, Copy, PartialEq, Eq)]
 pub(crate) enum Action {
     Schemas(SchemaAction),
     Specs(SpecAction),

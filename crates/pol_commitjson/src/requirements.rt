@@ -16,7 +16,7 @@ use std::alloc::Global;
 use uuid::Uuid;
 
 /// The type of a requirement.
-#[derive(Clone, Copy, Debug, PartialEq, Eq)]
+#[derive(Clone, Copy, PartialEq, Eq)]
 pub(crate) enum RequirementType {
     AssertCreate,
     AssertTableUuid,

@@ -11,7 +11,7 @@ use pol_view_rows::ViewRow;
 /// rising ids or serials, and those of members, joins and grants by rising rows. A put of a row with a new id or
 /// serial goes last, and a known id's row is replaced in its place; a drop takes that one row away. A session and a
 /// storage token never change: a put of a known serial changes nothing.
-#[derive(Debug, Drop, PartialEq, Eq)]
+#[derive(Drop, PartialEq, Eq)]
 pub enum Change {
     /// The state's time becomes this one.
     Time(u64),
@@ -79,7 +79,7 @@ impl Change {
 }
 
 /// The kinds of rows that a state has.
-#[derive(Clone, Copy, Debug, PartialEq, Eq)]
+#[derive(Clone, Copy, PartialEq, Eq)]
 pub enum RowKind {
     Principal,
     PrincipalRole,

@@ -21,7 +21,7 @@ use std::marker::Model;
 
 /// Catalogues, their namespaces, and the tables and views in these, each found by its id and by its name. Contracts see
 /// the rows, and the room: how many more can be put without taking memory.
-#[derive(Debug, Drop)]
+#[derive(Drop)]
 pub struct Content {
     catalogs: NamedTable<CatalogRow>,
     namespaces: GroupedTable<NamespaceRow>,

@@ -6,7 +6,7 @@ use std::marker::Model;
 
 /// A row that a change puts. It lies apart from the change, so that a list of changes takes little room for those that
 /// put nothing. Contracts see the row.
-#[derive(Debug, Drop)]
+#[derive(Drop)]
 pub struct PutRow<T> {
     row: Box<T, Global>,
 }

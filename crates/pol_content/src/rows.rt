@@ -10,7 +10,7 @@ use std::cmp::Ordering;
 
 /// A catalogue: its name, the base of its tables' default locations, the locations that are allowed beside it, and
 /// its properties.
-#[derive(Clone, Debug, Drop, PartialEq, Eq)]
+#[derive(Clone, Drop, PartialEq, Eq)]
 pub struct CatalogRow {
     pub id: u64,
     pub name: Plain,
@@ -83,7 +83,7 @@ impl Sortable for CatalogRow {
 }
 
 /// A namespace of a catalogue: its levels and its properties.
-#[derive(Clone, Debug, Drop, PartialEq, Eq)]
+#[derive(Clone, Drop, PartialEq, Eq)]
 pub struct NamespaceRow {
     pub id: u64,
     pub catalog: u64,
@@ -153,7 +153,7 @@ impl Sortable for NamespaceRow {
 }
 
 /// What a namespace is sought by: its catalogue's id and its levels.
-#[derive(Clone, Copy, Debug)]
+#[derive(Clone, Copy)]
 pub struct NamespaceName<'a> {
     pub catalog: u64,
     pub levels: &'a Namespace,

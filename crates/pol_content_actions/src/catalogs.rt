@@ -26,7 +26,7 @@ use pol_rules::needs::{allowed_on_catalog, allowed_service};
 use pol_rules::prologues::in_realm;
 use pol_rules::rules::{Acted, Asked, Undone, time_of, unchanged};
 use pol_state::texts::plain;
-use pol_types::{Listed, OutOfMemory, Text};
+use pol_types::{Listed, OutOfMemory, Text, both};
 use std::alloc::Global;
 
 /// Tells how a client is to speak to a catalogue.
@@ -113,25 +113,44 @@ fn created(
     ensures changes { IfOk result (λ acted. acted.changes
         ≡ changes_to asked.now (λ s. with_catalog s row service.now)) }
 {
-    let shown = row.clone()?;
-    let admin = catalog_admin(asked.alloc, row.id)?;
-    let (catalog, role) = (row.id, admin.id);
-    let put = put_catalog(asked.alloc, row)?;
-    Ok(Acted {
-        answer: Answer::CatalogCreated(shown),
-        changes: Listed::from(vec![in asked.alloc;
-            Change::Time(time_of(asked)),
-            Change::NextId(catalog + 2),
-            put,
-            Change::PutCatalogRole(admin),
-            Change::PutJoin(JoinRow {
-                principal_role: service.id,
-                catalog_role: role,
-            }),
-            Change::PutGrant(admin_grant(Privilege::CatalogManageAccess, catalog)),
-            Change::PutGrant(admin_grant(Privilege::CatalogManageContent, catalog)),
-        ]?),
-    })
+    Acted::of(creation_told(&row), creation_changes(asked, row, service))
+}
+
+/// What the creation of a catalogue is answered.
+fn creation_told(row: &CatalogRow) -> Result<Answer, OutOfMemory>
+    ensures { IfOk result (λ answer. answer ≡ CatalogCreated row.now) }
+{
+    Ok(Answer::CatalogCreated(row.clone()?))
+}
+
+/// The changes that put a catalogue with its `catalog_admin`, and take two ids.
+fn creation_changes(
+    asked: &Asked<'_>,
+    row: CatalogRow,
+    service: &PrincipalRoleRow,
+) -> Result<Listed<Change>, OutOfMemory>
+    requires sound { IsSound asked.now.state.now.rows }
+    requires id { row.id ≡ asked.now.state.now.rows.next_id }
+    requires within { row.id ≤ 2 ^ 62 }
+    ensures { IfOk result (λ changes. changes
+        ≡ changes_to asked.now (λ s. with_catalog s row service.now)) }
+{
+    let catalog = row.id;
+    let admin = catalog_admin(asked.alloc, catalog);
+    let (admin, put) = both(admin, put_catalog(asked.alloc, row))?;
+    let role = admin.id;
+    Ok(Listed::from(vec![in asked.alloc;
+        Change::Time(time_of(asked)),
+        Change::NextId(catalog + 2),
+        put,
+        Change::PutCatalogRole(admin),
+        Change::PutJoin(JoinRow {
+            principal_role: service.id,
+            catalog_role: role,
+        }),
+        Change::PutGrant(admin_grant(Privilege::CatalogManageAccess, catalog)),
+        Change::PutGrant(admin_grant(Privilege::CatalogManageContent, catalog)),
+    ]?))
 }
 
 /// The role `catalog_admin` of a catalogue, named by its id. Its own id is the one after the catalogue's.

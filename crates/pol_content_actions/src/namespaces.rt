@@ -3,7 +3,7 @@ ghost use Rattle.pol_content.specs.Content.{namespace_id};
 ghost use Rattle.pol_properties.specs.Properties.{keys, missing_keys, pairs_updated, removed_keys};
 ghost use Rattle.pol_tables.specs.Table.{row_of};
 ghost use Rattle.pol_rules.specs.Judged.{Acts, changes_to};
-ghost use Rattle.pol_content_actions.specs.Namespaces.{create_namespace, drop_namespace, head_namespace, list_namespaces, listed, load_namespace, update_properties, with_altered, with_new_namespace, without_namespace};
+ghost use Rattle.pol_content_actions.specs.Namespaces.{create_namespace, drop_namespace, head_namespace, list_namespaces, listed, load_namespace, update_properties, with_altered, with_new_namespace, with_properties, without_namespace};
 ghost use Rattle.pol_state.specs.Sound.{IsSound};
 ghost use Rattle.pol_commands.specs.declared.reply.Answer.TheVariants.{NamespaceDropped, PropertiesUpdated, NamespaceCreated};
 
@@ -15,7 +15,7 @@ use pol_properties::Properties;
 use pol_puts::put_namespace;
 use pol_rules::callers::signed_in;
 use pol_rules::catalog_rules::catalog_there;
-use pol_rules::changes::under_next_id;
+use pol_rules::changes::{no_changes, one_change, under_next_id};
 use pol_rules::drops::push_grants;
 use pol_rules::namespace_rules::{keys_apart, levels_free, namespace_empty, parent_there};
 use pol_rules::needs::allowed_on_parent;
@@ -85,6 +85,8 @@ pub fn create_namespace(
     let privilege = Privilege::NamespaceCreate;
     allowed_on_parent(asked, privilege, parent.as_ref(), catalog)?;
     parent_there(asked, catalog.id, parent.as_ref())?;
+    // No way out behind this has to drop it.
+    drop(parent);
     levels_free(asked, catalog, levels)?;
     let row = NamespaceRow {
         id: asked.state.next_id(),
@@ -96,7 +98,6 @@ pub fn create_namespace(
 }
 
 /// The namespace is put, and an id is taken.
-#[tactic(auto, using(crate::proofs::ChangesLemmas::namespace_changes))]
 fn created(asked: &Asked<'_>, row: NamespaceRow) -> Result<Acted, OutOfMemory>
     requires sound { IsSound asked.now.state.now.rows }
     requires id { row.id ≡ asked.now.state.now.rows.next_id }
@@ -104,12 +105,37 @@ fn created(asked: &Asked<'_>, row: NamespaceRow) -> Result<Acted, OutOfMemory>
     ensures answer { IfOk result (λ acted. acted.answer ≡ NamespaceCreated row.levels row.properties) }
     ensures changes { IfOk result (λ acted. acted.changes ≡ changes_to asked.now (λ s. with_new_namespace s row)) }
 {
-    let answer = Answer::NamespaceCreated {
-        namespace: row.levels.clone()?,
-        properties: row.properties.clone()?,
-    };
-    let changes = under_next_id(asked, put_namespace(asked.alloc, row)?)?;
-    Ok(Acted { answer, changes })
+    Acted::of(creation_told(&row), creation_changes(asked, row))
+}
+
+/// What the creation of a namespace is answered.
+fn creation_told(row: &NamespaceRow) -> Result<Answer, OutOfMemory>
+    ensures { IfOk result (λ answer. answer ≡ NamespaceCreated row.now.levels row.now.properties) }
+{
+    let (namespace, properties) = shown(row)?;
+    Ok(Answer::NamespaceCreated {
+        namespace,
+        properties,
+    })
+}
+
+/// The changes that put a namespace under the next id.
+#[tactic(auto, using(crate::proofs::ChangesLemmas::namespace_changes))]
+fn creation_changes(asked: &Asked<'_>, row: NamespaceRow) -> Result<Listed<Change>, OutOfMemory>
+    requires sound { IsSound asked.now.state.now.rows }
+    requires id { row.id ≡ asked.now.state.now.rows.next_id }
+    requires within { asked.now.state.now.rows.next_id ≤ 2 ^ 62 }
+    ensures { IfOk result (λ changes. changes ≡ changes_to asked.now (λ s. with_new_namespace s row)) }
+{
+    let put = put_namespace(asked.alloc, row)?;
+    under_next_id(asked, put)
+}
+
+/// Copies of the levels and the properties of a namespace.
+fn shown(row: &NamespaceRow) -> Result<(Namespace, Properties), OutOfMemory>
+    ensures { IfOk result (λ shown. (shown.0 ≡ row.now.levels) × (shown.1 ≡ row.now.properties)) }
+{
+    Ok((row.levels.clone()?, row.properties.clone()?))
 }
 
 /// Shows a namespace.
@@ -119,9 +145,10 @@ pub fn load_namespace(asked: &Asked<'_>, name: &Plain, levels: &Namespace) -> Re
     ensures { Acts asked.now (λ s command. load_namespace s command name.now levels.now) result }
 {
     let row = on_namespace(asked, Privilege::NamespaceReadProperties, name, levels)?;
+    let (namespace, properties) = shown(row)?;
     let answer = Answer::NamespaceLoaded {
-        namespace: row.levels.clone()?,
-        properties: row.properties.clone()?,
+        namespace,
+        properties,
     };
     Ok(unchanged(asked.alloc, answer))
 }
@@ -181,10 +208,25 @@ pub fn update_properties(
 {
     let row = on_namespace(asked, Privilege::NamespaceWriteProperties, name, levels)?;
     keys_apart(removals, updates)?;
+    let answer = keys_told(asked.alloc, row, removals, updates);
+    let changes = update_changes(asked, row, removals, updates);
+    Ok(Acted::of(answer, changes)?)
+}
+
+/// The changes by which properties of a namespace that is there are removed and set.
+fn update_changes(
+    asked: &Asked<'_>,
+    row: &NamespaceRow,
+    removals: &Listed<Text>,
+    updates: &Properties,
+) -> Result<Listed<Change>, OutOfMemory>
+    requires sound { IsSound asked.now.state.now.rows }
+    requires there { row_of namespace_id row.now.id asked.now.state.now.rows.content.namespaces ≡ Some row.now }
+    ensures { IfOk result (λ changes. changes
+        ≡ changes_to asked.now (λ s. with_properties s removals.now updates.now row.now)) }
+{
     let altered = with_updates(asked.alloc, row, removals, updates)?;
-    let answer = keys_told(asked.alloc, row, removals, updates)?;
-    let changes = altered_changes(asked, row, altered)?;
-    Ok(Acted { answer, changes })
+    altered_changes(asked, row, altered)
 }
 
 /// The namespace with its properties once the removals are removed and the updates set.
@@ -236,8 +278,8 @@ fn altered_changes(
     ensures { IfOk result (λ changes. changes ≡ changes_to asked.now (λ s. with_altered s altered)) }
 {
     if altered == *row {
-        return Ok(Listed::from(Vec::new(asked.alloc)));
+        return Ok(no_changes(asked.alloc));
     }
     let put = put_namespace(asked.alloc, altered)?;
-    Ok(Listed::from(vec![in asked.alloc; Change::Time(time_of(asked)), put]?))
+    one_change(asked, put)
 }

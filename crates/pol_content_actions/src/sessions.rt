@@ -41,16 +41,13 @@ pub fn open_session(
         expires: time + SESSION_LIFE,
     };
     let put = put_session(asked.alloc, row)?;
+    let changes = vec![in asked.alloc; Change::Time(time), Change::NextSerial(serial + 1), put]?;
     Ok(Acted {
         answer: Answer::SessionOpened {
             serial,
             word_a,
             word_b,
         },
-        changes: Listed::from(vec![in asked.alloc;
-            Change::Time(time),
-            Change::NextSerial(serial + 1),
-            put,
-        ]?),
+        changes: Listed::from(changes),
     })
 }

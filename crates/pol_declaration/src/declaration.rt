@@ -16,7 +16,7 @@ use toml::Value;
 
 /// What a catalogue is to be set up with: the secret of the principal `root`, and what is to be there beside it, in the
 /// order of the text.
-#[derive(Debug, Drop)]
+#[derive(Drop)]
 pub struct Declaration {
     pub root_secret: Text,
     pub principal_roles: Listed<NewPrincipalRole>,

@@ -55,7 +55,7 @@ fn granted(alloc: Global, privilege: Privilege) -> Result<Grant, DeclarationRefu
 }
 
 /// `[[principal-role]]`: a principal role that is to be.
-#[derive(Debug, Drop)]
+#[derive(Drop)]
 pub struct NewPrincipalRole {
     pub name: Plain,
 }
@@ -73,7 +73,7 @@ impl Form for NewPrincipalRole {
 
 /// `[[principal]]`: a principal that is to be, with the principal roles of which it is to be a member. Where no client id
 /// is given, it is the name. Where no secret is given, one is to be drawn.
-#[derive(Debug, Drop)]
+#[derive(Drop)]
 pub struct NewPrincipal {
     pub name: Plain,
     pub client_id: Text,
@@ -113,7 +113,7 @@ fn client_id_or(alloc: Global, given: Option<Text>, name: &Plain) -> Result<Text
 }
 
 /// `[[catalog]]`: a catalogue that is to be, with its base and the locations that are allowed beside it.
-#[derive(Debug, Drop)]
+#[derive(Drop)]
 pub struct NewCatalog {
     pub name: Plain,
     pub base: Text,
@@ -138,7 +138,7 @@ impl Form for NewCatalog {
 }
 
 /// `[[catalog-role]]`: a role of a catalogue that is to be, with the principal roles that are to be joined to it.
-#[derive(Debug, Drop)]
+#[derive(Drop)]
 pub struct NewCatalogRole {
     pub catalog: Plain,
     pub name: Plain,
@@ -164,7 +164,7 @@ impl Form for NewCatalogRole {
 }
 
 /// `[[grant]]`: a grant on a catalogue that one of its roles is to have.
-#[derive(Debug, Drop)]
+#[derive(Drop)]
 pub struct NewGrant {
     pub catalog: Plain,
     pub catalog_role: Plain,

@@ -5,7 +5,7 @@ use pol_meta::Why;
 use std::alloc::{AllocError, AllocFailed};
 
 /// Why one update changes nothing.
-#[derive(Clone, Copy, Debug, PartialEq, Eq)]
+#[derive(Clone, Copy, PartialEq, Eq)]
 pub enum Stop {
     Refused(Why),
     OutOfMemory,

@@ -25,7 +25,7 @@ pub enum Start {
 }
 
 /// One of the images of a disk that a crash may leave.
-#[derive(Clone, Copy, Debug, PartialEq, Eq)]
+#[derive(Clone, Copy, PartialEq, Eq)]
 pub enum Image {
     /// That of the last sync: it has nothing of what was written or cut since.
     Synced,

@@ -19,7 +19,7 @@ pub struct Script {
 }
 
 /// An answer, or bytes that are to come, as a part of the output.
-#[derive(Clone, Copy, Debug, PartialEq, Eq)]
+#[derive(Clone, Copy, PartialEq, Eq)]
 pub struct Part {
     /// The line at which it begins.
     pub line: usize,

@@ -6,7 +6,7 @@ use std::marker::Model;
 
 /// The bytes that are not read yet, which contracts see as the list of them. After an error nothing is said of what is
 /// left.
-#[derive(Debug, Drop)]
+#[derive(Drop)]
 pub struct Unread<'a> {
     bytes: &'a [u8],
 }

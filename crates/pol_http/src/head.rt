@@ -24,7 +24,7 @@ pub const BODY_LIMIT: usize = 16_777_216;
 const FIELDS_OF_ANY_HEAD: usize = 5461;
 
 /// Why a head is refused. No answer but an error and the end of the connection can follow.
-#[derive(Clone, Copy, Debug, PartialEq, Eq)]
+#[derive(Clone, Copy, PartialEq, Eq)]
 pub enum HeadRefused {
     /// The bytes begin no head, or the head passes a limit, or its Content-Length is no one number.
     BadHead,

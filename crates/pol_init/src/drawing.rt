@@ -7,7 +7,7 @@ use pol_wire::{Draw, Failed};
 use std::alloc::Global;
 
 /// Why words weren't drawn.
-#[derive(Clone, Copy, Debug, PartialEq, Eq)]
+#[derive(Clone, Copy, PartialEq, Eq)]
 pub(crate) enum Undrawn {
     /// The draw failed.
     DrawFault,

@@ -11,7 +11,7 @@ use pol_disk::Disk;
 use pol_journal::{Journal, JournalRefused, Kind};
 
 /// Why journals weren't made.
-#[derive(Clone, Copy, Debug, PartialEq, Eq)]
+#[derive(Clone, Copy, PartialEq, Eq)]
 pub enum NotMade {
     /// The disk of the objects, or else that of the catalogue, has bytes.
     JournalThere { objects: bool },

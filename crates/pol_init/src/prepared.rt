@@ -31,7 +31,7 @@ pub struct Prepared {
 }
 
 /// Why `init` has nothing to make journals of.
-#[derive(Debug, Drop)]
+#[derive(Drop)]
 pub enum NotPrepared {
     /// The source failed.
     ReadFault,

@@ -14,7 +14,7 @@ const MOST: usize = 1_048_577;
 const PIECE: usize = 4096;
 
 /// Why a text wasn't taken.
-#[derive(Clone, Copy, Debug, PartialEq, Eq)]
+#[derive(Clone, Copy, PartialEq, Eq)]
 pub(crate) enum Unread {
     /// The source failed.
     ReadFault,

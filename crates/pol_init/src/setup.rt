@@ -17,7 +17,7 @@ use pol_types::OutOfMemory;
 use std::alloc::Global;
 
 /// Why a state isn't set up.
-#[derive(Debug, Drop)]
+#[derive(Drop)]
 pub enum SetupRefused {
     /// The command at this index, counted from 0, is refused, and none before it is.
     Refused { index: u64, refusal: Refusal },

@@ -1,5 +1,5 @@
 /// What came of a command, with its rendered reply.
-#[derive(Debug, Drop)]
+#[derive(Drop)]
 pub enum Stepped<T> {
     /// It stands in the history at this place, counted from 0, and no crash takes its changes away.
     Done { place: u64, out: T },

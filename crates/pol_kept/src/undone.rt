@@ -4,7 +4,7 @@ ghost use Rattle.pol_kept.specs.Stages.{stepped_by};
 use crate::Stepped;
 
 /// Why a command wasn't carried out.
-#[derive(Clone, Copy, Debug, PartialEq, Eq)]
+#[derive(Clone, Copy, PartialEq, Eq)]
 pub(crate) enum Undone {
     /// The journal would reach too far with its changes.
     JournalFull { length: u64, wanted: u64 },

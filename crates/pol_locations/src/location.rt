@@ -25,7 +25,7 @@ const MAX_LENGTH: usize = 1024;
 /// `/` between them, and has at most 1,024 bytes. A segment has at least one byte, no `/`, no byte below 0x20 and no
 /// 0x7F, and is neither `.` nor `..`. Locations compare segment by segment, a proper prefix first, and print as
 /// their text.
-#[derive(Clone, Debug, Drop, Eq, PartialOrd, Ord)]
+#[derive(Clone, Drop, Eq, PartialOrd, Ord)]
 pub struct Location {
     segments: Listed<Text>,
 }

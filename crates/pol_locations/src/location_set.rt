@@ -13,7 +13,7 @@ use std::alloc::{AllocError, Global};
 use std::marker::Model;
 
 /// A member of a set: a location and the id of its owner.
-#[derive(Clone, Debug, Drop, PartialEq, Eq)]
+#[derive(Clone, Drop, PartialEq, Eq)]
 pub struct Member {
     pub owner: u64,
     pub location: Location,
@@ -28,7 +28,7 @@ impl Exact for Member {
 /// Locations with their owners. No two members have one owner, and no two locations overlap. They stand by location, so
 /// that those near a location are found by a binary search. Contracts see the members, in no promised order, and for how
 /// many more there is a place.
-#[derive(Debug, Drop)]
+#[derive(Drop)]
 pub struct LocationSet {
     members: Vec<Member>,
 }

@@ -49,7 +49,7 @@ use pol_view_actions::views::{drop_view, head_view, list_views, load_view};
 use std::alloc::Global;
 
 /// What a command comes to: its reply, and the changes that it makes.
-#[derive(Debug, Drop)]
+#[derive(Drop)]
 pub struct Decision {
     pub reply: Reply,
     pub changes: Listed<Change>,

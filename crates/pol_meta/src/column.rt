@@ -3,7 +3,7 @@ ghost use Rattle.std.proofs.Common.{rules};
 use pol_types::{Exact, Text};
 
 /// The type of a column. A struct, a list and a map say no more: their columns follow the column in the list.
-#[derive(Clone, Copy, Debug, PartialEq, Eq)]
+#[derive(Clone, Copy, PartialEq, Eq)]
 pub enum Kind {
     Boolean,
     Int,

@@ -9,7 +9,7 @@ use std::marker::Model;
 
 /// Ids, each of four bytes, which contracts see as the list of them. It is made from a `Vec` and gives it back
 /// without taking memory.
-#[derive(Debug, Drop)]
+#[derive(Drop)]
 pub struct Ids {
     ids: Vec<u32>,
 }

@@ -18,7 +18,7 @@ impl Exact for MetadataLogEntry {
 }
 
 /// A snapshot that became the current one, and when, in milliseconds since the Unix epoch.
-#[derive(Clone, Copy, Debug, PartialEq, Eq)]
+#[derive(Clone, Copy, PartialEq, Eq)]
 pub struct SnapshotLogEntry {
     pub snapshot_id: u64,
     pub timestamp_ms: u64,

@@ -3,7 +3,7 @@ ghost use Rattle.std.proofs.Common.{rules};
 use pol_types::{Exact, Text};
 
 /// Whether a reference moves on with new snapshots.
-#[derive(Clone, Copy, Debug, PartialEq, Eq)]
+#[derive(Clone, Copy, PartialEq, Eq)]
 pub enum RefKind {
     Branch,
     Tag,
@@ -18,7 +18,7 @@ impl Exact for RefKind {
 }
 
 /// A reference to a snapshot, and what is to be kept of it: ages in milliseconds, and a number of snapshots.
-#[derive(Clone, Copy, Debug, PartialEq, Eq)]
+#[derive(Clone, Copy, PartialEq, Eq)]
 pub struct SnapshotRef {
     pub kind: RefKind,
     pub snapshot_id: u64,

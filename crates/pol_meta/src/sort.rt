@@ -4,7 +4,7 @@ use crate::Transform;
 use pol_types::{Exact, Listed};
 
 /// Which values come first.
-#[derive(Clone, Copy, Debug, PartialEq, Eq)]
+#[derive(Clone, Copy, PartialEq, Eq)]
 pub enum Direction {
     Asc,
     Desc,
@@ -19,7 +19,7 @@ impl Exact for Direction {
 }
 
 /// Whether nulls come before all values or after them.
-#[derive(Clone, Copy, Debug, PartialEq, Eq)]
+#[derive(Clone, Copy, PartialEq, Eq)]
 pub enum NullOrder {
     NullsFirst,
     NullsLast,
@@ -34,7 +34,7 @@ impl Exact for NullOrder {
 }
 
 /// A field of a sort order: the column whose values are transformed, and how they are sorted.
-#[derive(Clone, Copy, Debug, PartialEq, Eq)]
+#[derive(Clone, Copy, PartialEq, Eq)]
 pub struct SortField {
     pub transform: Transform,
     pub source_id: u32,

@@ -3,7 +3,7 @@ ghost use Rattle.std.proofs.Common.{rules};
 use pol_types::Exact;
 
 /// What is done to the values of a column before a table is partitioned or sorted by them.
-#[derive(Clone, Copy, Debug, PartialEq, Eq)]
+#[derive(Clone, Copy, PartialEq, Eq)]
 pub enum Transform {
     Identity,
     Void,

@@ -5,7 +5,7 @@ use std::alloc::{AllocError, AllocFailed};
 use std::fmt;
 
 /// Why a table can't be made or changed as it is asked. Each prints as its name.
-#[derive(Clone, Copy, Debug, PartialEq, Eq)]
+#[derive(Clone, Copy, PartialEq, Eq)]
 pub enum Why {
     /// The table has another uuid.
     UuidDiffers,
@@ -61,7 +61,7 @@ impl fmt::Display for Why {
 }
 
 /// Why `create` makes no metadata.
-#[derive(Clone, Copy, Debug, PartialEq, Eq)]
+#[derive(Clone, Copy, PartialEq, Eq)]
 pub enum CreateRefused {
     Refused { why: Why },
     OutOfMemory,

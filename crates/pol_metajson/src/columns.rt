@@ -20,7 +20,7 @@ use serde_json::Value;
 use std::alloc::Global;
 
 /// A type that has columns in it.
-#[derive(Clone, Copy, Debug, PartialEq, Eq)]
+#[derive(Clone, Copy, PartialEq, Eq)]
 pub(crate) enum Nested {
     Struct,
     List,

@@ -9,7 +9,7 @@ use std::fmt;
 
 /// The full name of a table or a view: its namespace and its name in it. It prints as `levels.name`, the levels
 /// with dots between them.
-#[derive(Clone, Debug, Drop, PartialEq, Eq, PartialOrd, Ord, Hash)]
+#[derive(Clone, Drop, PartialEq, Eq, PartialOrd, Ord, Hash)]
 pub struct Identifier {
     pub namespace: Namespace,
     pub name: Name,

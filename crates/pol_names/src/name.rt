@@ -55,7 +55,7 @@ impl From<AllocError> for NameRefused {
 
 /// The name of a table, a view or a level of a namespace: 1 to 128 bytes of UTF-8, none below 0x20 and none equal
 /// to 0x7F. Contracts see it as its bytes. Names compare by their bytes, a proper prefix first.
-#[derive(Clone, Debug, Drop, Eq, PartialOrd, Ord, Hash)]
+#[derive(Clone, Drop, Eq, PartialOrd, Ord, Hash)]
 pub struct Name {
     text: Text,
 }

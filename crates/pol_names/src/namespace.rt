@@ -94,7 +94,7 @@ impl<T: Drop> From<AllocFailed<T>> for NamespaceRefused {
 
 /// A namespace: 1 to 16 levels, each a name. Contracts see it as the list of its levels' bytes. Namespaces compare
 /// level by level, a proper prefix first. A namespace prints as its levels with dots between them.
-#[derive(Clone, Debug, Drop, Eq, PartialOrd, Ord)]
+#[derive(Clone, Drop, Eq, PartialOrd, Ord)]
 pub struct Namespace {
     levels: Listed<Name>,
 }

@@ -15,7 +15,7 @@ use std::marker::Model;
 
 /// The name of a catalogue, a principal or a role: 1 to 128 bytes out of `A`-`Z`, `a`-`z`, `0`-`9`, `_` and `-`.
 /// Contracts see it as its bytes. Plain names compare by their bytes, a proper prefix first.
-#[derive(Clone, Debug, Drop, Eq, PartialOrd, Ord, Hash)]
+#[derive(Clone, Drop, Eq, PartialOrd, Ord, Hash)]
 pub struct Plain {
     text: Text,
 }

@@ -7,7 +7,7 @@ use pol_types::{Exact, Listed};
 pub type RoleIds = Listed<u64>;
 
 /// The principal roles that a session acts with: all of its principal's, or those of them that it names.
-#[derive(Clone, Debug, Drop, PartialEq, Eq)]
+#[derive(Clone, Drop, PartialEq, Eq)]
 pub enum Scope {
     All,
     Roles(RoleIds),

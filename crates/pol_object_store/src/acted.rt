@@ -1,7 +1,7 @@
 use pol_objects::ObjectReply;
 
 /// What came of an action on objects.
-#[derive(Debug, Drop)]
+#[derive(Drop)]
 pub enum Acted {
     /// It stands in the history at this place, counted from 0, and is answered so. No crash takes its change away.
     Done { place: u64, reply: ObjectReply },

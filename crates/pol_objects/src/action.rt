@@ -2,7 +2,7 @@ use pol_locations::Location;
 use pol_shared_bytes::SharedBytes;
 
 /// What is asked of the objects. Only a put and a delete write.
-#[derive(Debug, Drop)]
+#[derive(Drop)]
 pub enum ObjectAction {
     /// The bytes of the object at the path.
     Get { path: Location },

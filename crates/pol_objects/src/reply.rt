@@ -4,7 +4,7 @@ use pol_shared_bytes::SharedBytes;
 use pol_types::Listed;
 
 /// What an action on objects is answered.
-#[derive(Debug, Drop)]
+#[derive(Drop)]
 pub enum ObjectReply {
     /// To a get: the bytes, which are shared with the object and not copied.
     Bytes { bytes: SharedBytes },

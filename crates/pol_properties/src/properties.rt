@@ -12,7 +12,7 @@ use std::marker::Model;
 use std::slice;
 
 /// Texts under keys, each key once. Contracts see the pairs, in byte order of their keys.
-#[derive(Debug, Drop)]
+#[derive(Drop)]
 pub struct Properties {
     pairs: Vec<Property>,
 }

@@ -4,7 +4,7 @@ ghost use Rattle.pol_types.specs.Exact.{exactness};
 use pol_types::{Exact, Text};
 
 /// A text under a key.
-#[derive(Clone, Debug, Drop, PartialEq, Eq)]
+#[derive(Clone, Drop, PartialEq, Eq)]
 pub struct Property {
     pub key: Text,
     pub value: Text,

@@ -14,7 +14,7 @@ use std::marker::Model;
 
 /// The members of an object whose values are of one form, each with its key, in byte order of the keys. No two keys are
 /// equal. Contracts see them as the list of pairs. They give their `Vec` back without taking memory.
-#[derive(Debug, Drop)]
+#[derive(Drop)]
 pub struct Entries<F> {
     entries: Vec<(Text, F)>,
 }

@@ -6,7 +6,7 @@ use serde_json::Value;
 use std::alloc::Global;
 
 /// A value of another form, or the whole number -1, to which a field gives a meaning of its own. -1 is tested first.
-#[derive(Debug, Drop)]
+#[derive(Drop)]
 pub enum OrMinusOne<F> {
     MinusOne,
     Other(F),

@@ -11,7 +11,7 @@ use std::marker::Model;
 ///
 /// In JSON (RFC 8259, section 6) it has no sign, fraction or exponent: `-0`, `1.0`, `1e0` and numbers past 64 bits are
 /// refused, and so is one out of the bounds.
-#[derive(Debug, Drop)]
+#[derive(Drop)]
 pub struct Ranged<const LOW: u64, const HIGH: u64> {
     number: u64,
 }

@@ -4,7 +4,7 @@ ghost use Rattle.pol_records.specs.Unwritten.{unwritten_of};
 use pol_journal::JournalRefused;
 
 /// Why a body wasn't written.
-#[derive(Clone, Copy, Debug, PartialEq, Eq)]
+#[derive(Clone, Copy, PartialEq, Eq)]
 pub enum Unwritten {
     /// With this body the journal, whose end is at `length`, would reach to `wanted`.
     JournalFull { length: u64, wanted: u64 },

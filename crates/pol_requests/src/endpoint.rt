@@ -1,7 +1,7 @@
 //! What a request that is served asks for.
 
 /// What a request asks for, by what it is about.
-#[derive(Clone, Copy, Debug)]
+#[derive(Clone, Copy)]
 pub enum Endpoint {
     OpenSession,
     Content(ContentRequest),
@@ -16,7 +16,7 @@ pub enum Endpoint {
 }
 
 /// What a catalogue holds.
-#[derive(Clone, Copy, Debug)]
+#[derive(Clone, Copy)]
 pub enum ContentRequest {
     GetConfig,
     ListNamespaces,
@@ -27,7 +27,7 @@ pub enum ContentRequest {
 }
 
 /// One namespace of a catalogue, and the tables and views in it.
-#[derive(Clone, Copy, Debug)]
+#[derive(Clone, Copy)]
 pub enum NamespaceRequest {
     LoadNamespace,
     HeadNamespace,
@@ -40,7 +40,7 @@ pub enum NamespaceRequest {
 }
 
 /// One table of a namespace.
-#[derive(Clone, Copy, Debug)]
+#[derive(Clone, Copy)]
 pub enum TableRequest {
     LoadTable,
     LoadCredentials,
@@ -51,7 +51,7 @@ pub enum TableRequest {
 }
 
 /// One view of a namespace.
-#[derive(Clone, Copy, Debug)]
+#[derive(Clone, Copy)]
 pub enum ViewRequest {
     LoadView,
     HeadView,
@@ -60,7 +60,7 @@ pub enum ViewRequest {
 }
 
 /// The catalogues themselves.
-#[derive(Clone, Copy, Debug)]
+#[derive(Clone, Copy)]
 pub enum CatalogRequest {
     ListCatalogs,
     CreateCatalog,
@@ -69,7 +69,7 @@ pub enum CatalogRequest {
 }
 
 /// Principals and the principal roles that they have.
-#[derive(Clone, Copy, Debug)]
+#[derive(Clone, Copy)]
 pub enum PrincipalRequest {
     ListPrincipals,
     CreatePrincipal,
@@ -82,7 +82,7 @@ pub enum PrincipalRequest {
 }
 
 /// Principal roles and the roles of catalogues that they are joined to.
-#[derive(Clone, Copy, Debug)]
+#[derive(Clone, Copy)]
 pub enum PrincipalRoleRequest {
     ListPrincipalRoles,
     CreatePrincipalRole,
@@ -94,7 +94,7 @@ pub enum PrincipalRoleRequest {
 }
 
 /// Roles of a catalogue and their grants.
-#[derive(Clone, Copy, Debug)]
+#[derive(Clone, Copy)]
 pub enum CatalogRoleRequest {
     ListCatalogRoles,
     CreateCatalogRole,
@@ -106,7 +106,7 @@ pub enum CatalogRoleRequest {
 }
 
 /// One object of the object server, or those below a path.
-#[derive(Clone, Copy, Debug)]
+#[derive(Clone, Copy)]
 pub enum ObjectRequest {
     GetObject,
     HeadObject,

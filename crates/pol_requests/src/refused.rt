@@ -6,7 +6,7 @@ use pol_types::{OutOfMemory, Text};
 use std::alloc::{AllocError, Global};
 
 /// Why a message has no plan. The refusals of the route come first, in the order in which they stand here.
-#[derive(Debug, Drop, PartialEq, Eq)]
+#[derive(Drop, PartialEq, Eq)]
 pub enum RouteRefused {
     /// The path is none of the table's.
     NoRoute,
@@ -22,7 +22,7 @@ pub enum RouteRefused {
 }
 
 /// Why no plan of a message is made.
-#[derive(Debug, Drop)]
+#[derive(Drop)]
 pub enum Unplanned {
     /// The message has none.
     Refused(RouteRefused),

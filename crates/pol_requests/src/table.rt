@@ -11,7 +11,7 @@ use crate::endpoint::{
 /// What the requests of a method and path ask for, and how many random words each draws, 4 at most: a token is made of
 /// two, the uuid of a new table of two of its four and that of a new view of two, the client id of a new principal of
 /// one, and each secret of two. The loading of a table draws two where a storage token is asked for with it.
-#[derive(Clone, Copy, Debug)]
+#[derive(Clone, Copy)]
 pub struct Service {
     pub endpoint: Endpoint,
     pub words: u8,

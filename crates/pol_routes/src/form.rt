@@ -8,7 +8,7 @@ use pol_types::{OutOfMemory, Text};
 use std::alloc::{AllocError, Global};
 
 /// The values that a form has of one name.
-#[derive(Debug, Drop)]
+#[derive(Drop)]
 pub(crate) enum Values {
     Missing,
     One(Text),

@@ -27,7 +27,7 @@ use std::str;
 pub const REQUEST_CHARGE: u64 = 512;
 
 /// What a message asks for, before the clock is read and words are drawn.
-#[derive(Debug, Drop)]
+#[derive(Drop)]
 pub struct Planned {
     pub caller: Caller,
     pub action: Action,

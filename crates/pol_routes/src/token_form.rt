@@ -12,7 +12,7 @@ use std::alloc::Global;
 pub(crate) const SCOPE_LIMIT: usize = 16;
 
 /// A token request whose fields stand as they must.
-#[derive(Debug, Drop)]
+#[derive(Drop)]
 pub(crate) struct TokenForm {
     pub grant_type: Text,
     pub client_id: Text,
@@ -21,7 +21,7 @@ pub(crate) struct TokenForm {
 }
 
 /// The fields that a token request may have. Others are ignored.
-#[derive(Debug, Drop)]
+#[derive(Drop)]
 pub(crate) struct Fields {
     pub grant_type: Values,
     pub client_id: Values,

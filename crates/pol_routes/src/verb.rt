@@ -5,7 +5,7 @@ ghost use Rattle.pol_routes.specs.Verbs as spec;
 use pol_requests::{Endpoint, ObjectRequest};
 
 /// What a request does with an object, or with those below a path. A put and a delete write.
-#[derive(Clone, Copy, Debug, PartialEq, Eq)]
+#[derive(Clone, Copy, PartialEq, Eq)]
 pub enum Verb {
     /// To give its bytes.
     Get,

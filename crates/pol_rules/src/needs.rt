@@ -15,7 +15,7 @@ use pol_tokens::SessionRow;
 use pol_types::OutOfMemory;
 
 /// A privilege that an action needs, and what it needs it on.
-#[derive(Clone, Copy, Debug)]
+#[derive(Clone, Copy)]
 pub struct Need {
     pub privilege: Privilege,
     pub on: Securable,

@@ -1,4 +1,4 @@
-ghost use Rattle.std.specs.Prelude.{◌≡◌, ◌+◌, ◌<◌, ◌≤◌, ◌^◌, []};
+ghost use Rattle.std.specs.Prelude.{◌≡◌, ◌+◌, ◌<◌, ◌≤◌, ◌^◌, [], IfOk, Ok};
 ghost use Rattle.pol_rules.specs.Judged.{Sees};
 ghost use Rattle.pol_commands.specs.declared.reply.Refusal.TheVariants.{Limit};
 ghost use Rattle.pol_state.specs.Bounds.{above, bound_of};
@@ -9,7 +9,7 @@ ghost use Rattle.pol_rules.specs.declared.rules.Undone.TheVariants.{OutOfMemory 
 use pol_commands::{Answer, Command, Quantity, Refusal};
 use pol_content::Change;
 use pol_state::State;
-use pol_types::{Listed, OutOfMemory};
+use pol_types::{Listed, OutOfMemory, both};
 use std::alloc::{AllocError, AllocFailed, Global};
 
 /// What the charges of one run come to at most.
@@ -24,7 +24,7 @@ pub struct Asked<'a> {
 }
 
 /// Why a command isn't done.
-#[derive(Debug, Drop)]
+#[derive(Drop)]
 pub enum Undone {
     Refused(Refusal),
     OutOfMemory,
@@ -63,10 +63,24 @@ impl<T: Drop> From<AllocFailed<T>> for Undone {
 }
 
 /// What an action that is done answers and changes.
-#[derive(Debug, Drop)]
+#[derive(Drop)]
 pub struct Acted {
     pub answer: Answer,
     pub changes: Listed<Change>,
+}
+
+impl Acted {
+    /// What an action answers and what it changes, where memory sufficed for both.
+    pub fn of(
+        answer: Result<Answer, OutOfMemory>,
+        changes: Result<Listed<Change>, OutOfMemory>,
+    ) -> Result<Acted, OutOfMemory>
+        ensures answer { IfOk result (λ acted. answer ≡ Ok acted.answer) }
+        ensures changes { IfOk result (λ acted. changes ≡ Ok acted.changes) }
+    {
+        let (answer, changes) = both(answer, changes)?;
+        Ok(Acted { answer, changes })
+    }
 }
 
 /// The run has room for the charge.

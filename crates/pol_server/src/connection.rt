@@ -33,7 +33,7 @@ const TAKEN_BOUND: u64 = 1 << 40;
 const PIECE: usize = 16_384;
 
 /// Why no more bytes are taken from the source.
-#[derive(Clone, Copy, Debug, PartialEq, Eq)]
+#[derive(Clone, Copy, PartialEq, Eq)]
 pub(crate) enum Stop {
     AtEnd,
     Failed,
@@ -43,7 +43,7 @@ pub(crate) enum Stop {
 
 /// The bytes that were taken and belong to no message that was handled, the places of those that were, how many
 /// more bytes may be taken, whether the message at the front was told to go on, and why the source gives no more.
-#[derive(Debug, Drop)]
+#[derive(Drop)]
 pub(crate) struct Connection {
     pub buffer: BytesMut,
     pub places: Vec<Place>,

@@ -28,7 +28,7 @@ use pol_shared_objects::{Shared, Stepped};
 use std::alloc::Global;
 
 /// How a message was answered: its place in the history, and the bytes of its answer, unless memory was wanting.
-#[derive(Debug, Drop)]
+#[derive(Drop)]
 pub(crate) struct Handled {
     pub place: Place,
     pub text: Option<Vec<u8>>,

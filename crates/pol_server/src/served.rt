@@ -1,7 +1,7 @@
 use pol_types::Listed;
 
 /// How a link ended.
-#[derive(Clone, Copy, Debug, PartialEq, Eq)]
+#[derive(Clone, Copy, PartialEq, Eq)]
 pub enum Ending {
     /// At the end of its input, between two messages.
     Ended,
@@ -20,7 +20,7 @@ pub enum Ending {
 }
 
 /// Where a request stands in the histories. Places are counted from 0.
-#[derive(Clone, Copy, Debug, PartialEq, Eq)]
+#[derive(Clone, Copy, PartialEq, Eq)]
 pub enum Place {
     /// At this place of the catalogue's history.
     Catalogue(u64),
@@ -31,7 +31,7 @@ pub enum Place {
 }
 
 /// How a link was served: its ending, and the place of each request that was handled, in order.
-#[derive(Debug, Drop)]
+#[derive(Drop)]
 pub struct Served {
     pub ending: Ending,
     pub places: Listed<Place>,

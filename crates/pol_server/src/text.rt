@@ -21,7 +21,7 @@ const UNAVAILABLE: &str = "ServiceUnavailableException";
 
 /// What the text of an answer takes from its request: whether the connection ends after it, and whether the
 /// request was HEAD.
-#[derive(Clone, Copy, Debug)]
+#[derive(Clone, Copy)]
 pub(crate) struct Framing {
     pub close: bool,
     pub head_only: bool,

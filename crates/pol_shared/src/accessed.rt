@@ -1,7 +1,7 @@
 use crate::{Permit, Stepped};
 
 /// What came of asking for an access.
-#[derive(Debug, Drop)]
+#[derive(Drop)]
 pub enum Accessed<T> {
     /// It was allowed. The permit tells the place of the access in the history.
     Allowed { permit: Permit },

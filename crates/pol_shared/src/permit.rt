@@ -6,7 +6,7 @@ use std::marker::Model;
 
 /// Leave to do this with the object at a path, or with those below it, which the access at this place of the
 /// catalogue's history gave. It is made by `Shared::access` alone, and serves once.
-#[derive(Debug, Drop)]
+#[derive(Drop)]
 pub struct Permit {
     place: u64,
     path: Location,

@@ -3,7 +3,6 @@ ghost use Rattle.std.specs.Arc.{arc_value};
 
 use pol_types::{Bytes, OutOfMemory};
 use std::alloc::{AllocError, Global};
-use std::fmt;
 use std::marker::Model;
 use std::sync::Arc;
 
@@ -76,12 +75,5 @@ impl Clone for SharedBytes {
             bytes: Arc::try_clone(&self.bytes)?,
             start: self.start,
         })
-    }
-}
-
-/// Prints that they are bytes, and not the bytes, which may be many.
-impl fmt::Debug for SharedBytes {
-    fn fmt<W: fmt::Write>(&self, f: &mut fmt::Formatter<W>) -> fmt::Result {
-        f.write_str("SharedBytes")
     }
 }

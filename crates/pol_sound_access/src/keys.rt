@@ -11,7 +11,7 @@ use pol_types::{Exact, OutOfMemory, Text};
 use std::alloc::Global;
 
 /// A name, and the id of what it is a name in; 0 for names of the realm.
-#[derive(Clone, Debug, Drop, PartialEq, Eq, Hash)]
+#[derive(Clone, Drop, PartialEq, Eq, Hash)]
 pub(crate) struct NameKey {
     pub within: u64,
     pub name: Text,
@@ -30,7 +30,7 @@ impl Fact for NameKey {
 }
 
 /// The client id of a principal.
-#[derive(Clone, Debug, Drop, PartialEq, Eq, Hash)]
+#[derive(Clone, Drop, PartialEq, Eq, Hash)]
 pub(crate) struct ClientKey {
     pub client_id: Text,
 }

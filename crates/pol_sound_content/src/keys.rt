@@ -12,7 +12,7 @@ use pol_types::{Exact, OutOfMemory, Text};
 use std::alloc::Global;
 
 /// A name, and the id of what it is a name in; 0 for names of the realm.
-#[derive(Clone, Debug, Drop, PartialEq, Eq, Hash)]
+#[derive(Clone, Drop, PartialEq, Eq, Hash)]
 pub(crate) struct PartKey {
     pub within: u64,
     pub name: Text,
@@ -31,7 +31,7 @@ impl Fact for PartKey {
 }
 
 /// The levels of a namespace, and its catalogue's id.
-#[derive(Clone, Debug, Drop, PartialEq, Eq, Hash)]
+#[derive(Clone, Drop, PartialEq, Eq, Hash)]
 pub(crate) struct LevelsKey {
     pub catalog: u64,
     pub levels: Namespace,

@@ -25,7 +25,7 @@ const FRESH_ROWS: AccessRoom = AccessRoom {
 
 /// The state of a catalogue. Contracts see its rows with the counters beside them, and the room: how many more rows
 /// can be put without taking memory.
-#[derive(Debug, Drop)]
+#[derive(Drop)]
 pub struct State {
     access: Access,
     content: Content,

@@ -8,6 +8,7 @@ use Rattle.uuid.specs.declared.Version.TheVariants as version
 use Rattle.pol_access.specs.declared.privilege.Privilege.TheVariants.{TableCreate}
 use Rattle.pol_commands.specs.declared.command.Command.{Command}
 use Rattle.pol_commands.specs.declared.create_table.CreateTable.{CreateTable}
+use Rattle.pol_commands.specs.declared.reply.Refusal.{Refusal}
 use Rattle.pol_content.specs.Content.{catalog_named, namespace_named, part_named}
 use Rattle.pol_content.specs.declared.rows.CatalogRow.{CatalogRow}
 use Rattle.pol_content.specs.declared.rows.NamespaceRow.{NamespaceRow}
@@ -59,6 +60,13 @@ new_table s command name levels request =
 -- the rows with one more table, which takes the next id
 abbrev pub with_table : Rows → TableRow → Rows
 with_table s row = record s { content = record s.content { tables = rows_with table_id row s.content.tables }; next_id = s.next_id + 1 }
+
+-- the rules on where a new table of a catalogue is to lie, and on what else is asked for with it
+abbrev pub location_rules : Rows → List (List ℕ) → CreateTable → CatalogRow → List (Option Refusal)
+location_rules s levels request catalog =
+    let location = location_asked levels request.location request.name catalog in
+    bad_location levels request.location request.name catalog ∷ location_outside location catalog ∷ location_overlap s location
+    ∷ staged request.stage_create ∷ other_format request.properties ∷ []
 
 -- creating a table
 abbrev pub create_table : Rows → Command → List ℕ → List (List ℕ) → CreateTable → Acting

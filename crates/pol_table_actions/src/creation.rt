@@ -1,15 +1,18 @@
 ghost use Rattle.std.specs.Prelude.{◌≡◌, ◌≤◌, ◌^◌, [], false, IfOk};
+ghost use Rattle.pol_locations.specs.Location.{location_text};
 ghost use Rattle.pol_properties.specs.Properties.{without_key};
 ghost use Rattle.pol_rules.specs.Judged.{Acts, Judges, changes_to};
-ghost use Rattle.pol_rules.specs.TableRules.{bad_creation, format_key};
+ghost use Rattle.pol_rules.specs.TableRules.{bad_creation, format_key, location_asked};
+ghost use Rattle.pol_state.specs.Bounds.{first_refusal};
 ghost use Rattle.pol_state.specs.Sound.{IsSound};
-ghost use Rattle.pol_table_actions.specs.Creation.{create_table, metadata_at, table_placed, uuid_of, with_table};
+ghost use Rattle.pol_table_actions.specs.Creation.{create_table, location_rules, metadata_at, table_placed, uuid_of, with_table};
 ghost use Rattle.pol_table_actions.specs.Loading.{loaded};
 
+use crate::copying::{copied, copies};
 use crate::loading::loaded;
 use pol_access::Privilege;
 use pol_commands::{CreateTable, Refusal, Words4};
-use pol_content::{Handle, NamespaceRow, TableRow};
+use pol_content::{CatalogRow, Change, Handle, NamespaceRow, TableRow};
 use pol_locations::Location;
 use pol_meta::{CreateRefused, TableMetadata};
 use pol_names::{Namespace, Plain};
@@ -24,7 +27,8 @@ use pol_rules::rules::{Acted, Asked, Undone, time_of};
 use pol_rules::table_rules::{
     FORMAT_VERSION, format_served, inside_catalog, location_free, name_free, placed, unstaged,
 };
-use pol_types::{OutOfMemory, Text};
+use pol_types::{Listed, OutOfMemory, Text, both};
+use std::alloc::Global;
 use uuid::{Builder, Uuid};
 
 /// Creates a table.
@@ -44,6 +48,23 @@ pub fn create_table(
     let namespace = namespace_there(asked, catalog.id, levels)?;
     name_free(asked, namespace, &request.name)?;
     let metadata = described(asked, request)?;
+    let location = location_judged(asked, catalog, levels, request)?;
+    let row = table_placed(asked, namespace, request, metadata, location)?;
+    Ok(created(asked, row)?)
+}
+
+/// The location of a new table, against which no rule stands. What else the request asks for is served.
+fn location_judged(
+    asked: &Asked<'_>,
+    catalog: &CatalogRow,
+    levels: &Namespace,
+    request: &CreateTable,
+) -> Result<Location, Undone>
+    requires { IsSound asked.now.state.now.rows }
+    ensures { let rules = location_rules asked.now.state.now.rows levels.now request.now catalog.now in
+        Judges (first_refusal rules) (λ location. location
+        ≡ location_asked levels.now request.now.location request.now.name catalog.now) result }
+{
     let location = placed(
         asked.alloc,
         catalog,
@@ -55,8 +76,7 @@ pub fn create_table(
     location_free(asked, &location)?;
     unstaged(request.stage_create)?;
     format_served(&request.properties)?;
-    let row = table_placed(asked, namespace, request, metadata, location)?;
-    Ok(created(asked, row)?)
+    Ok(location)
 }
 
 /// The metadata of a new table, which has no location yet: that is judged after what the table is made of.
@@ -65,14 +85,21 @@ pub fn described(asked: &Asked<'_>, request: &CreateTable) -> Result<TableMetada
     ensures { Judges (bad_creation request.now) (λ metadata.
         metadata ≡ metadata_at asked.now.state.now.rows asked.now.command.now request.now []) result }
 {
+    let ((schema, spec), (order, properties)) = both(
+        copies(&request.schema, &request.partition_spec),
+        both(
+            copied(&request.write_order),
+            properties_of(&request.properties),
+        ),
+    )?;
     let made = TableMetadata::create(
         asked.alloc,
         uuid_of(&asked.command.words),
         "",
-        request.schema.clone()?,
-        request.partition_spec.clone()?,
-        request.write_order.clone()?,
-        properties_of(&request.properties)?,
+        schema,
+        spec,
+        order,
+        properties,
         time_of(asked),
     );
     match made {
@@ -110,27 +137,40 @@ pub fn table_placed(
     asked: &Asked<'_>,
     namespace: &NamespaceRow,
     request: &CreateTable,
-    mut metadata: TableMetadata,
+    metadata: TableMetadata,
     location: Location,
 ) -> Result<TableRow, OutOfMemory>
     requires { metadata ≡ metadata_at asked.now.state.now.rows asked.now.command.now request.now [] }
     ensures { IfOk result (λ row. row
         ≡ table_placed asked.now.state.now.rows asked.now.command.now request.now location namespace.now) }
 {
-    metadata.location = Text::from(location.text(asked.alloc)?);
+    let (metadata, name) = both(Ok(metadata), copied(&request.name))?;
+    let metadata = metadata_placed(asked.alloc, metadata, &location)?;
     Ok(TableRow {
         id: asked.state.next_id(),
         namespace: namespace.id,
-        name: request.name.clone()?,
+        name,
         version: 0,
         moves: 0,
         location,
-        metadata: Handle::new(asked.alloc, metadata)?,
+        metadata,
     })
 }
 
+/// The metadata of a table that lies at a location.
+fn metadata_placed(
+    alloc: Global,
+    metadata: TableMetadata,
+    location: &Location,
+) -> Result<Handle<TableMetadata>, OutOfMemory>
+    ensures { IfOk result (λ handle. handle ≡ record metadata { location = location_text location.now }) }
+{
+    let (mut metadata, text) = both(Ok(metadata), location.text(alloc))?;
+    metadata.location = Text::from(text);
+    Handle::new(alloc, metadata)
+}
+
 /// The table is put, and an id is taken.
-#[tactic(auto, using(crate::proofs::ChangesLemmas::table_changes))]
 fn created(asked: &Asked<'_>, row: TableRow) -> Result<Acted, OutOfMemory>
     requires sound { IsSound asked.now.state.now.rows }
     requires within { asked.now.state.now.rows.next_id ≤ 2 ^ 62 }
@@ -138,7 +178,17 @@ fn created(asked: &Asked<'_>, row: TableRow) -> Result<Acted, OutOfMemory>
     ensures answer { IfOk result (λ acted. acted.answer ≡ loaded false row) }
     ensures changes { IfOk result (λ acted. acted.changes ≡ changes_to asked.now (λ s. with_table s row)) }
 {
-    let answer = loaded(asked.alloc, &row, false)?;
-    let changes = under_next_id(asked, put_table(asked.alloc, row)?)?;
-    Ok(Acted { answer, changes })
+    let answer = loaded(asked.alloc, &row, false);
+    Acted::of(answer, row_changes(asked, row))
+}
+
+/// The changes that put the table under the next id.
+#[tactic(auto, using(crate::proofs::ChangesLemmas::table_changes))]
+fn row_changes(asked: &Asked<'_>, row: TableRow) -> Result<Listed<Change>, OutOfMemory>
+    requires sound { IsSound asked.now.state.now.rows }
+    requires within { asked.now.state.now.rows.next_id ≤ 2 ^ 62 }
+    requires next { row.id ≡ asked.now.state.now.rows.next_id }
+    ensures { IfOk result (λ changes. changes ≡ changes_to asked.now (λ s. with_table s row)) }
+{
+    under_next_id(asked, put_table(asked.alloc, row)?)
 }

@@ -1,6 +1,7 @@
 //! Actions on tables.
 #![tactic(auto)]
 
+pub mod copying;
 pub mod creation;
 pub mod loading;
 pub mod tables;

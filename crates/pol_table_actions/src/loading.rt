@@ -12,7 +12,7 @@ use pol_names::{Identifier, Plain};
 use pol_rules::prologues::at_table;
 use pol_rules::rules::{Acted, Asked, Undone, unchanged};
 use pol_tokens::TokenRow;
-use pol_types::{Listed, OutOfMemory, Text};
+use pol_types::{Listed, OutOfMemory, Text, both};
 use std::alloc::Global;
 
 /// Shows a table, with all its snapshots or with those alone that its references name.
@@ -48,8 +48,10 @@ pub fn loaded_with(
 ) -> Result<Answer, OutOfMemory>
     ensures { IfOk result (λ answer. answer ≡ loaded_with refs_only token row.now) }
 {
-    let metadata_location = metadata_location(alloc, row)?;
-    let metadata = metadata_shown(alloc, &row.metadata, refs_only)?;
+    let (metadata_location, metadata) = both(
+        metadata_location(alloc, row),
+        metadata_shown(alloc, &row.metadata, refs_only),
+    )?;
     Ok(Answer::TableLoaded {
         metadata_location,
         metadata,

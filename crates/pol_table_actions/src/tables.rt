@@ -6,6 +6,7 @@ ghost use Rattle.pol_tables.specs.Table.{row_of};
 ghost use Rattle.pol_table_actions.specs.Tables.{drop_table, head_table, identifier_in, list_tables, listed, report_metrics, without_table};
 ghost use Rattle.pol_table_rows.specs.Tables.{table_id};
 
+use crate::copying::copies;
 use pol_access::{Privilege, Referent, Securable};
 use pol_commands::Answer;
 use pol_content::{Change, NamespaceRow, TableRow};
@@ -36,6 +37,7 @@ fn listed(asked: &Asked<'_>, row: &NamespaceRow) -> Result<Listed<Identifier>, O
     identifiers_of(asked.alloc, &row.levels, tables.as_slice())
 }
 
+/// The identifiers of tables in the namespace of these levels.
 fn identifiers_of(
     alloc: Global,
     levels: &Namespace,
@@ -46,12 +48,17 @@ fn identifiers_of(
 {
     let mut identifiers = Vec::new(alloc);
     for table in tables {
-        identifiers.push(Identifier {
-            namespace: levels.clone()?,
-            name: table.name.clone()?,
-        })?;
+        identifiers.push(identifier_in(levels, table)?)?;
     }
     Ok(Listed::from(identifiers))
+}
+
+/// The identifier of a table in the namespace of these levels.
+fn identifier_in(levels: &Namespace, table: &TableRow) -> Result<Identifier, OutOfMemory>
+    ensures { IfOk result (λ identifier. identifier ≡ identifier_in levels.now table.now.name) }
+{
+    let (namespace, name) = copies(levels, &table.name)?;
+    Ok(Identifier { namespace, name })
 }
 
 /// Tells whether a table is there.

@@ -3,7 +3,6 @@ ghost use Rattle.std.specs.Arc.{arc_value};
 
 use pol_types::{Exact, OutOfMemory};
 use std::alloc::{AllocError, Global};
-use std::fmt;
 use std::marker::Model;
 use std::sync::Arc;
 
@@ -67,11 +66,4 @@ impl<T: Exact + Drop> Exact for Handle<T> {
     ghost clones_exactly = { λ source clone same. same };
 
     ghost compares_exactly = { T.compares_exactly };
-}
-
-/// Prints that it is a handle, and not its value, which may be large.
-impl<T> fmt::Debug for Handle<T> {
-    fn fmt<W: fmt::Write>(&self, f: &mut fmt::Formatter<W>) -> fmt::Result {
-        f.write_str("Handle")
-    }
 }

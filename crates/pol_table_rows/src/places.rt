@@ -11,7 +11,7 @@ use std::marker::Model;
 /// Locations with their owners, of which each has one. Those of a sound state don't overlap, and stand in a set. In the
 /// middle of a list of changes two may, and then the later one stands beside the set. Contracts see all of them, in no
 /// promised order, and the room: how many more can be put without taking memory.
-#[derive(Debug, Drop)]
+#[derive(Drop)]
 pub struct Places {
     set: LocationSet,
     beside: Vec<Member>,

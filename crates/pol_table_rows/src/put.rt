@@ -7,7 +7,7 @@ use std::marker::Model;
 
 /// A row of a table that is to be put, with its location once more: the table of rows takes the one, and the set of all
 /// locations the other, and neither takes memory then. Contracts see the row.
-#[derive(Debug, Drop)]
+#[derive(Drop)]
 pub struct TablePut {
     row: TableRow,
     place: Location,

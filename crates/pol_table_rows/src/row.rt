@@ -9,7 +9,7 @@ use std::cmp::Ordering;
 
 /// A table of a namespace: its name, how many commits with an update it has seen and how many of these moved it, its
 /// location, and its metadata, which the row shares with whoever reads it.
-#[derive(Clone, Debug, Drop, PartialEq, Eq)]
+#[derive(Clone, Drop, PartialEq, Eq)]
 pub struct TableRow {
     pub id: u64,
     pub namespace: u64,
@@ -82,7 +82,7 @@ impl Sortable for TableRow {
 }
 
 /// What a table is sought by: its namespace's id and its name in it.
-#[derive(Clone, Copy, Debug)]
+#[derive(Clone, Copy)]
 pub struct TableName<'a> {
     pub namespace: u64,
     pub name: &'a Name,

@@ -15,7 +15,7 @@ use std::marker::Model;
 
 /// Tables, each found by its id and by its namespace and name, with the locations of all of them. Contracts see the
 /// rows, and the room: how many more can be put without taking memory.
-#[derive(Debug, Drop)]
+#[derive(Drop)]
 pub struct Tables {
     rows: GroupedTable<TableRow>,
     places: Places,

@@ -13,7 +13,7 @@ use std::slice;
 
 /// Facts, each of which stands once, in the order in which they were put. Contracts see them, and the room: how many
 /// more facts can be put without taking memory.
-#[derive(Debug, Drop)]
+#[derive(Drop)]
 pub struct Facts<T: Fact> {
     set: IndexSet<T>,
 }

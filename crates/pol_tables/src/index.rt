@@ -12,7 +12,7 @@ use std::alloc::{AllocError, Global};
 use std::marker::Model;
 
 /// An id under the number of a name.
-#[derive(Clone, Debug, Drop, PartialEq, Eq, Hash)]
+#[derive(Clone, Drop, PartialEq, Eq, Hash)]
 pub struct IndexEntry {
     pub number: u64,
     pub id: u64,
@@ -34,7 +34,7 @@ impl Fact for IndexEntry {
 /// The first id of each number is found by it, and the order of these means nothing. The others, of which numbers of
 /// hashed names leave few, are listed. Contracts see both, and the room: how many more ids can be noted without taking
 /// memory.
-#[derive(Debug, Drop)]
+#[derive(Drop)]
 pub struct Index {
     firsts: IndexMap<u64, IndexEntry>,
     others: Facts<IndexEntry>,

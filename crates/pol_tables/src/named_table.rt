@@ -12,7 +12,7 @@ use std::marker::Model;
 
 /// Rows in the order in which their ids came, each found by its id and by its name without a scan. Contracts see the
 /// rows, and the room: how many more rows can be put without taking memory.
-#[derive(Debug, Drop)]
+#[derive(Drop)]
 pub struct NamedTable<R: Named> {
     table: Table<R>,
     index: Index,

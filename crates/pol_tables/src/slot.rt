@@ -4,7 +4,7 @@ ghost use Rattle.pol_tables.specs.Slots.{has_row, row_in, slot_key};
 use crate::Keyed;
 
 /// A place of a table: a row, or the id of one that was taken.
-#[derive(Clone, Debug, Drop)]
+#[derive(Clone, Drop)]
 pub(crate) enum Slot<R> {
     Kept(R),
     Gone(u64),

@@ -18,7 +18,7 @@ const FEW: usize = 32;
 /// counter gives out, and else by a scan. To take a row away moves no other, for its place stays until more than half
 /// of all places are such: then these are swept out. Contracts see the rows, and the room: how many more rows can be
 /// put without taking memory.
-#[derive(Debug, Drop)]
+#[derive(Drop)]
 pub struct Table<R: Keyed> {
     slots: Vec<Slot<R>>,
     gone: usize,

@@ -14,7 +14,7 @@ use std::marker::Model;
 /// Facts, each of which stands once, in the order in which they were put, and a tally of the groups to which they
 /// belong. Each is a row under a number of its own, found by its hash, and to take it moves no other. Contracts see
 /// them, and the room: how many more facts can be put without taking memory.
-#[derive(Debug, Drop)]
+#[derive(Drop)]
 pub struct GroupedFacts<T: Fact + Grouped> {
     table: GroupedTable<NumberedFact<T>>,
     /// The number of the next new fact.

@@ -15,7 +15,7 @@ use std::marker::Model;
 /// Rows that are found by their ids and by their names, and a tally of the groups to which they belong, so that whether
 /// a group has a row is known without a scan. Contracts see the rows, and the room: how many more rows can be put
 /// without taking memory.
-#[derive(Debug, Drop)]
+#[derive(Drop)]
 pub struct GroupedTable<R: Named + Grouped> {
     table: NamedTable<R>,
     tally: Tally,

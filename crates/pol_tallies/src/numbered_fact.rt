@@ -3,7 +3,7 @@ use pol_tables::{Fact, Keyed, NameOf, Named, number_of};
 use pol_types::Exact;
 
 /// A fact as a row, under the number at which it was put. It is sought by the fact.
-#[derive(Clone, Debug, Drop, PartialEq, Eq)]
+#[derive(Clone, Drop, PartialEq, Eq)]
 pub(crate) struct NumberedFact<T> {
     pub(crate) number: u64,
     pub(crate) fact: T,

@@ -8,7 +8,7 @@ use std::marker::Model;
 
 /// How often each number was noted, less how often it was forgotten. Contracts see the counts, and the room: how many
 /// more times a number can be noted without taking memory.
-#[derive(Debug, Drop)]
+#[derive(Drop)]
 pub struct Tally {
     counts: IndexMap<u64, u128>,
 }

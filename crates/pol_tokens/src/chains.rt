@@ -9,7 +9,7 @@ use std::alloc::{AllocError, Global};
 use std::marker::Model;
 
 /// The place after a holder's last row, counted from 0.
-#[derive(Clone, Debug, Drop, PartialEq, Eq)]
+#[derive(Clone, Drop, PartialEq, Eq)]
 pub(crate) struct Latest {
     pub holder: u64,
     pub place: u64,
@@ -32,7 +32,7 @@ impl Keyed for Latest {
 /// The chains in which the rows of each holder stand, the last one first: for each row the place after the one of its
 /// holder before it, and for each holder that of its last row. It is 0 where there is none. Contracts see both, and the
 /// room: how many more rows can be linked without taking memory.
-#[derive(Debug, Drop)]
+#[derive(Drop)]
 pub(crate) struct Chains {
     links: Vec<u64>,
     latest: Table<Latest>,

@@ -14,7 +14,7 @@ use std::marker::Model;
 /// Rows that principals have until they expire, in the order in which they were put, each found by its serial. Those of
 /// one principal are counted without a look at the others. A row is never replaced, and never taken away. Contracts see
 /// the rows, and the room: how many more can be put without taking memory.
-#[derive(Debug, Drop)]
+#[derive(Drop)]
 pub(crate) struct HeldTable<R: Held> {
     table: Table<R>,
     chains: Chains,

@@ -12,7 +12,7 @@ pub const SESSION_LIFE: u64 = 3_600_000;
 
 /// A session that was opened: its serial and its two random words, which make the text of its token, the id of its
 /// principal, the principal roles that it acts with, and the moment at which it expires, in milliseconds.
-#[derive(Clone, Debug, Drop, PartialEq, Eq)]
+#[derive(Clone, Drop, PartialEq, Eq)]
 pub struct SessionRow {
     pub serial: u64,
     pub word_a: u64,

@@ -16,7 +16,7 @@ pub const TOKEN_LIFE: u64 = 900_000;
 /// A storage token that was issued: its serial and its two random words, which make its text, the id of the principal
 /// that asked for it, its table, with how many moves this had seen and where it lay, whether it opens for writing, and
 /// the moment at which it expires, in milliseconds.
-#[derive(Clone, Debug, Drop, PartialEq, Eq)]
+#[derive(Clone, Drop, PartialEq, Eq)]
 pub struct TokenRow {
     pub serial: u64,
     pub word_a: u64,
@@ -66,7 +66,7 @@ impl Held for TokenRow {
 }
 
 /// The serial and the two random words that make the text of a token.
-#[derive(Clone, Copy, Debug)]
+#[derive(Clone, Copy)]
 pub struct Words {
     pub serial: u64,
     pub word_a: u64,
@@ -74,14 +74,14 @@ pub struct Words {
 }
 
 /// What is done with an object: reading it or listing, or writing or deleting it.
-#[derive(Clone, Copy, Debug, PartialEq, Eq)]
+#[derive(Clone, Copy, PartialEq, Eq)]
 pub enum Act {
     Read,
     Write,
 }
 
 /// Why a token doesn't open a path.
-#[derive(Clone, Copy, Debug, PartialEq, Eq)]
+#[derive(Clone, Copy, PartialEq, Eq)]
 pub enum TokenRefused {
     NotCovered,
     NotWritable,

@@ -13,7 +13,7 @@ use std::marker::Model;
 /// The sessions that were opened and the storage tokens that were issued, each kind in the order of their serials'
 /// coming and each row found by its serial. Contracts see the rows, and the room: how many more can be put without
 /// taking memory.
-#[derive(Debug, Drop)]
+#[derive(Drop)]
 pub struct Tokens {
     sessions: HeldTable<SessionRow>,
     tokens: HeldTable<TokenRow>,

@@ -14,7 +14,7 @@ use std::marker::Model;
 
 /// Bytes of any kind, which contracts see as the list of them. They are made from a `Vec` and give it back
 /// without taking memory. They compare byte by byte, a proper prefix first.
-#[derive(Debug, Drop)]
+#[derive(Drop)]
 pub struct Bytes {
     bytes: Vec<u8>,
 }

@@ -11,5 +11,5 @@ mod text;
 pub use bytes::Bytes;
 pub use exact::Exact;
 pub use listed::Listed;
-pub use out_of_memory::OutOfMemory;
+pub use out_of_memory::{OutOfMemory, both};
 pub use text::Text;

@@ -15,7 +15,7 @@ use std::slice;
 
 /// A list of values of one type, which contracts see as the list of them. It is made from a `Vec` and gives it
 /// back without taking memory. Lists compare item by item, a proper prefix first.
-#[derive(Debug, Drop)]
+#[derive(Drop)]
 pub struct Listed<T> {
     items: Vec<T>,
 }

@@ -1,4 +1,4 @@
-ghost use Rattle.std.specs.Prelude.{Some, codes};
+ghost use Rattle.std.specs.Prelude.{◌≡◌, IfOk, Ok, Some, codes};
 
 use std::alloc::{AllocError, AllocFailed};
 use std::error::Error;
@@ -28,4 +28,20 @@ impl<T: Drop> From<AllocFailed<T>> for OutOfMemory {
     fn from(_error: AllocFailed<T>) -> Self {
         OutOfMemory
     }
+}
+
+/// Both values, where memory sufficed for each.
+///
+/// A caller that holds the first while it asks for the second has to take the first away on each way out; here that is
+/// said once for all types.
+pub fn both<A: Drop, B: Drop>(
+    first: Result<A, OutOfMemory>,
+    second: Result<B, OutOfMemory>,
+) -> Result<(A, B), OutOfMemory>
+    ensures first { IfOk result (λ both. first ≡ Ok both.0) }
+    ensures second { IfOk result (λ both. second ≡ Ok both.1) }
+{
+    let first = first?;
+    let second = second?;
+    Ok((first, second))
 }

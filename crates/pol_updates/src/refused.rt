@@ -6,7 +6,7 @@ use std::alloc::AllocError;
 
 /// Why a list of updates makes no metadata: the first update that is refused, by its place from 0, and its first
 /// reason.
-#[derive(Clone, Copy, Debug, PartialEq, Eq)]
+#[derive(Clone, Copy, PartialEq, Eq)]
 pub enum ApplyRefused {
     Refused { index: usize, why: Why },
     OutOfMemory,

@@ -69,7 +69,7 @@ pub enum Update {
 }
 
 /// The updates of the standard that aren't served.
-#[derive(Clone, Copy, Debug, PartialEq, Eq)]
+#[derive(Clone, Copy, PartialEq, Eq)]
 pub enum LeftOut {
     SetStatistics,
     RemoveStatistics,

@@ -2,7 +2,7 @@
 use pol_types::Text;
 
 /// Where what came differs from what is wanted. The texts are as they are shown.
-#[derive(Debug, Drop)]
+#[derive(Drop)]
 pub struct Difference {
     /// The line of the part that differs.
     pub line: usize,

@@ -9,7 +9,7 @@ ghost use Rattle.pol_view_actions.specs.Views.{loaded};
 use crate::views::loaded;
 use pol_access::Privilege;
 use pol_commands::CreateView;
-use pol_content::{Handle, NamespaceRow, ViewRow};
+use pol_content::{Change, Handle, NamespaceRow, ViewRow};
 use pol_locations::Location;
 use pol_names::{Namespace, Plain};
 use pol_puts::put_view;
@@ -20,8 +20,9 @@ use pol_rules::namespace_rules::namespace_there;
 use pol_rules::needs::allowed_on_path;
 use pol_rules::rules::{Acted, Asked, Undone, time_of};
 use pol_rules::table_rules::{inside_catalog, name_free, placed};
+use pol_table_actions::copying::copied;
 use pol_table_actions::creation::uuid_of;
-use pol_types::OutOfMemory;
+use pol_types::{Listed, OutOfMemory, both};
 use pol_views::{UnboundVersion, ViewMetadata};
 
 /// Creates a view (Iceberg REST OpenAPI, createView).
@@ -48,8 +49,26 @@ pub fn create_view(
         &request.name,
     )?;
     inside_catalog(catalog, &location)?;
-    let row = view_placed(asked, namespace, request, &location)?;
-    Ok(created(asked, row)?)
+    Ok(created(asked, namespace, request, &location)?)
+}
+
+/// The view is put at a location, and an id is taken.
+fn created(
+    asked: &Asked<'_>,
+    namespace: &NamespaceRow,
+    request: &CreateView,
+    location: &Location,
+) -> Result<Acted, OutOfMemory>
+    requires sound { IsSound asked.now.state.now.rows }
+    requires within { asked.now.state.now.rows.next_id ≤ 2 ^ 62 }
+    ensures answer { let s = asked.now.state.now.rows in IfOk result (λ acted. acted.answer
+        ≡ loaded (view_placed s asked.now.command.now request.now location.now namespace.now)) }
+    ensures changes { let s = asked.now.state.now.rows in
+        let row = view_placed s asked.now.command.now request.now location.now namespace.now in
+        IfOk result (λ acted. acted.changes ≡ changes_to asked.now (λ s. with_view s row)) }
+{
+    let row = view_placed(asked, namespace, request, location)?;
+    Acted::of(loaded(asked.alloc, &row), row_changes(asked, row))
 }
 
 /// The row of a new view at a location, under the next id.
@@ -62,13 +81,13 @@ fn view_placed(
     ensures { IfOk result (λ row. row
         ≡ view_placed asked.now.state.now.rows asked.now.command.now request.now location.now namespace.now) }
 {
-    let metadata = metadata_at(asked, request, location)?;
+    let (name, metadata) = both(copied(&request.name), metadata_at(asked, request, location))?;
     Ok(ViewRow {
         id: asked.state.next_id(),
         namespace: namespace.id,
-        name: request.name.clone()?,
+        name,
         version: 0,
-        metadata: Handle::new(asked.alloc, metadata)?,
+        metadata,
     })
 }
 
@@ -78,46 +97,58 @@ fn metadata_at(
     asked: &Asked<'_>,
     request: &CreateView,
     location: &Location,
-) -> Result<ViewMetadata, OutOfMemory>
+) -> Result<Handle<ViewMetadata>, OutOfMemory>
     ensures { IfOk result (λ metadata. metadata
         ≡ metadata_at asked.now.state.now.rows asked.now.command.now request.now (location_text location.now)) }
 {
     let text = location.text(asked.alloc)?;
-    ViewMetadata::create(
+    let shape = both(
+        copied(&request.schema),
+        copied_version(&request.view_version),
+    );
+    let ((schema, version), properties) = both(shape, copied(&request.properties))?;
+    let metadata = ViewMetadata::create(
         asked.alloc,
         uuid_of(&asked.command.words),
         text.as_str(),
-        request.schema.clone()?,
-        copied(&request.view_version)?,
-        request.properties.clone()?,
+        schema,
+        version,
+        properties,
         time_of(asked),
-    )
+    )?;
+    Handle::new(asked.alloc, metadata)
 }
 
 /// An equal version.
-fn copied(version: &UnboundVersion) -> Result<UnboundVersion, OutOfMemory>
+fn copied_version(version: &UnboundVersion) -> Result<UnboundVersion, OutOfMemory>
     ensures { IfOk result (λ copy. copy ≡ version.now) }
 {
+    let content = both(copied(&version.summary), copied(&version.representations));
+    let defaults = both(
+        copied(&version.default_catalog),
+        copied(&version.default_namespace),
+    );
+    let ((summary, representations), (default_catalog, default_namespace)) = both(
+        content, defaults,
+    )?;
     Ok(UnboundVersion {
         timestamp_ms: version.timestamp_ms,
         schema_id: version.schema_id,
-        summary: version.summary.clone()?,
-        representations: version.representations.clone()?,
-        default_catalog: version.default_catalog.clone()?,
-        default_namespace: version.default_namespace.clone()?,
+        summary,
+        representations,
+        default_catalog,
+        default_namespace,
     })
 }
 
-/// The view is put, and an id is taken.
+/// The changes that put the view under the next id.
 #[tactic(auto, using(crate::proofs::ChangesLemmas::view_changes))]
-fn created(asked: &Asked<'_>, row: ViewRow) -> Result<Acted, OutOfMemory>
+fn row_changes(asked: &Asked<'_>, row: ViewRow) -> Result<Listed<Change>, OutOfMemory>
     requires sound { IsSound asked.now.state.now.rows }
     requires within { asked.now.state.now.rows.next_id ≤ 2 ^ 62 }
     requires next { row.id ≡ asked.now.state.now.rows.next_id }
-    ensures answer { IfOk result (λ acted. acted.answer ≡ loaded row) }
-    ensures changes { IfOk result (λ acted. acted.changes ≡ changes_to asked.now (λ s. with_view s row)) }
+    ensures { IfOk result (λ changes. changes ≡ changes_to asked.now (λ s. with_view s row)) }
 {
-    let answer = loaded(asked.alloc, &row)?;
-    let changes = under_next_id(asked, put_view(asked.alloc, row)?)?;
-    Ok(Acted { answer, changes })
+    let put = put_view(asked.alloc, row)?;
+    under_next_id(asked, put)
 }

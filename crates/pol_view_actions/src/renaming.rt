@@ -23,7 +23,8 @@ use pol_rules::needs::{Need, allowed};
 use pol_rules::rules::{Acted, Asked, Undone};
 use pol_rules::table_rules::name_free;
 use pol_rules::view_rules::view_there;
-use pol_types::{Listed, OutOfMemory};
+use pol_table_actions::copying::copied;
+use pol_types::{Listed, OutOfMemory, both};
 
 /// Gives a view another name, in its namespace or another one of its catalogue (Iceberg REST OpenAPI, renameView).
 #[tactic(auto, unfolding(crate::specs::Renaming::renamed_view, pol_rules::specs::Prologues::view_row_at, pol_rules::specs::Prologues::namespace_row_at))]
@@ -88,12 +89,14 @@ fn renamed_changes(
     ensures { IfOk result (λ changes. changes
         ≡ changes_to asked.now (λ s. with_altered s (renamed name.now row.now namespace.now))) }
 {
+    let (name, metadata) = both(copied(name), copied(&row.metadata))?;
     let renamed = ViewRow {
         id: row.id,
         namespace: namespace.id,
-        name: name.clone()?,
+        name,
         version: row.version,
-        metadata: row.metadata.clone()?,
+        metadata,
     };
-    one_change(asked, put_view(asked.alloc, renamed)?)
+    let put = put_view(asked.alloc, renamed)?;
+    one_change(asked, put)
 }

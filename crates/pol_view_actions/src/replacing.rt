@@ -48,7 +48,7 @@ pub fn replace_view(asked: &Asked<'_>, name: &Plain, commit: &ViewCommit) -> Res
     let row = view_there(asked, catalog, &commit.identifier)?;
     requirements_met(row, commit)?;
     let made = made_of(asked, row, commit)?;
-    let moved = moved_to(asked.alloc, row, &made)?;
+    let moved = moved_to(asked.alloc, row, made.get())?;
     inside(catalog, &moved)?;
     all_served(commit.updates.as_slice())?;
     Ok(replaced(asked, row, commit, made)?)
@@ -69,16 +69,20 @@ fn requirements_met(row: &ViewRow, commit: &ViewCommit) -> Result<(), Refusal>
     }
 }
 
-/// The metadata of the view after its updates.
+/// The metadata of the view after its updates, in the handle by which its row is to have it.
 #[tactic(auto, unfolding(crate::specs::Replacing::bad_update))]
-fn made_of(asked: &Asked<'_>, row: &ViewRow, commit: &ViewCommit) -> Result<ViewMetadata, Undone>
+fn made_of(
+    asked: &Asked<'_>,
+    row: &ViewRow,
+    commit: &ViewCommit,
+) -> Result<Handle<ViewMetadata>, Undone>
     ensures { let time = time_of asked.now.state.now.rows asked.now.command.now in
         Judges (bad_update time commit.now row.now)
         (λ made. view_after row.now.metadata commit.now.updates time ≡ Ok made) result }
 {
     let updates = commit.updates.as_slice();
     match apply_view(asked.alloc, row.metadata.get(), updates, time_of(asked)) {
-        Ok(made) => Ok(made),
+        Ok(made) => Ok(Handle::new(asked.alloc, made)?),
         Err(ApplyViewRefused::Refused { index, why }) => {
             Err(Undone::Refused(Refusal::UpdateRefused {
                 table: 0,
@@ -147,7 +151,7 @@ fn replaced(
     asked: &Asked<'_>,
     row: &ViewRow,
     commit: &ViewCommit,
-    made: ViewMetadata,
+    made: Handle<ViewMetadata>,
 ) -> Result<Acted, OutOfMemory>
     requires sound { IsSound asked.now.state.now.rows }
     requires there { row_of view_id row.now.id asked.now.state.now.rows.content.views ≡ Some row.now }
@@ -157,18 +161,18 @@ fn replaced(
     ensures changes { IfOk result (λ acted. acted.changes
         ≡ changes_to asked.now (λ s. with_altered s (committed commit.now row.now made))) }
 {
-    let after = committed(asked.alloc, row, commit, made)?;
-    let answer = loaded(asked.alloc, &after)?;
-    let changes = replaced_changes(asked, row, commit, after)?;
-    Ok(Acted { answer, changes })
+    let after = committed(row, commit, made)?;
+    Acted::of(
+        loaded(asked.alloc, &after),
+        replaced_changes(asked, row, commit, after),
+    )
 }
 
 /// A view after a commit to it.
 fn committed(
-    alloc: Global,
     row: &ViewRow,
     commit: &ViewCommit,
-    made: ViewMetadata,
+    made: Handle<ViewMetadata>,
 ) -> Result<ViewRow, OutOfMemory>
     requires { row.now.version ≤ 2 ^ 62 }
     ensures { IfOk result (λ after. after ≡ committed commit.now row.now made) }
@@ -178,7 +182,7 @@ fn committed(
         namespace: row.namespace,
         name: row.name.clone()?,
         version: grown_if(!commit.updates.is_empty(), row.version),
-        metadata: Handle::new(alloc, made)?,
+        metadata: made,
     })
 }
 
@@ -208,5 +212,6 @@ fn replaced_changes(
     if commit.updates.is_empty() {
         return Ok(no_changes(asked.alloc));
     }
-    one_change(asked, put_view(asked.alloc, after)?)
+    let put = put_view(asked.alloc, after)?;
+    one_change(asked, put)
 }

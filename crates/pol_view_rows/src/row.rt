@@ -8,7 +8,7 @@ use std::cmp::Ordering;
 
 /// A view of a namespace: its name, how many commits with an update it has seen, and its metadata, which the row shares
 /// with whoever reads it.
-#[derive(Clone, Debug, Drop, PartialEq, Eq)]
+#[derive(Clone, Drop, PartialEq, Eq)]
 pub struct ViewRow {
     pub id: u64,
     pub namespace: u64,
@@ -79,7 +79,7 @@ impl Sortable for ViewRow {
 }
 
 /// What a view is sought by: its namespace's id and its name in it.
-#[derive(Clone, Copy, Debug)]
+#[derive(Clone, Copy)]
 pub struct ViewName<'a> {
     pub namespace: u64,
     pub name: &'a Name,

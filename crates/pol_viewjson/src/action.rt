@@ -8,7 +8,7 @@ use serde_json::Value;
 use std::alloc::Global;
 
 /// What an update changes of schemas and versions.
-#[derive(Clone, Copy, Debug, PartialEq, Eq)]
+#[derive(Clone, Copy, PartialEq, Eq)]
 pub(crate) enum VersionAction {
     AddSchema,
     AddViewVersion,
@@ -16,7 +16,7 @@ pub(crate) enum VersionAction {
 }
 
 /// The action of an update of a view: what it changes, and how.
-#[derive(Clone, Copy, Debug, PartialEq, Eq)]
+#[derive(Clone, Copy, PartialEq, Eq)]
 pub(crate) enum ViewAction {
     Versions(VersionAction),
     Texts(TextAction),

@@ -3,7 +3,7 @@ ghost use Rattle.std.proofs.Common.{rules};
 use pol_types::Exact;
 
 /// A version that became the current one, and when, in milliseconds since the Unix epoch.
-#[derive(Clone, Copy, Debug, PartialEq, Eq)]
+#[derive(Clone, Copy, PartialEq, Eq)]
 pub struct VersionLogEntry {
     pub timestamp_ms: u64,
     pub version_id: u32,

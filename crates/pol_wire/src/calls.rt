@@ -9,7 +9,7 @@ use std::marker::Model;
 /// The calls of an object whose faults are planned: a call whose number is listed fails. Calls are
 /// numbered from 1, and their count stands still at `u64::MAX`. The forms in memory keep one, also
 /// those of the crates above.
-#[derive(Debug, Drop)]
+#[derive(Drop)]
 pub struct Calls {
     failing: Vec<u64>,
     made: u64,

@@ -6,7 +6,7 @@ use std::marker::Model;
 
 /// An object's count of faults. It never falls, and stands still at `u64::MAX`. The
 /// adapters of the real world keep one, also those of the crates above.
-#[derive(Debug, Drop)]
+#[derive(Drop)]
 pub struct Faults {
     count: u64,
 }

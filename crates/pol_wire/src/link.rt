@@ -1,5 +1,5 @@
 /// The four ends of one connection: where its bytes come from and go to, and its clock and words.
-#[derive(Debug, Drop)]
+#[derive(Drop)]
 pub struct Link<S, K, C, W> {
     pub source: S,
     pub sink: K,

@@ -8,13 +8,13 @@ use pol_types::{Listed, OutOfMemory, Text};
 use std::alloc::Global;
 
 /// The words of a command line, without the program's name.
-#[derive(Debug, Drop)]
+#[derive(Drop)]
 pub struct Words {
     pub list: Listed<Text>,
 }
 
 /// What a line of words asks for.
-#[derive(Debug, Drop)]
+#[derive(Drop)]
 pub enum Plan {
     /// `exec --root-secret SECRET`: serves the link over a fresh catalogue whose root has this secret.
     ExecFresh { root_secret: Text },

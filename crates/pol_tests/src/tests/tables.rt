@@ -9,7 +9,7 @@ use std::alloc::{AllocError, Global};
 use std::test::Fail;
 
 /// A row under a label, of whose numbers there are two, so that labels often share one.
-#[derive(Clone, Debug, Drop, PartialEq, Eq)]
+#[derive(Clone, Drop, PartialEq, Eq)]
 struct Box {
     id: u64,
     label: u64,

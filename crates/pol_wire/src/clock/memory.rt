@@ -7,7 +7,7 @@ use std::marker::Model;
 
 /// A clock whose moments are listed. The last one stays, an empty list stands for moment 0, and a
 /// moment past [`LAST_MOMENT`] is cut to it.
-#[derive(Debug, Drop)]
+#[derive(Drop)]
 pub struct MemoryClock {
     moments: Vec<u64>,
     read: usize,

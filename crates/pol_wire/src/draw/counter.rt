@@ -8,7 +8,7 @@ use rand_core::{Rng, utils};
 use std::marker::Model;
 
 /// A generator that counts: 0, 1, 2 and so on, and 0 again after `u64::MAX`.
-#[derive(Debug, Drop)]
+#[derive(Drop)]
 pub(crate) struct Counter {
     next: u64,
 }

@@ -12,7 +12,7 @@ use std::marker::Model;
 
 /// A draw that counts: 0, 1, 2 and so on, and 0 again after `u64::MAX`. The calls whose numbers are
 /// listed fail.
-#[derive(Debug, Drop)]
+#[derive(Drop)]
 pub struct CountingDraw {
     counter: Counter,
     calls: Calls,

@@ -10,7 +10,7 @@ use std::marker::Model;
 
 /// A draw whose words are listed. The calls whose numbers are listed fail, and so does each call
 /// after the last word.
-#[derive(Debug, Drop)]
+#[derive(Drop)]
 pub struct MemoryDraw {
     words: Vec<u64>,
     drawn: usize,

@@ -11,7 +11,7 @@ use std::marker::Model;
 
 /// A sink of bytes in memory, which keeps all that it takes. The calls whose numbers are listed
 /// fail, and so does a call for which no memory is left.
-#[derive(Debug, Drop)]
+#[derive(Drop)]
 pub struct MemorySink {
     bytes: Vec<u8>,
     most: usize,

@@ -11,7 +11,7 @@ use std::marker::Model;
 
 /// A source of bytes in memory. It gives them in pieces: no call goes past a place where a piece
 /// ends. The calls whose numbers are listed fail.
-#[derive(Debug, Drop)]
+#[derive(Drop)]
 pub struct MemorySource {
     bytes: Vec<u8>,
     ends: Vec<usize>,

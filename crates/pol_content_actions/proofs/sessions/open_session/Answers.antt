@@ -14,7 +14,7 @@ returns c =
     let time_is = c.time_of-time.ensures in (
       none-refused s command scopes c.args.client_id.now c.args.secret.now principal judged.0 judged.1 c.in_ok-scopes_there.ensures.0 c.in_ok-sessions_open.ensures.0,
       ap (λ serial. Some (SessionOpened serial command.words.a command.words.b)) c.next_serial-serial.ensures,
-      c.from.ensures ∙ c.in_ok-vec.ensures.items
+      c.from.ensures ∙ c.in_ok-changes.ensures.items
           ∙ (λ i. Time c.time_of-time.result ∷ NextSerial (c.next_serial-serial.result + 1) ∷ c.in_ok-put.ensures i ∷ [])
           ∙ changes-made s command scopes principal c.next_serial-serial.result c.in_ok-scope.scope c.time_of-time.result c.next_serial-serial.ensures c.in_ok-scope.ensures time_is
           ∙ sym (changes-acting s command scopes c.args.client_id.now c.args.secret.now principal judged.0 judged.1 c.requires.sound),

@@ -41,7 +41,7 @@ impl Form for Action {
 }
 
 /// An update, of which a field is always the same word.
-#[derive(Debug, Drop)]
+#[derive(Drop)]
 pub struct Update {
     pub action: Action,
     pub snapshot: Ranged<1, 9_223_372_036_854_775_807>,
@@ -71,7 +71,7 @@ impl Form for Update {
 }
 
 /// A change with updates of the form `U`, whose name isn't empty.
-#[derive(Debug, Drop)]
+#[derive(Drop)]
 pub struct Change<U> {
     pub name: Text,
     pub properties: Option<Entries<Text>>,
