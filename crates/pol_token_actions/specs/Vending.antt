@@ -36,6 +36,11 @@ abbrev pub with_token : Rows → TokenRow → Rows
 with_token s row =
     record s { tokens = record s.tokens { tokens = s.tokens.tokens ++ row ∷ [] }; next_serial = s.next_serial + 1 }
 
+-- the storage token of a table that is there, which takes the first two words
+abbrev pub token_there : Asked → TableRow → ℕ → TokenRow
+token_there asked table principal =
+    token_with asked.state.now.rows asked.command.now asked.command.now.words.a asked.command.now.words.b (securable.Table table.id) table principal
+
 -- the storage token of a table that is there, for the caller's principal
 abbrev pub token_at : Rows → Command → TableRow → Option TokenRow
 token_at s command table =

@@ -1,12 +1,11 @@
 //! Storage tokens of new tables.
 ghost use Rattle.std.specs.Prelude.{◌≡◌, ◌≤◌, ◌^◌, false, IfOk, Some};
-ghost use Rattle.pol_content.specs.declared.change.Change.TheVariants.{PutTable, PutToken};
 ghost use Rattle.pol_rules.specs.Judged.{Acts, changes_to};
 ghost use Rattle.pol_state.specs.Sound.{IsSound};
 ghost use Rattle.pol_token_actions.specs.Vending.{create_delegated, token_made, with_both};
 ghost use Rattle.pol_table_actions.specs.Loading.{loaded_with};
 
-use crate::vending::token_with;
+use crate::vending::{token_with, twice};
 use pol_access::{Privilege, Securable};
 use pol_commands::CreateTable;
 use pol_content::{Change, TableRow};
@@ -24,8 +23,7 @@ use pol_table_actions::loading::loaded_with;
 use pol_token_rules::counts::tokens_open;
 use pol_token_rules::data::data_allowed_on_path;
 use pol_tokens::TokenRow;
-use pol_types::{Listed, OutOfMemory};
-use std::alloc::Global;
+use pol_types::{Listed, OutOfMemory, both};
 
 /// Creates a table, and issues a storage token of it.
 #[tactic(auto, using(pol_state::proofs::BoundsLemmas::next_id_bound, pol_state::proofs::BoundsLemmas::next_serial_bound), unfolding(pol_table_actions::specs::Creation::new_table, pol_rules::specs::Prologues::namespace_row_at))]
@@ -73,11 +71,26 @@ fn created(asked: &Asked<'_>, row: TableRow, principal: u64) -> Result<Acted, Ou
     ensures changes { IfOk result (λ acted. acted.changes ≡ changes_to asked.now
         (λ s. with_both s row (token_made asked.now row principal))) }
 {
-    let token = token_of(asked, &row, principal)?;
-    let kept = token.clone()?;
-    let answer = loaded_with(asked.alloc, &row, false, Some(token))?;
-    let changes = under_both(asked, row, kept)?;
-    Ok(Acted { answer, changes })
+    let (shown, kept) = tokens_of(asked, &row, principal)?;
+    Acted::of(
+        loaded_with(asked.alloc, &row, false, Some(shown)),
+        under_both(asked, row, kept),
+    )
+}
+
+/// The storage token of a new table, twice.
+fn tokens_of(
+    asked: &Asked<'_>,
+    row: &TableRow,
+    principal: u64,
+) -> Result<(TokenRow, TokenRow), OutOfMemory>
+    requires sound { IsSound asked.now.state.now.rows }
+    requires moment { asked.now.command.now.moment ≤ 2 ^ 62 }
+    ensures shown { IfOk result (λ tokens. tokens.0 ≡ token_made asked.now row.now principal) }
+    ensures kept { IfOk result (λ tokens. tokens.1 ≡ token_made asked.now row.now principal) }
+{
+    let token = token_of(asked, row, principal)?;
+    twice(token)
 }
 
 /// The storage token of a new table, which takes the last two words.
@@ -111,7 +124,7 @@ fn under_both(
     requires last { token.serial ≡ asked.now.state.now.rows.next_serial }
     ensures { IfOk result (λ changes. changes ≡ changes_to asked.now (λ s. with_both s row token)) }
 {
-    let (table, token) = puts(asked.alloc, row, token)?;
+    let (table, token) = both(put_table(asked.alloc, row), put_token(asked.alloc, token))?;
     Ok(Listed::from(vec![in asked.alloc;
         Change::Time(time_of(asked)),
         Change::NextId(asked.state.next_id() + 1),
@@ -119,17 +132,4 @@ fn under_both(
         table,
         token,
     ]?))
-}
-
-/// The puts of a table and of a storage token.
-fn puts(alloc: Global, row: TableRow, token: TokenRow) -> Result<(Change, Change), OutOfMemory>
-    ensures table { IfOk result (λ puts. puts.0 ≡ PutTable row) }
-    ensures token { IfOk result (λ puts. puts.1 ≡ PutToken token) }
-{
-    let table = put_table(alloc, row)?;
-    let Ok(token) = put_token(alloc, token) else {
-        drop(table);
-        return Err(OutOfMemory);
-    };
-    Ok((table, token))
 }

@@ -1,9 +1,9 @@
 //! Storage tokens of tables that are there.
-ghost use Rattle.std.specs.Prelude.{◌≡◌, ◌≤◌, ◌^◌, IfOk};
-ghost use Rattle.pol_access.specs.declared.securable.Securable.TheVariants.{Table};
+ghost use Rattle.std.specs.Prelude.{◌≡◌, ◌≤◌, ◌^◌, IfOk, Some};
 ghost use Rattle.pol_rules.specs.Judged.{Acts, changes_to};
 ghost use Rattle.pol_state.specs.Sound.{IsSound};
-ghost use Rattle.pol_token_actions.specs.Vending.{load_credentials, load_delegated, token_with, with_token};
+ghost use Rattle.pol_table_actions.specs.Loading.{loaded_with};
+ghost use Rattle.pol_token_actions.specs.Vending.{load_credentials, load_delegated, token_there, token_with, with_token};
 
 use pol_access::{Privilege, Securable};
 use pol_commands::Answer;
@@ -32,10 +32,29 @@ pub fn load_delegated(
 {
     let row = at_table_data(asked, Privilege::TableReadProperties, name, identifier)?;
     let principal = tokens_open(asked)?;
-    let token = token_of(asked, row, principal)?;
-    let changes = issuing(asked, token.clone()?)?;
-    let answer = loaded_with(asked.alloc, row, refs_only, Some(token))?;
-    Ok(Acted { answer, changes })
+    Ok(shown_with_token(asked, row, refs_only, principal)?)
+}
+
+/// A table is shown with a storage token, which takes the next serial.
+fn shown_with_token(
+    asked: &Asked<'_>,
+    row: &TableRow,
+    refs_only: bool,
+    principal: u64,
+) -> Result<Acted, OutOfMemory>
+    requires sound { IsSound asked.now.state.now.rows }
+    requires moment { asked.now.command.now.moment ≤ 2 ^ 62 }
+    requires within { asked.now.state.now.rows.next_serial ≤ 2 ^ 62 }
+    ensures answer { IfOk result (λ acted. acted.answer
+        ≡ loaded_with refs_only (Some (token_there asked.now row.now principal)) row.now) }
+    ensures changes { IfOk result (λ acted. acted.changes
+        ≡ changes_to asked.now (λ s. with_token s (token_there asked.now row.now principal))) }
+{
+    let (shown, kept) = twice(token_of(asked, row, principal)?)?;
+    Acted::of(
+        loaded_with(asked.alloc, row, refs_only, Some(shown)),
+        issuing(asked, kept),
+    )
 }
 
 /// Issues a storage token of a table.
@@ -51,8 +70,8 @@ pub fn load_credentials(
 {
     let row = at_table(asked, Privilege::TableReadData, name, identifier)?;
     let principal = tokens_open(asked)?;
-    let token = token_of(asked, row, principal)?;
-    let changes = issuing(asked, token.clone()?)?;
+    let (token, kept) = twice(token_of(asked, row, principal)?)?;
+    let changes = issuing(asked, kept)?;
     Ok(Acted {
         answer: Answer::CredentialsLoaded { token },
         changes,
@@ -63,9 +82,7 @@ pub fn load_credentials(
 fn token_of(asked: &Asked<'_>, row: &TableRow, principal: u64) -> Result<TokenRow, OutOfMemory>
     requires sound { IsSound asked.now.state.now.rows }
     requires moment { asked.now.command.now.moment ≤ 2 ^ 62 }
-    ensures { let s = asked.now.state.now.rows in let command = asked.now.command.now in
-        IfOk result (λ token. token
-        ≡ token_with s command command.words.a command.words.b (Table row.now.id) row.now principal) }
+    ensures { IfOk result (λ token. token ≡ token_there asked.now row.now principal) }
 {
     let words = asked.command.words;
     token_with(
@@ -100,6 +117,15 @@ pub(crate) fn token_with(
     };
     let write = may_write(asked, on)?;
     issue(row, principal, write, time_of(asked), words)
+}
+
+/// A storage token twice: one to be shown, and an equal one to be kept.
+pub(crate) fn twice(token: TokenRow) -> Result<(TokenRow, TokenRow), OutOfMemory>
+    ensures shown { IfOk result (λ tokens. tokens.0 ≡ token) }
+    ensures kept { IfOk result (λ tokens. tokens.1 ≡ token) }
+{
+    let kept = token.clone()?;
+    Ok((token, kept))
 }
 
 /// The put of a storage token, which takes the next serial.
