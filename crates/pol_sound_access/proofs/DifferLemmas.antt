@@ -1,17 +1,22 @@
 -- Keys that are seen one after the other, and differ.
 use Rattle.std.proofs.Common.{◌≡◌, Bool, true, false, not, List, [], ◌∷◌, ◌||◌, ◌++◌, map, refl, sym, subst, ap, ◌∙◌, true≢false}
 use Rattle.std.specs.Prelude.{Decides}
+use Rattle.std.specs.Cmp.{IsEquivalence}
 use Rattle.std.specs.Coded.{Coded}
 use Rattle.std.specs.List.{list_any, AllByRecursion, IsDistinct}
 use Rattle.std.proofs.lemmas.Bool.{or_from, or_parts}
 use Rattle.std.proofs.lemmas.Bool.Decides.{Decides-and}
 use Rattle.std.proofs.lemmas.List.{append-nil, append_assoc}
 use Rattle.std.proofs.lemmas.Map.Keys.{IsDistinct-head, IsDistinct-tail}
-use Rattle.pol_tables.specs.Facts.{facts_with, holds}
+use Rattle.indexmap.specs.IndexSet.{insert_key}
+use Rattle.pol_tables.specs.Facts.{holds}
 use Rattle.pol_tables.specs.Same.{same}
-use Rattle.pol_tables.proofs.FactsLemmas.{facts_with-new}
-use Rattle.pol_tables.proofs.SameLemmas.{same-symmetric}
+use Rattle.pol_tables.proofs.SameLemmas.{same-exact, same-symmetric}
 use Rattle.pol_sound_access.specs.Judged.{all_differ}
+
+pub untrue : (b : Bool) → not b ≡ true → b ≡ false
+untrue true is = sym is
+untrue false is = refl
 
 -- none passes a test exactly where each fails it
 pub none-decides : {X : Type 0} (test : X → Bool) (xs : List X) → Decides (not (list_any test xs)) (AllByRecursion (λ x. test x ≡ false) xs)
@@ -20,10 +25,6 @@ none-decides test (x ∷ xs) = (
   λ is. let parts = or_parts (test x) (list_any test xs) (untrue (test x || list_any test xs) is) in (parts.0, (none-decides test xs).0 (ap not parts.1)),
   λ all. ap not (or_from (test x) (list_any test xs) all.0 (untrue (list_any test xs) ((none-decides test xs).1 all.1))),
 )
-  where
-    untrue : (b : Bool) → not b ≡ true → b ≡ false
-    untrue true is = sym is
-    untrue false is = refl
 
 -- the test tells whether items differ
 pub differ-decides : {X : Type 0} (alike : X → X → Bool) (xs : List X) → Decides (all_differ alike xs) (IsDistinct alike xs)
@@ -60,6 +61,21 @@ each-of-key : {X : Type 0} (P : X → Type 0) (before : List X) (item : X) (afte
 each-of-key P [] item after all = all.0
 each-of-key P (first ∷ before) item after all = each-of-key P before item after all.1
 
+-- keys that a set tells apart by an exact test of equality
+module _ {K : Type 0} (code : Coded K) (equal : K → K → Bool) (exact : (x y : K) → equal x y ≡ true → x ≡ y) (laws : IsEquivalence equal) where
+  by_code : equal ≡ same code
+  by_code = same-exact code equal exact laws.refl
+
+  pub holds-keys : (key : K) (seen : List K) → list_any (equal key) seen ≡ holds code key seen
+  holds-keys key seen = ap (λ test. list_any (test key) seen) by_code
+
+  pub distinct-keys : (seen : List K) → IsDistinct equal seen → IsDistinct (same code) seen
+  distinct-keys seen differ = subst (λ test. IsDistinct test seen) by_code differ
+
+  -- a key that was not seen before goes last
+  pub insert-new : (key : K) (seen : List K) → list_any (equal key) seen ≡ false → insert_key equal seen key ≡ seen ++ key ∷ []
+  insert-new key seen new = rw new refl
+
 module _ {R K : Type 0} (code : Coded K) (told : R → K) where
   -- whether two rows have one key
   abbrev pub alike : R → R → Bool
@@ -87,14 +103,6 @@ module _ {R K : Type 0} (code : Coded K) (told : R → K) where
       held : (b : Bool) → false ≡ not b → b ≡ true
       held true is = refl
       held false is = is
-
-  -- a row's key that was not seen before is put
-  pub key-put : (row : R) (key : K) (seen kept after : List K) → key ≡ told row → kept ≡ seen → holds code key seen ≡ false → after ≡ facts_with code key kept → after ≡ seen ++ told row ∷ []
-  key-put row key seen kept after is same new put =
-      put
-      ∙ ap (facts_with code key) same
-      ∙ facts_with-new code key seen new
-      ∙ ap (λ one. seen ++ one ∷ []) is
 
   -- it is new, and seen then
   pub next-seen : (rows left rest : List R) (row : R) (seen after : List K) → seen ++ map told left ≡ map told rows → left ≡ row ∷ rest → after ≡ seen ++ told row ∷ [] → after ++ map told rest ≡ map told rows

@@ -1,10 +1,12 @@
 //! Rows of which no two have one key.
 ghost use Rattle.std.specs.Prelude.{◌≡◌, [], ◌∷◌, ◌++◌, not, true, IfOk};
 ghost use Rattle.pol_sound_access.specs.Judged.{all_differ};
+ghost use Rattle.indexmap.specs.IndexSet.{keys};
 ghost use Rattle.pol_tables.specs.Facts.{holds};
 ghost use Rattle.pol_tables.specs.Same.{same};
 
-use pol_tables::{Fact, Facts, Rows};
+use indexmap::IndexSet;
+use pol_tables::{Fact, Rows};
 use pol_tallies::FactRows;
 use pol_types::OutOfMemory;
 use std::alloc::Global;
@@ -26,13 +28,13 @@ pub fn keys_differ<R: Told<K>, K: Fact>(
     ensures { IfOk result (λ apart. apart
         ≡ all_differ (λ left right. same K.coded (R.told left) (R.told right)) rows.entry) }
 {
-    let mut seen = Facts::new(alloc);
+    let mut seen = IndexSet::new(alloc);
     for row in rows {
         if !is_new(alloc, row, &mut seen)? {
             return Ok(false);
         }
     }
-    let _seen = seen.facts();
+    let _seen = seen.len();
     Ok(true)
 }
 
@@ -44,13 +46,13 @@ pub(crate) fn fact_keys_differ<R: Told<K>, K: Fact>(
     ensures { IfOk result (λ apart. apart
         ≡ all_differ (λ left right. same K.coded (R.told left) (R.told right)) facts.entry) }
 {
-    let mut seen = Facts::new(alloc);
+    let mut seen = IndexSet::new(alloc);
     for fact in facts {
         if !is_new(alloc, fact, &mut seen)? {
             return Ok(false);
         }
     }
-    let _seen = seen.facts();
+    let _seen = seen.len();
     Ok(true)
 }
 
@@ -58,17 +60,11 @@ pub(crate) fn fact_keys_differ<R: Told<K>, K: Fact>(
 fn is_new<R: Told<K>, K: Fact>(
     alloc: Global,
     row: &R,
-    seen: &mut Facts<K>,
+    seen: &mut IndexSet<K>,
 ) -> Result<bool, OutOfMemory>
-    ensures test { IfOk result (λ new. new ≡ not (holds K.coded (R.told row.now) seen.old.facts)) }
-    ensures seen { IfOk result (λ new. new ≡ true
-        → seen.new.facts ≡ seen.old.facts ++ R.told row.now ∷ []) }
+    ensures test { IfOk result (λ new. new ≡ not (holds K.coded (R.told row.now) (keys seen.old))) }
+    ensures seen { IfOk result (λ new. new ≡ true → keys seen.new ≡ keys seen.old ++ R.told row.now ∷ []) }
 {
     let key = row.told(alloc)?;
-    if seen.contains(&key) {
-        return Ok(false);
-    }
-    seen.reserve(1)?;
-    seen.put(key);
-    Ok(true)
+    Ok(seen.insert(key)?)
 }

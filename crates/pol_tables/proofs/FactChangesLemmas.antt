@@ -56,18 +56,18 @@ module _ {T : Type 0} (code : Coded T) where
       elsewhere true apart = rw apart refl
       elsewhere false apart = refl
 
+  pub holds-pushed : (fact new : T) (held : List T) → holds code fact (held ++ new ∷ []) ≡ (same code fact new || holds code fact held)
+  holds-pushed fact new [] = refl
+  holds-pushed fact new (first ∷ held) = ap (λ later. same code fact first || later) (holds-pushed fact new held) ∙ or_swapped (same code fact first) (same code fact new) (holds code fact held)
+
   pub holds-facts_with : (fact new : T) (facts : List T) → holds code fact (facts_with code new facts) ≡ (same code fact new || holds code fact facts)
   holds-facts_with fact new facts = elim (cases_Bool (holds code new facts)) [
     | inl known ↦ rw (facts_with-known code new facts known) (elim (cases_Bool (same code fact new)) [
       | inl is ↦ rw is (ap (λ other. holds code other facts) (same-true code fact new is) ∙ known)
       | inr apart ↦ rw apart refl
     ])
-    | inr unknown ↦ rw (facts_with-new code new facts unknown) (pushed facts)
+    | inr unknown ↦ rw (facts_with-new code new facts unknown) (holds-pushed fact new facts)
   ]
-    where
-      pushed : (held : List T) → holds code fact (held ++ new ∷ []) ≡ (same code fact new || holds code fact held)
-      pushed [] = refl
-      pushed (first ∷ held) = ap (λ later. same code fact first || later) (pushed held) ∙ or_swapped (same code fact first) (same code fact new) (holds code fact held)
 
   pub holds-facts_without : (fact gone : T) (facts : List T) → holds code fact (facts_without code gone facts) ≡ (not (same code fact gone) && holds code fact facts)
   unfolding facts_without

@@ -49,6 +49,15 @@ module _ (entries : List (ℕ × IndexEntry)) (stand : StandByNumber entries) (u
   pub differ-firsts : IdsDiffer entry_number (values_of entries)
   differ-firsts = subst (λ numbers. IsDistinct nat_eq numbers) (numbered_from entries unique stand) unique
 
+  -- a map that finds the same has the same firsts
+  module _ (after : List (ℕ × IndexEntry)) (alike : (n : ℕ) → lookup (nat_eq n) after ≡ lookup (nat_eq n) entries) where
+    pub stand-alike : StandByNumber after
+    stand-alike n noted found = stand n noted (sym (alike n) ∙ found)
+
+    pub firsts-alike : Unique after → (n : ℕ) → row_of entry_number n (values_of after) ≡ row_of entry_number n (values_of entries)
+    firsts-alike unique_ n =
+        sym (found_by n after (numbered_from after unique_ stand-alike)) ∙ alike n ∙ lookup-firsts n
+
   module _ (after : List (ℕ × IndexEntry)) (number : ℕ) (put : Option IndexEntry) (updates : (n : ℕ) → lookup (nat_eq n) after ≡ cond (nat_eq number n) put (lookup (nat_eq n) entries)) where
     -- ids still stand by their numbers once one is put under its own, or none
     pub stand-after : ((noted : IndexEntry) → put ≡ Some noted → number ≡ noted.number) → StandByNumber after

@@ -1,17 +1,19 @@
 -- An index once an id is noted or forgotten.
-use Rattle.std.proofs.Common.{◌≡◌, ℕ, Bool, true, false, not, cond, ◌&&◌, ◌||◌, List, [], ◌∷◌, Option, Some, None, nat_eq, refl, sym, ap, subst, ◌∙◌, inl, inr, true≢false}
+use Rattle.std.proofs.Common.{◌≡◌, ℕ, Bool, true, false, not, cond, ◌&&◌, ◌||◌, List, [], ◌∷◌, ◌++◌, filter, Option, Some, None, nat_eq, refl, sym, ap, subst, ◌∙◌, inl, inr, true≢false}
 use Rattle.std.specs.Coded.{Coded}
-use Rattle.std.specs.List.{AllByRecursion}
+use Rattle.std.specs.List.{AllByRecursion, IsDistinct}
 use Rattle.std.specs.Cmp.{nat_eq_equiv}
+use Rattle.std.specs.Map.{keys_of, lookup, values_of}
 use Rattle.std.proofs.lemmas.Bool.{and_from, and_parts, cases_Bool, eq-eqb, eqb-true}
-use Rattle.pol_tables.specs.Facts.{holds, facts_with, facts_without}
-use Rattle.pol_tables.specs.Index.{entry_number, same_found, same_entry}
+use Rattle.pol_tables.specs.Facts.{holds, facts_without}
+use Rattle.pol_tables.specs.Index.{entry_number, same_found, same_entry, StandByNumber}
 use Rattle.pol_tables.specs.Same.{same}
 use Rattle.pol_tables.specs.Table.{has_id, row_of, IdsDiffer}
 use Rattle.pol_tables.specs.contracts.index.IndexEntry.{the_row}
 use Rattle.pol_tables.specs.declared.index.IndexEntry.{IndexEntry}
 use Rattle.pol_tables.proofs.ChangesLemmas.{holds-unknown}
-use Rattle.pol_tables.proofs.FactChangesLemmas.{holds-facts_with, holds-facts_without}
+use Rattle.pol_tables.proofs.FactChangesLemmas.{holds-facts_without, holds-pushed}
+use Rattle.pol_tables.proofs.FirstsLemmas.{differ-firsts, firsts-alike, stand-alike}
 use Rattle.pol_tables.proofs.ListLemmas.{and_false, or_false, or_swapped}
 use Rattle.pol_tables.proofs.SameLemmas.{same-true, same-differ, same-exact, same-symmetric}
 use Rattle.pol_tables.proofs.TableLemmas.{differ_head, differ_past, knows-lacks, lacks_past}
@@ -38,7 +40,7 @@ held_row code key row (first ∷ rows) differ held = elim (cases_Bool (same code
 ]
 
 -- two ids under numbers are the same where both numbers and both ids are
-abbrev equal_note : IndexEntry → IndexEntry → Bool
+abbrev pub equal_note : IndexEntry → IndexEntry → Bool
 equal_note left right = nat_eq left.number right.number && nat_eq left.id right.id
 
 equal_exact : (left right : IndexEntry) → equal_note left right ≡ true → left ≡ right
@@ -49,6 +51,12 @@ equal_exact left right same_ =
 pub same_entry-is : (left right : IndexEntry) → equal_note left right ≡ same_entry left right
 same_entry-is left right =
     ap (λ test. test left right) (same-exact the_row.coded equal_note equal_exact (λ noted. and_from (nat_eq noted.number noted.number) (nat_eq noted.id noted.id) (eq-eqb noted.number noted.number refl) (eq-eqb noted.id noted.id refl)))
+
+-- the others without an id
+pub others-without : (noted : IndexEntry) (others : List IndexEntry) → filter (λ other. not (equal_note noted other)) others ≡ facts_without the_row.coded noted others
+unfolding facts_without
+others-without noted others =
+    ap (λ (test : IndexEntry → Bool). filter (λ other. not (test other)) others) (λ i other. same_entry-is noted other i)
 
 pub same_entry-apart : (left right : IndexEntry) → (left.id ≡ right.id → ⊥) → same_entry left right ≡ false
 same_entry-apart left right differ = same-differ the_row.coded left right (λ is. differ (ap (λ noted. noted.id) is))
@@ -75,6 +83,20 @@ held-first noted (first ∷ firsts) differ = elim (cases_Bool (has_id entry_numb
   | inr apart ↦
       rw apart (ap (λ b. b || held noted firsts) (same_entry-numbers noted first apart) ∙ held-first noted firsts (differ_past entry_number first firsts differ))
 ]
+
+-- firsts that are found alike hold the same ids
+held-alike : (firsts after : List IndexEntry) → IdsDiffer entry_number firsts → IdsDiffer entry_number after → ((number : ℕ) → row_of entry_number number after ≡ row_of entry_number number firsts) → (other : IndexEntry) → held other after ≡ held other firsts
+held-alike firsts after differ differ_after alike other =
+    held-first other after differ_after ∙ ap (same_found other) (alike other.number) ∙ sym (held-first other firsts differ)
+
+-- an index whose map finds the same has noted the same
+pub noted-alike : (entries after : List (ℕ × IndexEntry)) → StandByNumber entries → IsDistinct nat_eq (keys_of entries) → IsDistinct nat_eq (keys_of after)
+    → ((number : ℕ) → lookup (nat_eq number) after ≡ lookup (nat_eq number) entries)
+    → (others later : List IndexEntry) → later ≡ others
+    → (other : IndexEntry) → (held other (values_of after) || held other later) ≡ (held other (values_of entries) || held other others)
+noted-alike entries after stand unique unique_ alike others later same other =
+    let differ_ = differ-firsts after (stand-alike entries stand unique after alike) unique_ in
+    λ i. held-alike (values_of entries) (values_of after) (differ-firsts entries stand unique) differ_ (firsts-alike entries stand unique after alike unique_) other i || held other (same i)
 
 module _ (noted : IndexEntry) (firsts after others : List IndexEntry) (differ : IdsDiffer entry_number firsts) (differ_after : IdsDiffer entry_number after) where
   -- what is the first of a number once that of the noted id's is another, or none
@@ -126,9 +148,9 @@ module _ (noted : IndexEntry) (firsts after others : List IndexEntry) (differ : 
       ∙ both_without (same_entry other noted) (held other firsts) (held other others)
 
 module _ (noted : IndexEntry) (firsts others : List IndexEntry) where
-  pub noted-other : (other : IndexEntry) → (held other firsts || held other (facts_with the_row.coded noted others)) ≡ (same_entry other noted || (held other firsts || held other others))
+  pub noted-other : (other : IndexEntry) → (held other firsts || held other (others ++ noted ∷ [])) ≡ (same_entry other noted || (held other firsts || held other others))
   noted-other other =
-      ap (λ b. held other firsts || b) (holds-facts_with the_row.coded other noted others)
+      ap (λ b. held other firsts || b) (holds-pushed the_row.coded other noted others)
       ∙ or_swapped (held other firsts) (same_entry other noted) (held other others)
 
   module _ (differ : IdsDiffer entry_number firsts) (unfound : same_found noted (row_of entry_number noted.number firsts) ≡ false) where

@@ -5,10 +5,10 @@ ghost use Rattle.pol_tables.specs.Index.{IndexValue, is_first, is_noted, entry_n
 ghost use Rattle.pol_tables.specs.Table.{row_of, IdsDiffer};
 ghost use Rattle.pol_tables.specs.declared.index.IndexEntry.{IndexEntry};
 
-use crate::{Fact, Facts};
-use indexmap::IndexMap;
+use crate::Fact;
 use pol_types::{Exact, OutOfMemory};
 use std::alloc::{AllocError, Global};
+use std::collections::HashMap;
 use std::marker::Model;
 
 /// An id under the number of a name.
@@ -36,21 +36,21 @@ impl Fact for IndexEntry {
 /// memory.
 #[derive(Drop)]
 pub struct Index {
-    firsts: IndexMap<u64, IndexEntry>,
-    others: Facts<IndexEntry>,
+    firsts: HashMap<u64, IndexEntry>,
+    others: Vec<IndexEntry>,
 }
 
 impl Model for Index {
-    ghost use Rattle.std.specs.Prelude.{min, nat_eq};
-    ghost use Rattle.indexmap.specs.IndexMap.{values, spare, IsUnique};
+    ghost use Rattle.std.specs.Prelude.{◌-◌, min, nat_eq, vec_capacity, vec_len};
+    ghost use Rattle.std.specs.HashMap.{values, spare, IsUnique};
     ghost use Rattle.pol_tables.specs.Index.{IndexValue, StandByNumber};
 
     ghost Value = { IndexValue };
 
     ghost view = { λ index. record {
       firsts = values index.firsts;
-      others = index.others.facts;
-      room = min (spare index.firsts) index.others.room;
+      others = index.others.items;
+      room = min (spare index.firsts) (vec_capacity index.others - vec_len index.others);
     } };
 
     ghost invariant = { λ index. StandByNumber index.firsts.entries × IsUnique nat_eq index.firsts };
@@ -63,8 +63,8 @@ impl Index {
         ensures others { result.others ≡ [] }
     {
         Index {
-            firsts: IndexMap::new(alloc),
-            others: Facts::new(alloc),
+            firsts: HashMap::new(alloc),
+            others: Vec::new(alloc),
         }
     }
 
@@ -80,20 +80,19 @@ impl Index {
     pub fn others(&self) -> &[IndexEntry]
         ensures { result.now ≡ self.now.others }
     {
-        self.others.facts().as_slice()
+        self.others.as_slice()
     }
 
     /// Makes room for `more` ids, so that noting as many takes no memory. On an error the ids stay, and the room does
     /// not shrink.
     pub fn reserve(&mut self, more: usize) -> Result<(), OutOfMemory>
-        ensures firsts { self.new.firsts ≡ self.old.firsts }
-        ensures others { self.new.others ≡ self.old.others }
+        ensures noted { (other : IndexEntry) → is_noted other self.new ≡ is_noted other self.old }
         ensures reserved { OnOk result (more ≤ self.new.room) }
         ensures succeeds { more ≤ self.old.room → IsOk result }
         ensures room { self.old.room ≤ self.new.room }
     {
         self.firsts.reserve(more)?;
-        self.others.reserve(more)
+        Ok(self.others.reserve(more)?)
     }
 
     /// Notes an id under a number, and takes no memory.
@@ -104,9 +103,10 @@ impl Index {
         ensures room { self.old.room ≤ self.new.room + 1 }
     {
         if self.firsts.contains_key(&noted.number) {
-            self.others.put(noted);
+            self.others.push(noted).unwrap();
         } else {
-            self.firsts.insert(noted.number, noted).unwrap();
+            let put: Result<_, _> = self.firsts.insert(noted.number, noted);
+            put.unwrap();
         }
     }
 
@@ -116,9 +116,9 @@ impl Index {
             ≡ (not (same_entry other noted.now) && is_noted other self.old) }
         ensures room { self.old.room ≤ self.new.room }
     {
-        self.others.take(noted);
+        self.others.retain(|other| noted != other);
         if self.has_first(noted) {
-            self.firsts.swap_remove(&noted.number);
+            self.firsts.remove(&noted.number);
         }
     }
 

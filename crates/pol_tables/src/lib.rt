@@ -2,7 +2,6 @@
 #![tactic(auto)]
 
 mod fact;
-mod facts;
 mod index;
 mod keyed;
 pub mod laws;
@@ -15,7 +14,6 @@ mod slot;
 mod table;
 
 pub use fact::Fact;
-pub use facts::Facts;
 pub use index::{Index, IndexEntry};
 pub use keyed::Keyed;
 pub use named::{NameOf, Named};

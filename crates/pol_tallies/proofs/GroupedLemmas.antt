@@ -101,9 +101,9 @@ module _ {R : Type 0} (groups : R → List ℕ) (most : ℕ) where
       omega (arith, rest, first, here, whole, longer)
 
   -- counts that are alike serve alike
-  pub tallied_alike : (rows : List R) (tally later : TallyValue) → later.counts ≡ tally.counts → AreTallied groups most tally rows → AreTallied groups most later rows
-  tallied_alike rows tally later same tallied = record {
-    counts = λ group. ap (λ (counts : List (ℕ × ℕ)). unwrap_or (lookup (nat_eq group) counts) 0) same ∙ tallied.counts group;
+  pub tallied_alike : (rows : List R) (tally later : TallyValue) → ((group : ℕ) → count_of group later ≡ count_of group tally) → AreTallied groups most tally rows → AreTallied groups most later rows
+  tallied_alike rows tally later alike tallied = record {
+    counts = λ group. alike group ∙ tallied.counts group;
     few = tallied.few;
   }
 

@@ -154,7 +154,7 @@ impl<R: Named + Grouped> Clone for GroupedTable<R> {
 
 /// Makes room for the groups of `more` rows.
 fn reserve_groups<R: Grouped>(tally: &mut Tally, more: usize) -> Result<(), OutOfMemory>
-    ensures counts { tally.new.counts ≡ tally.old.counts }
+    ensures counts { (group : ℕ) → count_of group tally.new ≡ count_of group tally.old }
     ensures reserved { OnOk result (more * R.MOST ≤ tally.new.room) }
     ensures room { tally.old.room ≤ tally.new.room }
 {

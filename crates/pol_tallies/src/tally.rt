@@ -1,20 +1,20 @@
 ghost use Rattle.std.specs.Prelude.{◌≡◌, ◌<◌, ◌≤◌, ◌+◌, ◌-◌, ◌^◌, ℕ, nat_eq, if◌then◌else◌, IsOk, OnOk};
 ghost use Rattle.pol_tallies.specs.Tally.{count_of};
 
-use indexmap::IndexMap;
 use pol_types::OutOfMemory;
 use std::alloc::{AllocError, Global};
+use std::collections::HashMap;
 use std::marker::Model;
 
 /// How often each number was noted, less how often it was forgotten. Contracts see the counts, and the room: how many
 /// more times a number can be noted without taking memory.
 #[derive(Drop)]
 pub struct Tally {
-    counts: IndexMap<u64, u128>,
+    counts: HashMap<u64, u128>,
 }
 
 impl Model for Tally {
-    ghost use Rattle.indexmap.specs.IndexMap.{spare};
+    ghost use Rattle.std.specs.HashMap.{spare};
     ghost use Rattle.pol_tallies.specs.Tally.{TallyValue};
 
     ghost Value = { TallyValue };
@@ -28,7 +28,7 @@ impl Tally {
         ensures { (number : ℕ) → count_of number result ≡ 0 }
     {
         Tally {
-            counts: IndexMap::new(alloc),
+            counts: HashMap::new(alloc),
         }
     }
 
@@ -45,7 +45,7 @@ impl Tally {
     /// Makes room for noting a number `more` times, so that it takes no memory. On an error the counts stay, and the
     /// room does not shrink.
     pub fn reserve(&mut self, more: usize) -> Result<(), OutOfMemory>
-        ensures counts { self.new.counts ≡ self.old.counts }
+        ensures counts { (number : ℕ) → count_of number self.new ≡ count_of number self.old }
         ensures reserved { OnOk result (more ≤ self.new.room) }
         ensures succeeds { more ≤ self.old.room → IsOk result }
         ensures room { self.old.room ≤ self.new.room }
@@ -62,7 +62,8 @@ impl Tally {
         ensures room { self.old.room ≤ self.new.room + 1 }
     {
         let count = self.count(number);
-        self.counts.insert(number, count + 1).unwrap();
+        let put: Result<_, _> = self.counts.insert(number, count + 1);
+        put.unwrap();
     }
 
     /// Forgets a number once, where it is noted.
@@ -72,7 +73,7 @@ impl Tally {
         ensures room { self.old.room ≤ self.new.room }
     {
         if self.count(number) <= 1 {
-            self.counts.swap_remove(&number);
+            self.counts.remove(&number);
         } else if let Some(count) = self.counts.get_mut(&number) {
             *count -= 1;
         }

@@ -1,7 +1,16 @@
-use Rattle.std.proofs.Common.{sym, ◌∙◌}
-use Rattle.pol_sound_access.proofs.DifferLemmas.{key-put}
+use Rattle.std.proofs.Common.{not, ap, sym, ◌++◌, ◌∷◌, [], ◌∙◌}
+use Rattle.pol_tables.specs.Facts.{holds}
+use Rattle.pol_sound_access.proofs.DifferLemmas.{holds-keys, insert-new, untrue}
 use Rattle.pol_sound_access.proofs.differ.is_new.Goals as goal
 
+pub returns-clause-test : goal.returns-clause-test
+returns-clause-test g c =
+    c.in_ok-insert.ensures.added
+    ∙ ap not (holds-keys g.K.Fact.coded _ g.met.K.Exact.compares_exactly g.met.K.Eq.laws c.in_ok-key.key c.args.seen.now.keys)
+    ∙ ap (λ key. not (holds g.K.Fact.coded key c.args.seen.now.keys)) c.in_ok-key.ensures
+
 pub returns-clause-seen : goal.returns-clause-seen
-returns-clause-seen g c = λ new.
-    key-put g.K.Fact.coded g.R.Told.told c.args.row.now c.in_ok-key.key c.args.seen.now.facts c.reserve.new.self.facts c.put.new.self.facts c.in_ok-key.ensures c.in_ok-reserve.ensures.facts (sym c.contains.ensures ∙ c.if-contains.false) c.put.ensures.facts
+returns-clause-seen g c new =
+    c.in_ok-insert.ensures.keys
+    ∙ insert-new g.K.Fact.coded _ g.met.K.Exact.compares_exactly g.met.K.Eq.laws c.in_ok-key.key c.args.seen.now.keys (untrue _ (sym c.in_ok-insert.ensures.added ∙ new))
+    ∙ ap (λ key. c.args.seen.now.keys ++ key ∷ []) c.in_ok-key.ensures

@@ -1,14 +1,14 @@
-use Rattle.pol_sound_access.proofs.DifferLemmas.{all-seen, next-again, next-seen}
+use Rattle.pol_sound_access.proofs.DifferLemmas.{all-seen, distinct-keys, next-again, next-seen}
 use Rattle.pol_sound_access.proofs.differ.keys_differ.Goals as goal
 
 pub returns-then-not-branch : goal.returns-then-not-branch
 returns-then-not-branch g c =
-    next-again g.K.Fact.coded g.R.Told.told c.args.rows c.loop-row.row-iterator c.next.new.self c.in-Some.row.now c.loop-row.seen.facts c.in_ok-is_new.field-0 c.loop-row.invariant c.in-Some.ensures.steps c.in_ok-is_new.ensures.test c.if-not-branch.true
+    next-again g.K.Fact.coded g.R.Told.told c.args.rows c.loop-row.row-iterator c.next.new.self c.in-Some.row.now c.loop-row.seen.keys c.in_ok-is_new.field-0 c.loop-row.invariant c.in-Some.ensures.steps c.in_ok-is_new.ensures.test c.if-not-branch.true
 
 pub loop-row-preserved : goal.loop-row-preserved
 loop-row-preserved g c =
-    next-seen g.K.Fact.coded g.R.Told.told c.args.rows c.loop-row.row-iterator c.next.new.self c.in-Some.row.now c.loop-row.seen.facts c.is_new.new.seen.facts c.loop-row.invariant c.in-Some.ensures.steps (c.in_ok-is_new.ensures.seen c.if-not-branch.false)
+    next-seen g.K.Fact.coded g.R.Told.told c.args.rows c.loop-row.row-iterator c.next.new.self c.in-Some.row.now c.loop-row.seen.keys c.is_new.new.seen.keys c.loop-row.invariant c.in-Some.ensures.steps (c.in_ok-is_new.ensures.seen c.if-not-branch.false)
 
 pub returns : goal.returns
 returns g c =
-    all-seen g.K.Fact.coded g.R.Told.told c.args.rows c.loop-row.row-iterator c.loop-row.seen.facts c.loop-row.invariant c.in-None.ensures.steps.0 c.facts-seen.ensures.differ
+    all-seen g.K.Fact.coded g.R.Told.told c.args.rows c.loop-row.row-iterator c.loop-row.seen.keys c.loop-row.invariant c.in-None.ensures.steps.0 (distinct-keys g.K.Fact.coded _ g.met.K.Exact.compares_exactly g.met.K.Eq.laws _ c.len-seen.ensures.unique)

@@ -14,18 +14,18 @@ is_none (Some found) no_ = absurd (true≢false no_)
 pub returns-then-contains_key-clause-noted : goal.returns-then-contains_key-clause-noted
 returns-then-contains_key-clause-noted c other =
     let firsts = values_of c.self.inside.firsts.entries in
-    rw (← c.self.view_is) (ap (λ others. holds the_row.coded other firsts || holds the_row.coded other others) c.put.ensures.facts ∙ noted-other c.args.noted firsts c.self.inside.others.facts other)
+    rw (← c.self.view_is) (ap (λ others. holds the_row.coded other firsts || holds the_row.coded other others) (rw c.unwrap.ensures at c.push.ensures.items) ∙ noted-other c.args.noted firsts c.self.inside.others.items other)
 
 pub returns-else-contains_key-clause-noted : goal.returns-else-contains_key-clause-noted
 returns-else-contains_key-clause-noted c other =
     let noted = c.args.noted in
     let entries = c.self.inside.firsts.entries in
-    let after = c.insert.new.self.entries in
+    let after = c.insert-put.new.self.entries in
     let stand = c.self.invariant.0 in
     let unique = c.self.invariant.1 in
-    let updates = (rw c.unwrap.ensures at c.insert.ensures.updates).0 in
+    let updates = (rw c.unwrap-else-contains_key.ensures at c.insert-put.ensures.updates).0 in
     let none = sym (lookup-firsts entries stand unique noted.number) ∙ is_none _ (sym c.contains_key.ensures ∙ c.if-contains_key.false) in
     let stand_ = stand-after entries stand unique after noted.number (Some noted) updates (λ put is. ap (λ kept. kept.number) (some_is noted put is)) in
     let differ = differ-firsts entries stand unique in
-    let differ_ = differ-firsts after stand_ c.insert.ensures.unique in
-    rw (← c.self.view_is) (noted-first noted (values_of entries) (values_of after) c.self.inside.others.facts differ differ_ none (firsts-after entries stand unique after noted.number (Some noted) updates stand_ c.insert.ensures.unique) other)
+    let differ_ = differ-firsts after stand_ c.insert-put.ensures.unique in
+    rw (← c.self.view_is) (noted-first noted (values_of entries) (values_of after) c.self.inside.others.items differ differ_ none (firsts-after entries stand unique after noted.number (Some noted) updates stand_ c.insert-put.ensures.unique) other)
